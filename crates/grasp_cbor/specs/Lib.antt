@@ -1,4 +1,10 @@
 pub mod DataItem
 pub mod DataItemCode
+pub mod Encodable
+pub mod Encodes
+pub mod Extends
+pub mod Head
 pub mod Item
+pub mod Laws
+pub mod Shortest
 pub mod Simple

@@ -8,8 +8,10 @@ mod memory;
 mod scalars;
 mod strings;
 mod tree;
+mod write;
 
 pub use memory::OutOfMemory;
 pub use scalars::{FloatBits, SimpleValue};
 pub use strings::{Chars, Octets};
 pub use tree::{Item, Items, Pairs};
+pub use write::{shortest_encodes, write_item};
