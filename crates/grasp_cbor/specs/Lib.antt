@@ -1,3 +1,5 @@
+pub mod Build
+pub mod Built
 pub mod DataItem
 pub mod DataItemCode
 pub mod Encodable
@@ -6,5 +8,6 @@ pub mod Extends
 pub mod Head
 pub mod Item
 pub mod Laws
+pub mod Major
 pub mod Shortest
 pub mod Simple

@@ -4,12 +4,15 @@
 //! and keys may repeat.
 #![tactic(auto)]
 
+mod build;
+mod heads;
 mod memory;
 mod scalars;
 mod strings;
 mod tree;
 mod write;
 
+pub use build::encodings_are_apart;
 pub use memory::OutOfMemory;
 pub use scalars::{FloatBits, SimpleValue};
 pub use strings::{Chars, Octets};
