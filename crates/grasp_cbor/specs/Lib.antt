@@ -9,5 +9,6 @@ pub mod Head
 pub mod Item
 pub mod Laws
 pub mod Major
+pub mod Plain
 pub mod Shortest
 pub mod Simple

@@ -7,6 +7,7 @@
 mod build;
 mod heads;
 mod memory;
+mod plain;
 mod scalars;
 mod strings;
 mod tree;
@@ -14,6 +15,7 @@ mod write;
 
 pub use build::encodings_are_apart;
 pub use memory::OutOfMemory;
+pub use plain::read_plain;
 pub use scalars::{FloatBits, SimpleValue};
 pub use strings::{Chars, Octets};
 pub use tree::{Item, Items, Pairs};
