@@ -214,7 +214,7 @@ pub(crate) fn read_text(n: u64, bytes: &[u8]) -> Result<(&str, &[u8]), BuildErro
     }
 }
 
-#[tactic(auto, using(crate::proofs::Utf8::tests))]
+#[tactic(auto, using(crate::proofs::Utf8Test::tests))]
 fn as_text(bytes: &[u8]) -> Option<&str>
     ensures { option_map (λ s. s.now) result ≡ (if is_utf8 bytes.now then Some bytes.now else None) }
 {

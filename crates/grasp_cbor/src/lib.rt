@@ -11,6 +11,8 @@ mod plain;
 mod scalars;
 mod strings;
 mod tree;
+mod utf8;
+mod walker;
 mod write;
 
 pub use build::encodings_are_apart;
@@ -19,4 +21,5 @@ pub use plain::read_plain;
 pub use scalars::{FloatBits, SimpleValue};
 pub use strings::{Chars, Octets};
 pub use tree::{Item, Items, Pairs};
+pub use walker::{FaultName, Taken, Walk, WalkFault};
 pub use write::{shortest_encodes, write_item};

@@ -1,0 +1,34 @@
+-- Which bytes are an item, and which can go on to one.
+use Rattle.std.specs.Prelude.{ℕ, ◌<◌, ◌≤◌, List, [], ◌∷◌, ◌++◌}
+use Rattle.grasp_cbor.specs.DataItem.{DataItem, depth_of}
+use Rattle.grasp_cbor.specs.Encodes.{IsEncoding}
+
+-- the bytes are an encoding of some item that nests so deep at most
+pub record IsItem (depth : ℕ) (s : List ℕ) : Type 0 where
+  pub item : DataItem
+  pub encoding : IsEncoding item s
+  pub within : depth_of item ≤ depth
+
+-- each is a byte
+abbrev pub AllBytes : List ℕ → Type 0
+AllBytes [] = Unit {0}
+AllBytes (b ∷ bs) = (b < 256) × AllBytes bs
+
+-- some bytes that aren't empty complete these to an item that nests so deep at most
+abbrev pub CanGoOnWithin : ℕ → List ℕ → Type 0
+CanGoOnWithin depth s = (next : ℕ) × (more : List ℕ) × IsItem depth (s ++ next ∷ more) × AllBytes (next ∷ more)
+
+-- some bytes that aren't empty complete these to an item: a beginning of well-formed data that isn't whole
+-- (RFC 8949, section 5.3.1)
+abbrev pub CanGoOn : List ℕ → Type 0
+CanGoOn s = CanGoOnWithin 16 s
+
+-- each is an item that nests so deep at most
+abbrev pub AreItems : ℕ → List (List ℕ) → Type 0
+AreItems depth [] = Unit {0}
+AreItems depth (w ∷ ws) = IsItem depth w × AreItems depth ws
+
+-- one after another
+abbrev pub joined : List (List ℕ) → List ℕ
+joined [] = []
+joined (w ∷ ws) = w ++ joined ws
