@@ -12,13 +12,14 @@ use Rattle.grasp_cbor.specs.declared.walker.Stage.{Stage}
 use Rattle.grasp_cbor.specs.declared.walker.Stage.TheVariants.{Beginning, Heading, InBytes, InText}
 use Rattle.grasp_cbor.specs.CanGoOn.{AllBytes, IsItem, CanGoOnWithin}
 use Rattle.grasp_cbor.specs.Utf8.{ready, owed_of, owes_within, can_end}
-use Rattle.grasp_cbor.specs.Front.{body_of, HasRoom, Spot, after_simple, in_text, elsewhere, IsCutHead, IsCut, at_start, at_simple, at_head, at_bytes, at_text, Front}
+use Rattle.grasp_cbor.specs.Front.{body_of, HasRoom, Spot, after_simple, in_text, elsewhere, IsCutHead, IsCut, at_start, at_simple, at_head, at_bytes, at_text, Front, IsNamed}
 use Rattle.grasp_cbor.specs.Step.{Move, goes, whole, bad, is_simple, step, name_of}
 use Rattle.grasp_cbor.specs.Stands.{info_of, argument_width, is_one, number_from, IsHeading, IsInText, At, StandsAt}
 use Rattle.grasp_cbor.proofs.HeadBytes.{zeros, tail_of, head_is, number_is, tail_bytes, length-tail_of, AllBytes-front, AllBytes-append}
 use Rattle.grasp_cbor.proofs.Text.{can_end-from, can_end-means}
 use Rattle.grasp_cbor.proofs.Fronts.{front-open}
-use Rattle.grasp_cbor.proofs.Named.{room_at}
+use Rattle.grasp_cbor.proofs.Named.{room_at, unnamed_after}
+use Rattle.grasp_cbor.proofs.Naming.{named_is, named_from}
 use Rattle.grasp_cbor.proofs.Moves.{After, moves, nothing_got, info_wide}
 
 -- ---- to fronts
@@ -194,3 +195,13 @@ pub next-byte : (s : List ℕ) (spot : Spot) (byte : ℕ) → Front s spot → b
 next-byte s spot byte f l e =
     let g = front-stands s spot f in
     goes_on s spot byte (step g.lefts g.stage byte) (moves g.lefts g.stage s spot byte g.at l) e
+
+by_name : (s : List ℕ) (spot : Spot) (byte : ℕ) (r : Option FaultName) → Front s spot → byte < 256 → name_of spot byte ≡ r → (CanGoOnWithin 16 (s ++ byte ∷ []) ⊎ IsItem 16 (s ++ byte ∷ [])) ⊎ ((name : FaultName) × IsNamed spot byte name)
+by_name s spot byte None f l e = inl (next-byte s spot byte f l e)
+by_name s spot byte (Some name) f l e = inr (name, named_is spot byte name e)
+
+pub taken_or_named : (s : List ℕ) (spot : Spot) (byte : ℕ) → Front s spot → byte < 256 → (CanGoOnWithin 16 (s ++ byte ∷ []) ⊎ IsItem 16 (s ++ byte ∷ [])) ⊎ ((name : FaultName) × IsNamed spot byte name)
+taken_or_named s spot byte f l = by_name s spot byte (name_of spot byte) f l refl
+
+pub taken_unnamed : (s : List ℕ) (spot : Spot) (byte : ℕ) (name : FaultName) → Front s spot → CanGoOnWithin 16 (s ++ byte ∷ []) ⊎ IsItem 16 (s ++ byte ∷ []) → ¬ IsNamed spot byte name
+taken_unnamed s spot byte name f t h = some_none name (sym (named_from spot byte name h) ∙ unnamed_after s spot byte f t)

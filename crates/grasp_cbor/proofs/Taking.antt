@@ -1,5 +1,6 @@
 -- The walker's answers, from its steps.
-use Rattle.std.proofs.Common.{◌≡◌, ℕ, ◌<◌, List, [], ◌∷◌, ◌++◌, length, Some, None, refl, sym, subst, ◌∙◌, arith}
+use Rattle.std.proofs.Common.{◌≡◌, ℕ, ◌<◌, List, [], ◌∷◌, ◌++◌, length, take, get_or, Some, refl, sym, ap, subst, ◌∙◌, arith}
+use Rattle.std.proofs.lemmas.List.{length_push, take_at, get_or_at}
 use Rattle.grasp_cbor.specs.declared.walker.FaultName.{FaultName}
 use Rattle.grasp_cbor.specs.declared.walker.Stage.{Stage}
 use Rattle.grasp_cbor.specs.declared.walker.Stage.TheVariants.{Beginning}
@@ -9,10 +10,10 @@ use Rattle.grasp_cbor.specs.Front.{Spot, starts, Front}
 use Rattle.grasp_cbor.specs.Step.{Move, goes, whole, bad, step, lefts_in, name_of}
 use Rattle.grasp_cbor.specs.Stands.{StandsAt}
 use Rattle.grasp_cbor.specs.Walking.{lefts_of, Took}
-use Rattle.grasp_cbor.specs.Faulty.{IsFault}
+use Rattle.grasp_cbor.specs.FaultAt.{FaultAt}
+use Rattle.grasp_cbor.proofs.Cases.{made_fault}
 use Rattle.grasp_cbor.proofs.Fronts.{front-open}
 use Rattle.grasp_cbor.proofs.Moves.{After, moves}
-use Rattle.grasp_cbor.proofs.Named.{unnamed_after}
 use Rattle.grasp_cbor.proofs.Standings.{stands-front}
 
 pub fresh : (lefts : List ℕ) (d : ℕ) (stage : Stage) → d ≡ 0 → stage ≡ Beginning → StandsAt (lefts_in d lefts) stage [] (starts 0)
@@ -42,11 +43,20 @@ took_more w new s h e q t l = record { spot = h.spot; at = subst (λ x. StandsAt
 pub is_whole : (w : Walk) (s : List ℕ) (byte : ℕ) → Took w s → byte < 256 → step (lefts_of w) w.stage byte ≡ whole → IsItem 16 (s ++ byte ∷ [])
 is_whole w s byte t l e = after_step w s byte whole t l e
 
-some_none : (name : FaultName) → Some name ≡ None → ⊥
-some_none name e = cc
+-- a byte at the end
+at_end : (s : List ℕ) (byte : ℕ) → (take (length s) (s ++ byte ∷ []) ≡ s) × (get_or (s ++ byte ∷ []) (length s) 0 ≡ byte)
+at_end s byte = (take_at s (byte ∷ []) (length s) refl, get_or_at s byte [] 0 (length s) refl)
 
-pub is_fault : (w : Walk) (s : List ℕ) (byte : ℕ) (name : FaultName) (at : ℕ) → Took w s → byte < 256 → step (lefts_of w) w.stage byte ≡ bad name → at ≡ w.taken → IsFault s byte name at
+pub fault_here : (s : List ℕ) (byte : ℕ) (name : FaultName) (spot : Spot) → Front s spot → name_of spot byte ≡ Some name → FaultAt (s ++ byte ∷ []) (length s) name
+fault_here s byte name spot f n =
+    let e = at_end s byte in
+    made_fault (s ++ byte ∷ []) (length s) name spot (omega (arith, length_push s byte))
+    (subst (λ x. CanGoOnWithin 16 x) (sym e.0) (front-open s spot f))
+    (subst (λ x. Front x spot) (sym e.0) f)
+    (ap (λ b. name_of spot b) e.1 ∙ n)
+
+pub is_fault : (w : Walk) (s : List ℕ) (byte : ℕ) (name : FaultName) (at : ℕ) → Took w s → byte < 256 → step (lefts_of w) w.stage byte ≡ bad name → at ≡ w.taken → FaultAt (s ++ byte ∷ []) at name
 is_fault w s byte name at t l e q =
     let f : Front s t.spot = stands-front (lefts_of w) w.stage s t.spot t.at in
     let n : name_of t.spot byte ≡ Some name = after_step w s byte (bad name) t l e in
-    record { before = front-open s t.spot f; after = λ o. some_none name (sym n ∙ unnamed_after s t.spot byte f o); spot = t.spot; front = f; named = n; place = q ∙ t.taken }
+    subst (λ k. FaultAt (s ++ byte ∷ []) k name) (sym (q ∙ t.taken)) (fault_here s byte name t.spot f n)

@@ -9,10 +9,15 @@ use Rattle.grasp_cbor.specs.declared.walker.Stage.TheVariants.{Beginning}
 use Rattle.grasp_cbor.specs.declared.walker.Walk.{Walk}
 use Rattle.grasp_cbor.specs.CanGoOn.{IsItem, CanGoOnWithin}
 use Rattle.grasp_cbor.specs.Front.{Spot}
-use Rattle.grasp_cbor.specs.Faulty.{IsFault}
+use Rattle.grasp_cbor.specs.FaultAt.{FaultAt}
 use Rattle.grasp_cbor.specs.Step.{Move, goes, whole, bad, lefts_in}
 use Rattle.grasp_cbor.specs.Stands.{StandsAt}
 
+-- the greatest length of an item
+abbrev pub limit_of : Walk → ℕ
+limit_of w = w.limit
+
+-- how many parts each open level still waits for, the innermost first
 abbrev pub lefts_of : Walk → List ℕ
 lefts_of w = lefts_in w.depth w.lefts
 
@@ -33,5 +38,5 @@ Made old new (Err name) move = (move ≡ bad name) × (new ≡ old)
 abbrev pub Answers : Walk → Walk → List ℕ → ℕ → Result Taken WalkFault → Type 0
 Answers old new s byte (Ok More) = CanGoOnWithin 16 (s ++ byte ∷ []) × Took new (s ++ byte ∷ [])
 Answers old new s byte (Ok Whole) = IsItem 16 (s ++ byte ∷ []) × Took new []
-Answers old new s byte (Err (Bad name at)) = IsFault s byte name at × (new ≡ old)
+Answers old new s byte (Err (Bad name at)) = FaultAt (s ++ byte ∷ []) at name × (at ≡ length s) × (new ≡ old)
 Answers old new s byte (Err TooLong) = CanGoOnWithin 16 (s ++ byte ∷ []) × (old.limit ≡ length s + 1)

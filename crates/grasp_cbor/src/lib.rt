@@ -6,8 +6,11 @@
 
 mod build;
 mod heads;
+mod item_reader;
+mod laws;
 mod memory;
 mod plain;
+mod read;
 mod scalars;
 mod strings;
 mod tree;
@@ -16,10 +19,13 @@ mod walker;
 mod write;
 
 pub use build::encodings_are_apart;
+pub use item_reader::ItemReader;
+pub use laws::{bytes_are_taken_or_faulty, endings_are_apart, faults_are_alone, fronts_can_go_on};
 pub use memory::OutOfMemory;
 pub use plain::read_plain;
+pub use read::{ItemFault, ReadItem, build_whole, read_item};
 pub use scalars::{FloatBits, SimpleValue};
 pub use strings::{Chars, Octets};
 pub use tree::{Item, Items, Pairs};
-pub use walker::{FaultName, Taken, Walk, WalkFault};
+pub use walker::{FaultName, Taken};
 pub use write::{shortest_encodes, write_item};

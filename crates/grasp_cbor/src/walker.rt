@@ -1,7 +1,6 @@
 //! Taking an item byte by byte, without memory, up to its end or the first byte that no item has there.
 
 ghost use Rattle.std.specs.Prelude.{◌≡◌, ℕ, ◌+◌, ◌<◌, ◌≤◌, ◌/◌, ◌%◌, ◌-◌, ◌*◌, List, [], ◌∷◌, ◌++◌, length, None, Some, Option, Result};
-ghost use Rattle.grasp_cbor.specs.Faulty.{EndsAt};
 ghost use Rattle.grasp_cbor.specs.Front.{start_name, body_of, some_parts};
 ghost use Rattle.grasp_cbor.specs.Room.{levels_of, levels_at};
 ghost use Rattle.grasp_cbor.specs.Step.{after_head, finished, goes, heads, is_simple, lefts_in, step, whole, width_of};
@@ -34,7 +33,7 @@ pub enum Taken {
 
 /// Why bytes are no item.
 #[derive(Clone, Copy, Debug, PartialEq, Eq)]
-pub enum WalkFault {
+pub(crate) enum WalkFault {
     /// The byte at this place, counted from the item's first byte.
     Bad(FaultName, u64),
     /// As many bytes as are allowed are no item yet.
@@ -52,7 +51,7 @@ enum Stage {
 
 /// Takes items byte by byte, and no memory.
 #[derive(Drop)]
-pub struct Walk {
+pub(crate) struct Walk {
     limit: u64,
     taken: u64,
     depth: u8,
@@ -62,13 +61,13 @@ pub struct Walk {
 }
 
 impl Walk {
-    ghost use Rattle.grasp_cbor.specs.Walking.{Took, Made, Answers, lefts_of};
+    ghost use Rattle.grasp_cbor.specs.Walking.{Took, Made, Answers, lefts_of, limit_of};
 
     /// Before the first byte of an item of at most `limit` bytes.
-    pub fn new(limit: u64) -> Walk
+    pub(crate) fn new(limit: u64) -> Walk
         requires { 0 < limit }
         ensures fresh { Took result [] }
-        ensures limit { result.limit ≡ limit }
+        ensures limit { limit_of result ≡ limit }
     {
         Walk {
             limit,
@@ -80,9 +79,9 @@ impl Walk {
     }
 
     /// Takes the next byte. After an item it stands before the next one; at a fault of the byte it stays.
-    pub fn take(&mut self, byte: u8) -> Result<Taken, WalkFault>
+    pub(crate) fn take(&mut self, byte: u8) -> Result<Taken, WalkFault>
         ensures exact { (s : List ℕ) → Took self.old s → Answers self.old self.new s byte result }
-        ensures limit { self.new.limit ≡ self.old.limit }
+        ensures limit { limit_of self.new ≡ limit_of self.old }
     {
         if self.taken >= self.limit {
             return Err(WalkFault::TooLong);
@@ -298,20 +297,4 @@ fn end_item(lefts: &mut [u128; 16], depth: u8) -> u8
         open -= 1;
     }
     0
-}
-
-/// Where the item ends that begins these bytes.
-pub(crate) fn find_end(bytes: &[u8], limit: u64) -> Result<Option<usize>, WalkFault>
-    requires { 0 < limit }
-    ensures { EndsAt bytes.now limit result }
-{
-    let mut walk = Walk::new(limit);
-    for (i, byte) in bytes.iter().enumerate() {
-        match walk.take(*byte) {
-            Ok(Taken::More) => {}
-            Ok(Taken::Whole) => return Ok(Some(i + 1)),
-            Err(fault) => return Err(fault),
-        }
-    }
-    Ok(None)
 }

@@ -18,7 +18,9 @@ returns-then-self-2-clause-exact c =
 pub returns-in-Err-clause-exact : goal.returns-in-Err-clause-exact
 returns-in-Err-clause-exact c =
     λ s t. let k = c.in-Err.ensures.made in
-    (is_fault c.args.self.now s c.args.byte c.in-Err.name _ t (omega arith) k.0 c.advance.ensures.kept.0, k.1)
+    let taken = c.advance.ensures.kept.0 in
+    let q = t.taken in
+    (is_fault c.args.self.now s c.args.byte c.in-Err.name _ t (omega arith) k.0 taken, omega arith, k.1)
 
 pub returns-in-Ok-Whole-clause-exact : goal.returns-in-Ok-Whole-clause-exact
 returns-in-Ok-Whole-clause-exact c =

@@ -2,7 +2,7 @@ use Rattle.std.proofs.Common.{◌<◌, ◌++◌, ◌∷◌, [], take, get_or, le
 use Rattle.grasp_cbor.specs.CanGoOn.{IsItem, CanGoOnWithin}
 use Rattle.grasp_cbor.specs.Walking.{Took}
 use Rattle.grasp_cbor.proofs.Ending.{took_open, item_more, open_more, took_on, taken_is, faulted}
-use Rattle.grasp_cbor.proofs.walker.find_end.Goals as goal
+use Rattle.grasp_cbor.proofs.read.find_end.Goals as goal
 
 pub loop-i-init : goal.loop-i-init
 loop-i-init c = (c.new-walk.ensures.fresh, c.new-walk.ensures.limit, took_open c.new-walk.result [] c.new-walk.ensures.fresh)
