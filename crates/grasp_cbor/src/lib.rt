@@ -13,6 +13,8 @@ mod plain;
 mod read;
 mod scalars;
 mod strings;
+#[cfg(test)]
+mod tests;
 mod tree;
 mod utf8;
 mod walker;
