@@ -1,0 +1,4 @@
+pub mod DataItem
+pub mod DataItemCode
+pub mod Item
+pub mod Simple
