@@ -1,1 +1,4 @@
+pub mod Address
+pub mod Message
+pub mod Objective
 pub mod Prefix
