@@ -2,3 +2,4 @@ pub mod Address
 pub mod Message
 pub mod Objective
 pub mod Prefix
+pub mod Refusal

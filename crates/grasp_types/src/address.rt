@@ -88,3 +88,13 @@ impl Locator {
         }
     }
 }
+
+/// Another of the same locator, where there is one.
+pub(crate) fn copy_some_locator(locator: &Option<Locator>) -> Result<Option<Locator>, OutOfMemory>
+    ensures { IfOk result (λ r. r ≡ locator.now) }
+{
+    match locator {
+        Some(locator) => Ok(Some(locator.copy()?)),
+        None => Ok(None),
+    }
+}

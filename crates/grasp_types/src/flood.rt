@@ -2,7 +2,8 @@
 
 ghost use Rattle.std.specs.Prelude.{◌≡◌, ◌≤◌, [], ◌∷◌, ◌++◌, length, slice_get, option_map, OnOk, OnErr, IfOk};
 
-use crate::{Locator, Objective};
+use crate::address::copy_some_locator;
+use crate::{Address, Locator, Objective};
 use grasp_cbor::OutOfMemory;
 use std::alloc::Global;
 use std::marker::Model;
@@ -19,13 +20,9 @@ impl FloodPart {
     pub fn copy(&self) -> Result<FloodPart, OutOfMemory>
         ensures { IfOk result (λ r. r ≡ self.now) }
     {
-        let locator = match &self.locator {
-            Some(locator) => Some(locator.copy()?),
-            None => None,
-        };
         Ok(FloodPart {
             objective: self.objective.copy()?,
-            locator,
+            locator: copy_some_locator(&self.locator)?,
         })
     }
 }
@@ -61,6 +58,30 @@ impl FloodParts {
         Ok(FloodParts { held })
     }
 
+    /// How many parts there are, at least 1.
+    pub fn len(&self) -> u64
+        ensures value { result ≡ length self.now }
+        ensures some { 1 ≤ result }
+    {
+        self.held.len() as u64
+    }
+
+    /// Adds a part at the end. After an `Err` the list is as before.
+    pub fn push(&mut self, next: FloodPart) -> Result<(), OutOfMemory>
+        ensures ok { OnOk result (self.new ≡ self.old ++ next ∷ []) }
+        ensures err { OnErr result (self.new ≡ self.old) }
+    {
+        self.held.push(next)?;
+        Ok(())
+    }
+
+    /// The part at this place, counted from 0, or `None` past the end.
+    pub fn at(&self, i: u64) -> Option<&FloodPart>
+        ensures { option_map (λ x. x.now) result ≡ slice_get self.now i }
+    {
+        self.held.get(i as usize)
+    }
+
     /// Another of the same parts.
     pub fn copy(&self) -> Result<FloodParts, OutOfMemory>
         ensures { IfOk result (λ r. r ≡ self.now) }
@@ -71,5 +92,92 @@ impl FloodParts {
             held.push(part.copy()?)?;
         }
         Ok(FloodParts { held })
+    }
+}
+
+/// An objective that a flood told this node.
+#[derive(Debug, Drop)]
+pub struct FloodRead {
+    /// The address of the node that flooded it.
+    pub initiator: Address,
+    pub objective: Objective,
+    pub locator: Option<Locator>,
+}
+
+impl FloodRead {
+    /// Another of the same.
+    pub fn copy(&self) -> Result<FloodRead, OutOfMemory>
+        ensures { IfOk result (λ r. r ≡ self.now) }
+    {
+        Ok(FloodRead {
+            initiator: self.initiator,
+            objective: self.objective.copy()?,
+            locator: copy_some_locator(&self.locator)?,
+        })
+    }
+}
+
+/// What floods told, in order.
+#[derive(Debug, Drop)]
+pub struct FloodReads {
+    held: Vec<FloodRead>,
+}
+
+impl Model for FloodReads {
+    ghost use Rattle.std.specs.Prelude.{List};
+    ghost use Rattle.std.specs.Coded.{coded_list};
+    ghost use Rattle.grasp_types.specs.declared.flood.FloodRead.{FloodRead};
+    ghost use Rattle.grasp_types.specs.contracts.flood.FloodRead as read;
+
+    ghost Value = { List FloodRead };
+
+    ghost coded = { coded_list read.the_row.coded };
+
+    ghost view = { λ a. a.held.items };
+}
+
+impl FloodReads {
+    /// None.
+    pub fn new(alloc: Global) -> FloodReads
+        ensures { result ≡ [] }
+    {
+        FloodReads {
+            held: Vec::new(alloc),
+        }
+    }
+
+    /// How many there are.
+    pub fn len(&self) -> u64
+        ensures { result ≡ length self.now }
+    {
+        self.held.len() as u64
+    }
+
+    /// Adds one at the end. After an `Err` the list is as before.
+    pub fn push(&mut self, next: FloodRead) -> Result<(), OutOfMemory>
+        ensures ok { OnOk result (self.new ≡ self.old ++ next ∷ []) }
+        ensures err { OnErr result (self.new ≡ self.old) }
+    {
+        self.held.push(next)?;
+        Ok(())
+    }
+
+    /// The one at this place, counted from 0, or `None` past the end.
+    pub fn at(&self, i: u64) -> Option<&FloodRead>
+        ensures { option_map (λ x. x.now) result ≡ slice_get self.now i }
+    {
+        self.held.get(i as usize)
+    }
+
+    /// Another of the same list.
+    pub fn copy(&self) -> Result<FloodReads, OutOfMemory>
+        ensures { IfOk result (λ r. r ≡ self.now) }
+    {
+        let alloc = *self.held.allocator();
+        let mut held = Vec::new(alloc);
+        for read in &self.held {
+            held.push(read.copy()?)?;
+        }
+        Ok(FloodReads { held })
     }
 }

@@ -7,12 +7,16 @@ mod locators;
 mod message;
 mod objective;
 mod prefix;
+mod refusal;
+mod session;
 mod value;
 
 pub use address::{Address, Locator, Proto};
-pub use flood::{FloodPart, FloodParts};
+pub use flood::{FloodPart, FloodParts, FloodRead, FloodReads};
 pub use locators::Locators;
 pub use message::{Answer, Message, Verdict};
 pub use objective::{Flags, Objective};
 pub use prefix::Prefix;
+pub use refusal::ApiRefused;
+pub use session::{By, Handle, Kind, Outcome, Progress};
 pub use value::Value;

@@ -2,7 +2,7 @@
 
 ghost use Rattle.std.specs.Prelude.{◌≡◌, IfOk};
 
-use crate::objective::copy_some_objective;
+use crate::objective::{copy_some_objective, copy_some_text};
 use crate::value::copy_some_value;
 use crate::{Address, FloodParts, Locators, Objective, Value};
 use grasp_cbor::{Chars, OutOfMemory};
@@ -95,8 +95,7 @@ impl Verdict {
     {
         match self {
             Verdict::Accept => Ok(Verdict::Accept),
-            Verdict::Decline(None) => Ok(Verdict::Decline(None)),
-            Verdict::Decline(Some(reason)) => Ok(Verdict::Decline(Some(reason.copy()?))),
+            Verdict::Decline(reason) => Ok(Verdict::Decline(copy_some_text(reason)?)),
         }
     }
 }

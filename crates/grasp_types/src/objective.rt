@@ -83,3 +83,13 @@ pub(crate) fn copy_some_objective(
         None => Ok(None),
     }
 }
+
+/// Another of the same text, where there is one.
+pub(crate) fn copy_some_text(text: &Option<Chars>) -> Result<Option<Chars>, OutOfMemory>
+    ensures { IfOk result (λ r. r ≡ text.now) }
+{
+    match text {
+        Some(text) => Ok(Some(text.copy()?)),
+        None => Ok(None),
+    }
+}
