@@ -2,7 +2,7 @@
 --
 -- The layout is after RFC 8990, section 4. This project's own: an item of `any` type (an objective's value, and
 -- what an M_INVALID tells) nests at most 13 deep.
-use Rattle.std.specs.Prelude.{ℕ, ◌<◌, ◌≤◌, ◌^◌, List, [], ◌∷◌, ◌++◌, Option, Some, None, IfSome, All, map, length, option_map}
+use Rattle.std.specs.Prelude.{◌≡◌, ℕ, ◌<◌, ◌≤◌, ◌^◌, List, [], ◌∷◌, ◌++◌, Option, Some, None, IfSome, All, map, length, option_map}
 use Rattle.std.specs.Str.{IsUtf8}
 use Rattle.grasp_cbor.specs.DataItem.{DataItem, unsigned, text_string, array_of}
 use Rattle.grasp_types.specs.Address.{address_item, locator_item, IsAddress, IsLocator}
@@ -95,3 +95,7 @@ IsMessage (Wait session millis) = (session < 2 ^ 32) × (millis < 2 ^ 32)
 IsMessage (Synch session objective) = (session < 2 ^ 32) × IsObjective objective
 IsMessage (Flood session initiator ttl parts) = (session < 2 ^ 32) × IsAddress initiator × (ttl < 2 ^ 32) × AreFloodParts parts
 IsMessage (Invalid session detail) = (session < 2 ^ 32) × IfSome detail IsValue
+
+-- no two messages have the same data item
+abbrev pub OneMessageAnItem : Type 0
+OneMessageAnItem = (x y : Message) → IsMessage x → IsMessage y → item_of x ≡ item_of y → x ≡ y

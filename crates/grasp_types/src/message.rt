@@ -1,6 +1,7 @@
 //! Messages (RFC 8990, section 2.8).
 
 ghost use Rattle.std.specs.Prelude.{◌≡◌, IfOk};
+ghost use Rattle.grasp_types.specs.Message.{OneMessageAnItem};
 
 use crate::objective::{copy_some_objective, copy_some_text};
 use crate::value::copy_some_value;
@@ -208,3 +209,8 @@ impl Message {
         }
     }
 }
+
+/// A message in which each part is within its type's range has its data item for itself alone.
+pub fn one_message_an_item()
+    ensures { OneMessageAnItem }
+{}
