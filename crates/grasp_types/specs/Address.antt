@@ -1,5 +1,5 @@
 -- Addresses and locators as data items, and their ranges.
-use Rattle.std.specs.Prelude.{ℕ, ◌<◌, ◌^◌, List, [], ◌∷◌, Option, Some, None, IfSome}
+use Rattle.std.specs.Prelude.{ℕ, Bool, true, false, ◌<◌, ◌^◌, List, [], ◌∷◌, Option, Some, None, IfSome}
 use Rattle.std.specs.Int.{to_be_bytes, w32, w128}
 use Rattle.std.specs.Str.{IsUtf8}
 use Rattle.grasp_cbor.specs.DataItem.{DataItem, unsigned, byte_string, text_string, simple_value, array_of}
@@ -10,10 +10,14 @@ use Rattle.grasp_types.specs.declared.address.Locator.TheVariants.{V6, V4, Fqdn,
 use Rattle.grasp_types.specs.declared.address.Proto.{Proto}
 use Rattle.grasp_types.specs.declared.address.Proto.TheVariants.{Tcp, Udp}
 
--- an address is its 4 or 16 bytes, the most significant first (RFC 8990, section 4)
+-- the 4 or 16 bytes of an address, the most significant first
+abbrev pub address_bytes : Address → List ℕ
+address_bytes (address.V4 n) = to_be_bytes w32 n
+address_bytes (address.V6 n) = to_be_bytes w128 n
+
+-- an address is the byte string of its bytes (RFC 8990, section 4)
 abbrev pub address_item : Address → DataItem
-address_item (address.V4 n) = byte_string (to_be_bytes w32 n)
-address_item (address.V6 n) = byte_string (to_be_bytes w128 n)
+address_item a = byte_string (address_bytes a)
 
 -- a transport protocol is its number (RFC 8990, section 2.9.5)
 abbrev pub proto_item : Proto → DataItem
@@ -51,3 +55,15 @@ IsLocator (V6 n proto port) = (n < 2 ^ 128) × (port < 2 ^ 16)
 IsLocator (V4 n proto port) = (n < 2 ^ 32) × (port < 2 ^ 16)
 IsLocator (Fqdn name proto port) = IsUtf8 name × (port < 2 ^ 16)
 IsLocator (Uri text proto port) = IsUtf8 text × IfSome port (λ p. p < 2 ^ 16)
+
+-- it is TCP
+abbrev pub is_tcp : Proto → Bool
+is_tcp Tcp = true
+is_tcp Udp = false
+
+-- it is an IPv6 or IPv4 address with TCP, which a stream can be opened to
+abbrev pub is_dialable : Locator → Bool
+is_dialable (V6 n proto port) = is_tcp proto
+is_dialable (V4 n proto port) = is_tcp proto
+is_dialable (Fqdn name proto port) = false
+is_dialable (Uri text proto port) = false

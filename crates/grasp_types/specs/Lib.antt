@@ -1,4 +1,5 @@
 pub mod Address
+pub mod Flood
 pub mod Message
 pub mod Objective
 pub mod Prefix

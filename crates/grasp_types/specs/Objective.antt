@@ -1,8 +1,32 @@
 -- Objectives as data items, and their ranges.
-use Rattle.std.specs.Prelude.{ℕ, ◌<◌, ◌≤◌, ◌^◌, List, [], ◌∷◌, Option, Some, None, IfSome}
+use Rattle.std.specs.Prelude.{ℕ, Bool, not, if◌then◌else◌, ◌==◌, ◌+◌, bit_and, ◌<◌, ◌≤◌, ◌^◌, List, [], ◌∷◌, Option, Some, None, IfSome}
 use Rattle.std.specs.Str.{IsUtf8}
 use Rattle.grasp_cbor.specs.DataItem.{DataItem, unsigned, text_string, array_of, depth_of}
 use Rattle.grasp_types.specs.declared.objective.Objective.{Objective}
+use Rattle.grasp_types.specs.declared.session.Kind.{Kind}
+use Rattle.grasp_types.specs.declared.session.Kind.TheVariants.{Negotiation, Synchronization}
+
+-- F_DISC, F_NEG, F_SYNCH and F_NEG_DRY, of the values 1, 2, 4 and 8 (RFC 8990, section 2.10.2)
+abbrev pub has_disc : ℕ → Bool
+has_disc flags = not (bit_and flags 1 == 0)
+
+abbrev pub has_neg : ℕ → Bool
+has_neg flags = not (bit_and flags 2 == 0)
+
+abbrev pub has_synch : ℕ → Bool
+has_synch flags = not (bit_and flags 4 == 0)
+
+abbrev pub has_dry : ℕ → Bool
+has_dry flags = not (bit_and flags 8 == 0)
+
+-- the flag of this use is set
+abbrev pub has_kind : ℕ → Kind → Bool
+has_kind flags Negotiation = has_neg flags
+has_kind flags Synchronization = has_synch flags
+
+-- the other flags as they are, and F_NEG_DRY exactly where it is asked for
+abbrev pub dry_flags : ℕ → Bool → ℕ
+dry_flags flags dry = bit_and flags 7 + (if dry then 8 else 0)
 
 -- the item, where it is there
 abbrev pub optional : Option DataItem → List DataItem

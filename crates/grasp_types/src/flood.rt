@@ -1,6 +1,7 @@
 //! Floods.
 
 ghost use Rattle.std.specs.Prelude.{◌≡◌, ◌≤◌, [], ◌∷◌, ◌++◌, length, slice_get, option_map, OnOk, OnErr, IfOk};
+ghost use Rattle.grasp_types.specs.Flood.{first_loops};
 
 use crate::address::copy_some_locator;
 use crate::{Address, Locator, Objective};
@@ -80,6 +81,15 @@ impl FloodParts {
         ensures { option_map (λ x. x.now) result ≡ slice_get self.now i }
     {
         self.held.get(i as usize)
+    }
+
+    /// Sets the loop count of the first objective, which alone decides how far the flood goes.
+    pub fn set_first_loops(&mut self, loops: u8)
+        ensures { self.new ≡ first_loops self.old loops }
+    {
+        if let Some(part) = self.held.first_mut() {
+            part.objective.loops = loops;
+        }
     }
 
     /// Another of the same parts.

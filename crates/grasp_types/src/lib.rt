@@ -18,7 +18,7 @@ mod session;
 mod traffic;
 mod value;
 
-pub use address::{Address, Locator, Proto};
+pub use address::{Address, Locator, Proto, ipv4_of_bytes, ipv6_of_bytes};
 pub use call::Call;
 pub use flood::{FloodPart, FloodParts, FloodRead, FloodReads};
 pub use links::{LinkLists, Neighbour, Neighbours};

@@ -1,11 +1,20 @@
 //! Objectives (RFC 8990, section 2.10).
 
 ghost use Rattle.std.specs.Prelude.{◌≡◌, ◌≤◌, ◌<◌, IfOk, IfSome, IfNone};
+ghost use Rattle.grasp_types.specs.Objective.{has_disc, has_neg, has_synch, has_dry, has_kind, dry_flags};
 
-use crate::Value;
 use crate::value::copy_some_value;
+use crate::{Kind, Value};
 use grasp_cbor::{Chars, OutOfMemory};
 use std::marker::Model;
+
+const F_DISC: u8 = 1;
+
+const F_NEG: u8 = 2;
+
+const F_SYNCH: u8 = 4;
+
+const F_NEG_DRY: u8 = 8;
 
 /// The flags of an objective, 0 to 15 (RFC 8990, section 2.10.2).
 #[derive(Clone, Copy, Debug, PartialEq, Eq)]
@@ -36,6 +45,54 @@ impl Flags {
             Some(Flags { bits })
         } else {
             None
+        }
+    }
+
+    /// Whether F_DISC is set: the objective can be discovered.
+    pub fn has_disc(self) -> bool
+        ensures { result ≡ has_disc self }
+    {
+        self.bits & F_DISC != 0
+    }
+
+    /// Whether F_NEG is set: the objective can be negotiated.
+    pub fn has_neg(self) -> bool
+        ensures { result ≡ has_neg self }
+    {
+        self.bits & F_NEG != 0
+    }
+
+    /// Whether F_SYNCH is set: the objective can be synchronized and flooded.
+    pub fn has_synch(self) -> bool
+        ensures { result ≡ has_synch self }
+    {
+        self.bits & F_SYNCH != 0
+    }
+
+    /// Whether F_NEG_DRY is set: the negotiation is a dry run.
+    pub fn has_dry(self) -> bool
+        ensures { result ≡ has_dry self }
+    {
+        self.bits & F_NEG_DRY != 0
+    }
+
+    /// Whether the flag of this use is set.
+    pub fn has_kind(self, kind: Kind) -> bool
+        ensures { result ≡ has_kind self kind }
+    {
+        match kind {
+            Kind::Negotiation => self.has_neg(),
+            Kind::Synchronization => self.has_synch(),
+        }
+    }
+
+    /// The same flags, with F_NEG_DRY or without it.
+    pub fn with_dry(self, dry: bool) -> Flags
+        ensures { result ≡ dry_flags self dry }
+    {
+        let others = self.bits & (F_DISC | F_NEG | F_SYNCH);
+        Flags {
+            bits: others + if dry { F_NEG_DRY } else { 0 },
         }
     }
 
