@@ -68,3 +68,23 @@ abbrev mutual
   pub pairs_depth : DataPairs → ℕ
   pairs_depth no_pairs = 0
   pairs_depth (pair_and k v es) = max (max (depth_of k) (depth_of v)) (pairs_depth es)
+
+-- how many items
+abbrev pub item_count : DataItems → ℕ
+item_count no_items = 0
+item_count (item_and t ts) = item_count ts + 1
+
+-- how many pairs
+abbrev pub pair_count : DataPairs → ℕ
+pair_count no_pairs = 0
+pair_count (pair_and k v es) = pair_count es + 1
+
+-- the list of the items
+abbrev pub items_in : DataItems → List DataItem
+items_in no_items = []
+items_in (item_and t ts) = t ∷ items_in ts
+
+-- the list of the pairs
+abbrev pub pairs_in : DataPairs → List (DataItem × DataItem)
+pairs_in no_pairs = []
+pairs_in (pair_and k v es) = (k, v) ∷ pairs_in es

@@ -1,4 +1,14 @@
+pub mod Build
+pub mod Built
 pub mod DataItem
 pub mod DataItemCode
+pub mod Encodable
+pub mod Encodes
+pub mod Extends
+pub mod Head
 pub mod Item
+pub mod Laws
+pub mod Major
+pub mod Plain
+pub mod Shortest
 pub mod Simple

@@ -1,0 +1,195 @@
+//! Making items of their bytes (RFC 8949, section 3).
+
+ghost use Rattle.std.specs.Prelude.{◌≡◌, ℕ, ◌<◌, ◌≤◌, List, ◌++◌, length, IfOk};
+ghost use Rattle.grasp_cbor.specs.DataItem.{DataItem, depth_of};
+ghost use Rattle.grasp_cbor.specs.Item.{data_item_of, items_of, pairs_of};
+ghost use Rattle.grasp_cbor.specs.Encodes.{IsEncoding};
+ghost use Rattle.grasp_cbor.specs.Built.{IsBuilt};
+ghost use Rattle.grasp_cbor.specs.Laws.{EncodingsAreApart};
+ghost use Rattle.grasp_cbor.specs.Build.{Gives, found_as, simple_at, plain_of, many_with, pair_with, nested_with, content_with, nested_in, item_at};
+
+use crate::heads::{Argument, BuildError, Head, Major, read_bytes, read_head, read_text};
+use crate::{Chars, FloatBits, Item, Items, Octets, OutOfMemory, Pairs, SimpleValue};
+use std::alloc::Global;
+
+/// Bytes encode at most one item, and no encoding begins another.
+pub fn encodings_are_apart()
+    ensures { EncodingsAreApart }
+{}
+
+/// Makes the item that begins the bytes, which is so deep at most, and answers the bytes after it.
+pub(crate) fn build_item(
+    alloc: Global,
+    bytes: &[u8],
+    depth: u8,
+) -> Result<(Item, &[u8]), BuildError>
+    // What is made is encoded so.
+    ensures found { IfOk result (λ p. IsBuilt depth bytes.now (data_item_of p.0) p.1.now) }
+    // What is encoded so is made, unless memory runs out.
+    ensures only { (t : DataItem) (s rest : List ℕ) → IsEncoding t s → depth_of t ≤ depth → bytes.now ≡ s ++ rest
+        → Gives (λ p. (data_item_of p.0, p.1.now)) result (found_as t rest) }
+{
+    read_whole(alloc, bytes, depth)
+}
+
+#[cycle(read)]
+#[tactic(auto, unfolding(crate::specs::Build::item_at, crate::specs::Build::item_with))]
+fn read_whole(alloc: Global, bytes: &[u8], depth: u8) -> Result<(Item, &[u8]), BuildError>
+    ensures { Gives (λ x. (data_item_of x.0, x.1.now)) result (item_at depth bytes.now) }
+{
+    let (head, rest) = read_head(bytes)?;
+    read_content(alloc, head, rest, depth)
+}
+
+#[cycle(read)]
+#[tactic(auto, unfolding(crate::specs::Build::content_with))]
+fn read_content(
+    alloc: Global,
+    head: Head,
+    bytes: &[u8],
+    depth: u8,
+) -> Result<(Item, &[u8]), BuildError>
+    ensures { Gives (λ x. (data_item_of x.0, x.1.now)) result (content_with (nested_in depth) head.major head.argument bytes.now) }
+{
+    let n = head.argument.value();
+    match head.major {
+        Major::Unsigned => Ok((Item::Uint(n), bytes)),
+        Major::Negative => Ok((Item::Neg(n), bytes)),
+        Major::ByteString => {
+            let (front, rest) = read_bytes(n, bytes)?;
+            Ok((Item::Bytes(Octets::of(alloc, front)?), rest))
+        }
+        Major::TextString => {
+            let (front, rest) = read_text(n, bytes)?;
+            Ok((Item::Text(Chars::of(alloc, front)?), rest))
+        }
+        Major::Array | Major::Map | Major::Tag => read_nested(alloc, head.major, n, bytes, depth),
+        Major::Simple => {
+            let item = plain_item(head.argument)?;
+            Ok((item, bytes))
+        }
+    }
+}
+
+/// Reads an array, a map or a tag, which takes one level.
+#[cycle(read)]
+#[tactic(auto, using(crate::proofs::Nested::levels))]
+fn read_nested(
+    alloc: Global,
+    major: Major,
+    n: u64,
+    bytes: &[u8],
+    depth: u8,
+) -> Result<(Item, &[u8]), BuildError>
+    ensures { Gives (λ x. (data_item_of x.0, x.1.now)) result (nested_in depth major n bytes.now) }
+{
+    if depth == 0 {
+        return Err(BuildError::NotItem);
+    }
+    read_parts(alloc, major, n, bytes, depth - 1)
+}
+
+/// Reads what an array, a map or a tag holds, each part so deep at most.
+#[cycle(read)]
+#[tactic(auto, using(crate::proofs::Views::views), unfolding(crate::specs::Build::nested_with))]
+fn read_parts(
+    alloc: Global,
+    major: Major,
+    n: u64,
+    bytes: &[u8],
+    depth: u8,
+) -> Result<(Item, &[u8]), BuildError>
+    ensures { Gives (λ x. (data_item_of x.0, x.1.now)) result (nested_with (item_at depth) major n bytes.now) }
+{
+    match major {
+        Major::Array => {
+            let (items, rest) = read_items(alloc, bytes, n, depth)?;
+            Ok((Item::List(items), rest))
+        }
+        Major::Map => {
+            let (pairs, rest) = read_pairs(alloc, bytes, n, depth)?;
+            Ok((Item::Map(pairs), rest))
+        }
+        _ => {
+            let (item, rest) = read_whole(alloc, bytes, depth)?;
+            let tagged = Box::new(alloc, item).map_err(OutOfMemory::from)?;
+            Ok((Item::Tag(n, tagged), rest))
+        }
+    }
+}
+
+#[cycle(read)]
+fn read_items(
+    alloc: Global,
+    bytes: &[u8],
+    count: u64,
+    depth: u8,
+) -> Result<(Items, &[u8]), BuildError>
+    ensures { Gives (λ x. (items_of x.0, x.1.now)) result (many_with (item_at depth) count bytes.now) }
+{
+    let mut items = Items::new(alloc);
+    let mut rest = bytes;
+    for _ in 0..count {
+        let (item, after) = read_whole(alloc, rest, depth)?;
+        items.push(item)?;
+        rest = after;
+    }
+    Ok((items, rest))
+}
+
+#[cycle(read)]
+fn read_pairs(
+    alloc: Global,
+    bytes: &[u8],
+    count: u64,
+    depth: u8,
+) -> Result<(Pairs, &[u8]), BuildError>
+    ensures { Gives (λ x. (pairs_of x.0, x.1.now)) result (many_with (pair_with (item_at depth)) count bytes.now) }
+{
+    let mut pairs = Pairs::new(alloc);
+    let mut rest = bytes;
+    for _ in 0..count {
+        let (key, value, after) = read_pair(alloc, rest, depth)?;
+        pairs.push((key, value))?;
+        rest = after;
+    }
+    Ok((pairs, rest))
+}
+
+#[cycle(read)]
+#[tactic(auto, unfolding(crate::specs::Build::pair_with))]
+fn read_pair(alloc: Global, bytes: &[u8], depth: u8) -> Result<(Item, Item, &[u8]), BuildError>
+    ensures { Gives (λ x. ((data_item_of x.0, data_item_of x.1), x.2.now)) result (pair_with (item_at depth) bytes.now) }
+{
+    let (key, rest) = read_whole(alloc, bytes, depth)?;
+    let (value, rest) = read_whole(alloc, rest, depth)?;
+    Ok((key, value, rest))
+}
+
+/// The simple value or the float of an argument (RFC 8949, section 3.3).
+fn plain_item(argument: Argument) -> Result<Item, BuildError>
+    ensures { Gives data_item_of result (plain_of argument) }
+{
+    match argument {
+        Argument::Direct(n) => simple_item(n),
+        Argument::One(n) => {
+            if n < 32 {
+                Err(BuildError::NotItem)
+            } else {
+                simple_item(n)
+            }
+        }
+        Argument::Two(n) => Ok(Item::Float(FloatBits::Half(n))),
+        Argument::Four(n) => Ok(Item::Float(FloatBits::Single(n))),
+        Argument::Eight(n) => Ok(Item::Float(FloatBits::Double(n))),
+    }
+}
+
+fn simple_item(number: u8) -> Result<Item, BuildError>
+    ensures { Gives data_item_of result (simple_at number) }
+{
+    match SimpleValue::of(number) {
+        Some(value) => Ok(Item::Simple(value)),
+        None => Err(BuildError::NotItem),
+    }
+}
