@@ -48,7 +48,7 @@ bytes_high_first-joined : (bs : List ℕ) (a : ℕ) → ((i : ℕ) → get_or bs
 bytes_high_first-joined [] a small = refl
 bytes_high_first-joined (b ∷ bs) a small =
     let head : byte_at (length bs) (joined (a * 256 + b) bs) ≡ b =
-      byte_at-div (length bs) (joined (a * 256 + b) bs) ∙ ap (λ m. m % 256) (joined-div bs (a * 256 + b) (λ i. small (suc i))) ∙ low_of a b (small 0)
+    byte_at-div (length bs) (joined (a * 256 + b) bs) ∙ ap (λ m. m % 256) (joined-div bs (a * 256 + b) (λ i. small (suc i))) ∙ low_of a b (small 0)
     in let tail : bytes_high_first (length bs) (joined (a * 256 + b) bs) ≡ bs = bytes_high_first-joined bs (a * 256 + b) (λ i. small (suc i))
     in λ i. head i ∷ tail i
 

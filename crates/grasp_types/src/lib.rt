@@ -15,6 +15,8 @@ mod prefix;
 mod refusal;
 mod reply;
 mod session;
+#[cfg(test)]
+mod tests;
 mod traffic;
 mod value;
 
