@@ -1,6 +1,6 @@
 -- A message comes back from its data item, so no two messages have the same one.
-use Rattle.std.proofs.Common.{◌≡◌, ℕ, zero, suc, ◌+◌, ◌<◌, ◌≤◌, Bool, true, false, if◌then◌else◌, ◌==◌, List, [], ◌∷◌, ◌++◌, length, map, All, Option, Some, None, option_map, IfSome, refl, sym, ◌∙◌, ap, arith}
-use Rattle.grasp_cbor.specs.DataItem.{DataItem, DataItems, unsigned, byte_string, text_string, simple_value, array, no_items, item_and, data_items, array_of}
+use Rattle.std.proofs.Common.{◌≡◌, ℕ, suc, Bool, true, false, if◌then◌else◌, ◌==◌, List, [], ◌∷◌, ◌++◌, length, map, All, Option, Some, None, option_map, IfSome, refl, sym, ◌∙◌, ap, arith}
+use Rattle.grasp_cbor.specs.DataItem.{DataItem, DataItems, unsigned, byte_string, text_string, simple_value, array, no_items, item_and, data_items}
 use Rattle.grasp_types.specs.declared.address.Address.{Address}
 use Rattle.grasp_types.specs.declared.address.Address.TheVariants as address
 use Rattle.grasp_types.specs.declared.address.Locator.{Locator}

@@ -2,9 +2,9 @@
 --
 -- The layout is after RFC 8990, section 4. This project's own: an item of `any` type (an objective's value, and
 -- what an M_INVALID tells) nests at most 13 deep.
-use Rattle.std.specs.Prelude.{◌≡◌, ℕ, ◌<◌, ◌≤◌, ◌^◌, List, [], ◌∷◌, ◌++◌, Option, Some, None, IfSome, All, map, length, option_map}
+use Rattle.std.specs.Prelude.{◌≡◌, ◌<◌, ◌≤◌, ◌^◌, List, [], ◌∷◌, ◌++◌, Option, Some, None, IfSome, All, map, length, option_map}
 use Rattle.std.specs.Str.{IsUtf8}
-use Rattle.grasp_cbor.specs.DataItem.{DataItem, unsigned, text_string, array_of}
+use Rattle.grasp_cbor.specs.DataItem.{DataItem, unsigned, text_string, array_of, depth_of}
 use Rattle.grasp_types.specs.Address.{address_item, locator_item, IsAddress, IsLocator}
 use Rattle.grasp_types.specs.Objective.{optional, objective_item, IsObjective, IsValue}
 use Rattle.grasp_types.specs.declared.address.Locator.{Locator}
@@ -99,3 +99,7 @@ IsMessage (Invalid session detail) = (session < 2 ^ 32) × IfSome detail IsValue
 -- no two messages have the same data item
 abbrev pub OneMessageAnItem : Type 0
 OneMessageAnItem = (x y : Message) → IsMessage x → IsMessage y → item_of x ≡ item_of y → x ≡ y
+
+-- the data item of a message nests at most 16 deep, so that it has an encoding
+abbrev pub MessagesNestSixteenDeep : Type 0
+MessagesNestSixteenDeep = (x : Message) → IsMessage x → depth_of (item_of x) ≤ 16

@@ -1,7 +1,7 @@
 //! Messages (RFC 8990, section 2.8).
 
 ghost use Rattle.std.specs.Prelude.{◌≡◌, IfOk};
-ghost use Rattle.grasp_types.specs.Message.{OneMessageAnItem};
+ghost use Rattle.grasp_types.specs.Message.{MessagesNestSixteenDeep, OneMessageAnItem};
 
 use crate::objective::{copy_some_objective, copy_some_text};
 use crate::value::copy_some_value;
@@ -213,4 +213,9 @@ impl Message {
 /// A message in which each part is within its type's range has its data item for itself alone.
 pub fn one_message_an_item()
     ensures { OneMessageAnItem }
+{}
+
+/// A message's data item nests at most 16 deep, as deep as an encoding may.
+pub fn messages_nest_sixteen_deep()
+    ensures { MessagesNestSixteenDeep }
 {}
