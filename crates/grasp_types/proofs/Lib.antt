@@ -1,0 +1,4 @@
+pub mod BigEndian
+pub mod Depths
+pub mod Multiples
+pub mod Reading

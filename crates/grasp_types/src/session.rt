@@ -1,0 +1,103 @@
+//! Sessions as agents see them: their handles, their progress and their outcomes.
+
+ghost use Rattle.std.specs.Prelude.{◌≡◌, IfOk};
+
+use crate::Objective;
+use crate::objective::copy_some_text;
+use grasp_cbor::{Chars, OutOfMemory};
+
+/// What an objective is used for.
+#[derive(Clone, Copy, Debug, PartialEq, Eq)]
+pub enum Kind {
+    /// The two ends bargain over a value (RFC 8990, section 2.5.5).
+    Negotiation,
+    /// One end asks for the other's value (RFC 8990, section 2.5.6).
+    Synchronization,
+}
+
+/// Which end did it.
+#[derive(Clone, Copy, Debug, PartialEq, Eq)]
+pub enum By {
+    /// This end.
+    Mine,
+    /// The peer.
+    Theirs,
+}
+
+/// The name of a session at its node: a place, used again later, and a number, never used again.
+#[derive(Clone, Copy, Debug, PartialEq, Eq)]
+pub struct Handle {
+    /// 0 to 63.
+    pub place: u32,
+    /// How many sessions this node had made when this one was, itself counted.
+    pub number: u64,
+}
+
+/// How a session ended. Times are readings of this node's clock in milliseconds.
+#[derive(Debug, Drop)]
+pub enum Outcome {
+    /// One end accepted the other's last offer.
+    Agreed { by: By, objective: Objective },
+    /// One end declined, perhaps with a reason.
+    Declined { by: By, reason: Option<Chars> },
+    /// The peer told its value.
+    Synchronized { objective: Objective },
+    /// Nothing came until the deadline.
+    TimedOut { deadline: u64, now: u64 },
+    /// The stream broke.
+    Broken,
+    /// This node had no memory for what came.
+    OutOfMemory,
+    /// One end sent M_INVALID, or what it sent was out of order.
+    Invalid { by: By },
+}
+
+/// What a poll of a session tells.
+#[derive(Debug, Drop)]
+pub enum Progress {
+    /// It is the peer's turn.
+    NotYet,
+    /// It is this end's turn, and this is the peer's last offer.
+    Turn(Objective),
+    /// It is over.
+    Ended(Outcome),
+}
+
+impl Outcome {
+    /// Another of the same outcome.
+    pub fn copy(&self) -> Result<Outcome, OutOfMemory>
+        ensures { IfOk result (λ r. r ≡ self.now) }
+    {
+        match *self {
+            Outcome::Agreed { by, ref objective } => {
+                let objective = objective.copy()?;
+                Ok(Outcome::Agreed { by, objective })
+            }
+            Outcome::Declined { by, ref reason } => {
+                let reason = copy_some_text(reason)?;
+                Ok(Outcome::Declined { by, reason })
+            }
+            Outcome::Synchronized { ref objective } => {
+                let objective = objective.copy()?;
+                Ok(Outcome::Synchronized { objective })
+            }
+            Outcome::TimedOut { deadline, now } => Ok(Outcome::TimedOut { deadline, now }),
+            Outcome::Broken => Ok(Outcome::Broken),
+            Outcome::OutOfMemory => Ok(Outcome::OutOfMemory),
+            Outcome::Invalid { by } => Ok(Outcome::Invalid { by }),
+        }
+    }
+}
+
+impl Progress {
+    /// Another of the same progress.
+    pub fn copy(&self) -> Result<Progress, OutOfMemory>
+        ensures { IfOk result (λ r. r ≡ self.now) }
+    {
+        match self {
+            Progress::NotYet => Ok(Progress::NotYet),
+            Progress::Turn(objective) => Ok(Progress::Turn(objective.copy()?)),
+            Progress::Ended(outcome) => Ok(Progress::Ended(outcome.copy()?)),
+        }
+    }
+}
