@@ -18,3 +18,10 @@ abbrev pub AppendsFront : Option (List ℕ) → Option (List ℕ) → List ℕ �
 AppendsFront None new bytes = ⊤
 AppendsFront (Some old) None bytes = ⊥
 AppendsFront (Some old) (Some new) bytes = new ≡ old ++ take (length new - length old) bytes
+
+-- of these bytes a front was written, and the rest is held
+abbrev pub Passes : Option (List ℕ) → Option (List ℕ) → List ℕ → List ℕ → Type 0
+Passes None new held bytes = ⊤
+Passes (Some old) None held bytes = ⊥
+Passes (Some old) (Some new) held bytes =
+    (new ≡ old ++ take (length new - length old) bytes) × (held ≡ drop (length new - length old) bytes)

@@ -1,8 +1,8 @@
 // A buffer in front of a sink.
 ghost use Rattle.std.specs.Prelude.{◌≡◌, ◌+◌, ◌≤◌, ℕ, List, [], ◌++◌, length, take, OnOk, OnErr};
-ghost use Rattle.std.specs.Io.KnownBytes.{Appends, append_known};
+ghost use Rattle.std.specs.Io.KnownBytes.{Appends};
 ghost use Rattle.grasp_io.specs.Faults.{Rose};
-ghost use Rattle.grasp_io.specs.Known.{AppendsFront};
+ghost use Rattle.grasp_io.specs.Known.{AppendsFront, Passes};
 
 use crate::{Failed, Sink, write_all};
 use std::marker::Model;
@@ -37,13 +37,13 @@ impl WriteBuffer {
         }
     }
 
-    /// Puts a piece behind all that was put before: what the sink has and what the buffer holds grow by it together.
+    /// Puts a piece behind what is held. Of the two together a front may be written, and the rest is held.
     ///
-    /// After `Failed` the sink has taken a front of what was held and the piece, and the buffer holds nothing.
+    /// After `Failed` the sink has taken a front of the two, and the buffer holds nothing.
+    #[tactic(auto, using(crate::proofs::Streams::appends_then_front))]
     pub fn put<K: Sink>(&mut self, sink: &mut K, piece: &[u8]) -> Result<(), Failed>
-        ensures together { OnOk result (Appends (append_known (K.written sink.old) self.old)
-            (append_known (K.written sink.new) self.new) piece.now) }
-        ensures front { AppendsFront (K.written sink.old) (K.written sink.new) (self.old ++ piece.now) }
+        ensures passed { OnOk result (Passes (K.written sink.old) (K.written sink.new) self.new (self.old ++ piece.now)) }
+        ensures front { OnErr result (AppendsFront (K.written sink.old) (K.written sink.new) (self.old ++ piece.now)) }
         ensures emptied { OnErr result (self.new ≡ []) }
         ensures fault { OnErr result (Rose (K.faults sink.old) (K.faults sink.new)) }
         ensures never_falls { K.faults sink.old ≤ K.faults sink.new }
@@ -63,7 +63,7 @@ impl WriteBuffer {
     /// After `Failed` the sink has taken a front of what was held.
     pub fn flush<K: Sink>(&mut self, sink: &mut K) -> Result<(), Failed>
         ensures written { OnOk result (Appends (K.written sink.old) (K.written sink.new) self.old) }
-        ensures front { AppendsFront (K.written sink.old) (K.written sink.new) self.old }
+        ensures front { OnErr result (AppendsFront (K.written sink.old) (K.written sink.new) self.old) }
         ensures emptied { self.new ≡ [] }
         ensures fault { OnErr result (Rose (K.faults sink.old) (K.faults sink.new)) }
         ensures never_falls { K.faults sink.old ≤ K.faults sink.new }

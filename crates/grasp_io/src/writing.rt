@@ -30,7 +30,7 @@ pub trait Sink {
 /// After `Failed` the sink has taken a front of them.
 pub fn write_all<K: Sink>(sink: &mut K, bytes: &[u8]) -> Result<(), Failed>
     ensures written { OnOk result (Appends (K.written sink.old) (K.written sink.new) bytes.now) }
-    ensures front { AppendsFront (K.written sink.old) (K.written sink.new) bytes.now }
+    ensures front { OnErr result (AppendsFront (K.written sink.old) (K.written sink.new) bytes.now) }
     ensures fault { OnErr result (Rose (K.faults sink.old) (K.faults sink.new)) }
     ensures never_falls { K.faults sink.old ≤ K.faults sink.new }
 {
