@@ -1,5 +1,5 @@
 -- What several reads or writes do together to the known bytes.
-use Rattle.std.proofs.Common.{◌≡◌, ◌<◌, ◌≤◌, ◌+◌, ◌-◌, ℕ, List, [], ◌++◌, length, take, drop, Option, None, Some, IfSome, refl, sym, ap, ◌∙◌, arith, append-nil, append_assoc, take-append-drop, length-append}
+use Rattle.std.proofs.Common.{◌≡◌, ◌<◌, ◌≤◌, ◌+◌, ◌-◌, ℕ, List, [], ◌++◌, length, take, drop, Option, None, Some, IfSome, refl, sym, ap, ◌∙◌, subst, arith, append-nil, append_assoc, take-append-drop, length-append}
 use Rattle.std.proofs.Math.Seq.{take-append-add}
 use Rattle.std.proofs.lemmas.List.{take_rest}
 use Rattle.std.specs.Io.KnownBytes.{Appends, Consumes}
@@ -110,8 +110,8 @@ passes_more (Some x) (Some y) (Some z) held bytes later more p q =
     let second = take m (held ++ more) in
     let grown : z ≡ x ++ (first ++ second) = q.0 ∙ ap (λ l. l ++ second) p.0 ∙ append_assoc x first second in
     let split : bytes ++ more ≡ (first ++ second) ++ later =
-        ap (λ l. l ++ more) (sym (take-append-drop k bytes) ∙ ap (λ l. first ++ l) (sym p.1)) ∙ append_assoc first held more
-        ∙ ap (λ l. first ++ l) (sym (take-append-drop m (held ++ more)) ∙ ap (λ l. second ++ l) (sym q.1)) ∙ sym (append_assoc first second later) in
+    ap (λ l. l ++ more) (sym (take-append-drop k bytes) ∙ ap (λ l. first ++ l) (sym p.1)) ∙ append_assoc first held more
+    ∙ ap (λ l. first ++ l) (sym (take-append-drop m (held ++ more)) ∙ ap (λ l. second ++ l) (sym q.1)) ∙ sym (append_assoc first second later) in
     (front_is x z (first ++ second) later (bytes ++ more) grown split, rest_is x z (first ++ second) later (bytes ++ more) grown split)
 
 -- a front of the held bytes and more is a front of all
@@ -122,6 +122,17 @@ passes_then_front (Some x) (Some y) None held bytes more p q = absurd q
 passes_then_front (Some x) (Some y) (Some z) held bytes more p q =
     (passes_more (Some x) (Some y) (Some z) held bytes (drop (length z - length y) (held ++ more)) more p (q, refl)).0
 
+-- a front of the held bytes is a front of all
+pub passes_then_held : (a b c : Option (List ℕ)) (held bytes : List ℕ) → Passes a b held bytes → AppendsFront b c held → AppendsFront a c bytes
+passes_then_held a b c held bytes p q =
+    subst (AppendsFront a c) (append-nil bytes) (passes_then_front a b c held bytes [] p (subst (AppendsFront b c) (sym (append-nil held)) q))
+
+-- the held bytes are written, and so all are
+pub passes_then_all : (a b c : Option (List ℕ)) (held bytes : List ℕ) → Passes a b held bytes → Appends b c held → Appends a c bytes
+passes_then_all a b c held bytes p q =
+    passes_nothing_held a c [] bytes refl
+    (subst (Passes a c []) (append-nil bytes) (passes_more a b c held bytes [] [] p (subst (Passes b c []) (sym (append-nil held)) (passes_all b c held q))))
+
 -- a front is a front of more
 pub front_of_more : (a b : Option (List ℕ)) (bytes more : List ℕ) → AppendsFront a b bytes → AppendsFront a b (bytes ++ more)
 front_of_more None b bytes more p = tt
@@ -129,5 +140,5 @@ front_of_more (Some x) None bytes more p = absurd p
 front_of_more (Some x) (Some y) bytes more p =
     let k = length y - length x in
     let split : bytes ++ more ≡ take k bytes ++ (drop k bytes ++ more) =
-        ap (λ l. l ++ more) (sym (take-append-drop k bytes)) ∙ append_assoc (take k bytes) (drop k bytes) more in
+    ap (λ l. l ++ more) (sym (take-append-drop k bytes)) ∙ append_assoc (take k bytes) (drop k bytes) more in
     front_is x y (take k bytes) (drop k bytes ++ more) (bytes ++ more) p split

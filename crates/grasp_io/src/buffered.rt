@@ -9,7 +9,8 @@ use std::marker::Model;
 
 const CAPACITY: usize = 4096;
 
-/// Holds small pieces for a sink, and writes them in blocks. A contract sees the bytes that it holds.
+/// Holds small pieces for a sink, and writes them in blocks. A contract sees the bytes that it
+/// holds.
 ///
 /// Every call is to be given the same sink, and the last call is to be `flush`.
 #[derive(Drop)]
@@ -37,13 +38,16 @@ impl WriteBuffer {
         }
     }
 
-    /// Puts a piece behind what is held. Of the two together a front may be written, and the rest is held.
+    /// Puts a piece behind what is held. Of the two together a front may be written, and the rest
+    /// is held.
     ///
     /// After `Failed` the sink has taken a front of the two, and the buffer holds nothing.
     #[tactic(auto, using(crate::proofs::Streams::appends_then_front))]
     pub fn put<K: Sink>(&mut self, sink: &mut K, piece: &[u8]) -> Result<(), Failed>
-        ensures passed { OnOk result (Passes (K.written sink.old) (K.written sink.new) self.new (self.old ++ piece.now)) }
-        ensures front { OnErr result (AppendsFront (K.written sink.old) (K.written sink.new) (self.old ++ piece.now)) }
+        ensures passed { OnOk result (Passes (K.written sink.old) (K.written sink.new) self.new
+            (self.old ++ piece.now)) }
+        ensures front { AppendsFront (K.written sink.old) (K.written sink.new)
+            (self.old ++ piece.now) }
         ensures emptied { OnErr result (self.new ≡ []) }
         ensures fault { OnErr result (Rose (K.faults sink.old) (K.faults sink.new)) }
         ensures never_falls { K.faults sink.old ≤ K.faults sink.new }
@@ -63,7 +67,7 @@ impl WriteBuffer {
     /// After `Failed` the sink has taken a front of what was held.
     pub fn flush<K: Sink>(&mut self, sink: &mut K) -> Result<(), Failed>
         ensures written { OnOk result (Appends (K.written sink.old) (K.written sink.new) self.old) }
-        ensures front { OnErr result (AppendsFront (K.written sink.old) (K.written sink.new) self.old) }
+        ensures front { AppendsFront (K.written sink.old) (K.written sink.new) self.old }
         ensures emptied { self.new ≡ [] }
         ensures fault { OnErr result (Rose (K.faults sink.old) (K.faults sink.new)) }
         ensures never_falls { K.faults sink.old ≤ K.faults sink.new }

@@ -1,5 +1,6 @@
-//! Where bytes come from and where they go: sources and sinks, each a trait whose ghost members say what is left to
-//! read and what was written, where that is told, and how often the thing outside failed.
+//! Where bytes come from and where they go: sources and sinks, each a trait whose ghost members say
+//! what is left to read and what was written, where that is told, and how often the thing outside
+//! failed.
 #![tactic(auto)]
 
 mod buffered;

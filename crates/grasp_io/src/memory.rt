@@ -1,5 +1,5 @@
 // A source and a sink in memory, in pieces as small as wanted, with calls that fail.
-ghost use Rattle.std.specs.Prelude.{◌≡◌, ◌<◌, ◌≤◌, ◌+◌, ◌-◌, ◌^◌, min, [], length, take, drop, Some, IfOk, OnErr, is_err, IsErr, IsTrue};
+ghost use Rattle.std.specs.Prelude.{◌≡◌, ◌<◌, ◌≤◌, min, [], length, take, drop, Some, IfOk, OnErr, is_err, IsErr, IsTrue};
 ghost use Rattle.std.specs.Io.KnownBytes.{Consumes, Appends, Keeps};
 ghost use Rattle.grasp_io.specs.Faults.{Rose};
 ghost use Rattle.grasp_io.specs.Known.{EndsExactly};
@@ -22,7 +22,13 @@ pub struct MemSource<'a> {
 impl<'a> Model for MemSource<'a> {
     ghost Value = { SourceState };
 
-    ghost view = { λ s. record { left = s.left.now; most = s.most; failing = s.failing.now; calls = s.calls; faults = s.faults } };
+    ghost view = { λ s. record {
+      left = s.left.now;
+      most = s.most;
+      failing = s.failing.now;
+      calls = s.calls;
+      faults = s.faults;
+    } };
 
     ghost invariant = { λ s. 0 < s.most };
 }
@@ -30,7 +36,13 @@ impl<'a> Model for MemSource<'a> {
 impl<'a> MemSource<'a> {
     /// A source with this content, which gives as much as a call has room for and never fails.
     pub fn new(content: &'a [u8]) -> Self
-        ensures { result ≡ record { left = content.now; most = usize.MAX; failing = []; calls = 0; faults = 0 } }
+        ensures { result ≡ record {
+          left = content.now;
+          most = usize.MAX;
+          failing = [];
+          calls = 0;
+          faults = 0;
+        } }
     {
         MemSource {
             left: content,
@@ -67,14 +79,20 @@ impl Source for MemSource<'_> {
 
     fn read(&mut self, into: &mut [u8]) -> Result<usize, Failed>
         ensures count { IfOk result (λ n. n ≤ length into.new) }
-        ensures bytes { IfOk result (λ n. Consumes (Some self.old.left) (Some self.new.left) (take n into.new)) }
+        ensures bytes { IfOk result (λ n. Consumes (Some self.old.left) (Some self.new.left)
+            (take n into.new)) }
         ensures end { IfOk result (λ n. 0 < length into.new → EndsExactly (Some self.old.left) n) }
         ensures unchanged { OnErr result (Keeps (Some self.old.left) (Some self.new.left)) }
         ensures fault { OnErr result (Rose self.old.faults self.new.faults) }
         ensures never_falls { self.old.faults ≤ self.new.faults }
         ensures fails { is_err result ≡ next_fails self.old.failing self.old.calls }
-        ensures given { IfOk result (λ n. n ≡ min (min self.old.most (length into.old)) (length self.old.left)) }
-        ensures only { self.new ≡ record self.old { left = self.new.left; calls = one_more self.old.calls; faults = self.new.faults } }
+        ensures given { IfOk result (λ n. n ≡ min (min self.old.most (length into.old))
+            (length self.old.left)) }
+        ensures only { self.new ≡ record self.old {
+          left = self.new.left;
+          calls = one_more self.old.calls;
+          faults = self.new.faults;
+        } }
         ensures counted { IfOk result (λ _. self.new.faults ≡ self.old.faults) }
     {
         self.calls = self.calls.saturating_add(1);
@@ -103,13 +121,26 @@ pub struct MemSink<'a> {
 impl<'a> Model for MemSink<'a> {
     ghost Value = { SinkState };
 
-    ghost view = { λ s. record { written = s.written.items; most = s.most; failing = s.failing.now; calls = s.calls; faults = s.faults } };
+    ghost view = { λ s. record {
+      written = s.written.items;
+      most = s.most;
+      failing = s.failing.now;
+      calls = s.calls;
+      faults = s.faults;
+    } };
 }
 
 impl<'a> MemSink<'a> {
-    /// A sink to which nothing is written yet, which takes each piece whole and never fails but for want of memory.
+    /// A sink to which nothing is written yet, which takes each piece whole and never fails but for
+    /// want of memory.
     pub fn new(alloc: Global) -> Self
-        ensures { result ≡ record { written = []; most = usize.MAX; failing = []; calls = 0; faults = 0 } }
+        ensures { result ≡ record {
+          written = [];
+          most = usize.MAX;
+          failing = [];
+          calls = 0;
+          faults = 0;
+        } }
     {
         MemSink {
             written: Vec::new(alloc),
@@ -153,14 +184,20 @@ impl Sink for MemSink<'_> {
     // Where memory is wanted the write fails, as at a number that is to fail.
     fn write(&mut self, piece: &[u8]) -> Result<usize, Failed>
         ensures count { IfOk result (λ n. n ≤ length piece.now) }
-        ensures bytes { IfOk result (λ n. Appends (Some self.old.written) (Some self.new.written) (take n piece.now)) }
-        ensures nothing { IfOk result (λ n. n ≡ 0 → 0 < length piece.now → Rose self.old.faults self.new.faults) }
+        ensures bytes { IfOk result (λ n. Appends (Some self.old.written) (Some self.new.written)
+            (take n piece.now)) }
+        ensures nothing { IfOk result (λ n. n ≡ 0 → 0 < length piece.now →
+            Rose self.old.faults self.new.faults) }
         ensures unchanged { OnErr result (Keeps (Some self.old.written) (Some self.new.written)) }
         ensures fault { OnErr result (Rose self.old.faults self.new.faults) }
         ensures never_falls { self.old.faults ≤ self.new.faults }
         ensures fails { IsTrue (next_fails self.old.failing self.old.calls) → IsErr result }
         ensures taken { IfOk result (λ n. n ≡ min self.old.most (length piece.now)) }
-        ensures only { self.new ≡ record self.old { written = self.new.written; calls = one_more self.old.calls; faults = self.new.faults } }
+        ensures only { self.new ≡ record self.old {
+          written = self.new.written;
+          calls = one_more self.old.calls;
+          faults = self.new.faults;
+        } }
         ensures counted { IfOk result (λ n. 0 < n → self.new.faults ≡ self.old.faults) }
     {
         self.calls = self.calls.saturating_add(1);

@@ -16,8 +16,9 @@ pub trait Source {
     /// How often a read has failed. It never falls.
     ghost faults: { Self → ℕ };
 
-    /// Puts the next bytes at the front of `into`, and returns how many. For a slice that isn't empty 0 is the end of
-    /// the input. After `Failed` nothing was taken, and a later call may succeed.
+    /// Puts the next bytes at the front of `into`, and returns how many. For a slice that isn't
+    /// empty 0 is the end of the input. After `Failed` nothing was taken, and a later call may
+    /// succeed.
     fn read(&mut self, into: &mut [u8]) -> Result<usize, Failed>
         ensures count { IfOk result (λ n. n ≤ length into.new) }
         ensures bytes { IfOk result (λ n. Consumes (left self.old) (left self.new) (take n into.new)) }
@@ -58,13 +59,16 @@ const BLOCK: usize = 4096;
 
 /// Reads the source to its end. The content may have up to `limit` bytes.
 ///
-/// After an error some bytes are gone from the source: what is left is an end of what was left.
+/// `TooLarge` comes as soon as the first byte past the limit is read. After an error some bytes may
+/// be gone from the source: what is left is an end of what was left.
 pub fn read_all<S: Source>(alloc: Global, source: &mut S, limit: u64) -> Result<Vec<u8>, ReadError>
     ensures content { IfOk result (λ bytes. IfSome (S.left source.old) (λ all. bytes.items ≡ all)) }
     ensures end { IfOk result (λ _. IfSome (S.left source.old) (λ _. S.left source.new ≡ Some [])) }
     ensures within { IfOk result (λ bytes. vec_len bytes ≤ limit) }
-    ensures too_large { IsErrOf result ReadError.TooLarge → IfSome (S.left source.old) (λ rest. limit < length rest) }
-    ensures fault { IsErrOf result ReadError.Fault → Rose (S.faults source.old) (S.faults source.new) }
+    ensures too_large { IsErrOf result ReadError.TooLarge →
+        IfSome (S.left source.old) (λ all. limit < length all) }
+    ensures fault { IsErrOf result ReadError.Fault →
+        Rose (S.faults source.old) (S.faults source.new) }
     ensures never_falls { S.faults source.old ≤ S.faults source.new }
     ensures rest { IsEndOf (S.left source.old) (S.left source.new) }
 {

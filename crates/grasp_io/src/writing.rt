@@ -14,12 +14,14 @@ pub trait Sink {
     /// How often a write has failed, or taken nothing of a piece that isn't empty. It never falls.
     ghost faults: { Self → ℕ };
 
-    /// Takes bytes from the front of `piece`, and returns how many. After `Failed` none was taken, and a later call may
-    /// succeed. To take nothing of a piece that isn't empty is a fault too.
+    /// Takes bytes from the front of `piece`, and returns how many. After `Failed` none was taken,
+    /// and a later call may succeed. To take nothing of a piece that isn't empty is a fault too.
     fn write(&mut self, piece: &[u8]) -> Result<usize, Failed>
         ensures count { IfOk result (λ n. n ≤ length piece.now) }
-        ensures bytes { IfOk result (λ n. Appends (written self.old) (written self.new) (take n piece.now)) }
-        ensures nothing { IfOk result (λ n. n ≡ 0 → 0 < length piece.now → Rose (faults self.old) (faults self.new)) }
+        ensures bytes { IfOk result (λ n. Appends (written self.old) (written self.new)
+            (take n piece.now)) }
+        ensures nothing { IfOk result (λ n. n ≡ 0 → 0 < length piece.now →
+            Rose (faults self.old) (faults self.new)) }
         ensures unchanged { OnErr result (Keeps (written self.old) (written self.new)) }
         ensures fault { OnErr result (Rose (faults self.old) (faults self.new)) }
         ensures never_falls { faults self.old ≤ faults self.new };
@@ -27,10 +29,10 @@ pub trait Sink {
 
 /// Writes all the bytes, in as many calls as the sink wants.
 ///
-/// After `Failed` the sink has taken a front of them.
+/// After `Failed` the sink has taken a front of them. A sink that takes nothing is given up.
 pub fn write_all<K: Sink>(sink: &mut K, bytes: &[u8]) -> Result<(), Failed>
     ensures written { OnOk result (Appends (K.written sink.old) (K.written sink.new) bytes.now) }
-    ensures front { OnErr result (AppendsFront (K.written sink.old) (K.written sink.new) bytes.now) }
+    ensures front { AppendsFront (K.written sink.old) (K.written sink.new) bytes.now }
     ensures fault { OnErr result (Rose (K.faults sink.old) (K.faults sink.new)) }
     ensures never_falls { K.faults sink.old ≤ K.faults sink.new }
 {

@@ -1,4 +1,4 @@
-use Rattle.std.proofs.Common.{List, ◌++◌, take, drop, sym, ap, ◌∙◌, append_assoc, take-append-drop, arith, ◌≡◌, ◌≤◌}
+use Rattle.std.proofs.Common.{◌++◌, take, arith}
 use Rattle.std.proofs.KnownBytes.{Appends-trans}
 use Rattle.grasp_io.proofs.Streams.{goes_on}
 use Rattle.grasp_io.proofs.writing.write_all.Goals as goal
