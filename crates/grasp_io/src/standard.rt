@@ -1,0 +1,149 @@
+// The standard streams. No contract says which bytes they give or take.
+ghost use Rattle.std.specs.Prelude.{◌≡◌, ◌≤◌, length, None, IfOk, IfSome};
+
+use crate::{Failed, Sink, Source};
+use std::io::{ErrorKind, Read, Write};
+use std::rt::{Stdin, Stdout};
+
+/// Standard input. It tells no content.
+#[derive(Drop)]
+pub struct StdSource {
+    stdin: Stdin,
+    faults: u64,
+}
+
+impl StdSource {
+    /// Standard input, with no fault so far.
+    pub fn new(stdin: Stdin) -> Self
+        ensures { ⟦<StdSource as Source>⟧.faults result ≡ 0 }
+    {
+        StdSource { stdin, faults: 0 }
+    }
+}
+
+impl Source for StdSource {
+    ghost left = { λ _. None };
+
+    ghost faults = { λ s. s.faults };
+
+    fn read(&mut self, into: &mut [u8]) -> Result<usize, Failed> {
+        let given = read_some(&mut self.stdin, into);
+        if given.is_err() {
+            self.faults = self.faults.saturating_add(1);
+        }
+        given
+    }
+}
+
+/// Standard output. It tells no content.
+#[derive(Drop)]
+pub struct StdSink {
+    stdout: Stdout,
+    faults: u64,
+}
+
+impl StdSink {
+    /// Standard output, with no fault so far.
+    pub fn new(stdout: Stdout) -> Self
+        ensures { ⟦<StdSink as Sink>⟧.faults result ≡ 0 }
+    {
+        StdSink { stdout, faults: 0 }
+    }
+}
+
+impl Sink for StdSink {
+    ghost written = { λ _. None };
+
+    ghost faults = { λ s. s.faults };
+
+    fn write(&mut self, piece: &[u8]) -> Result<usize, Failed> {
+        let taken = write_some(&mut self.stdout, piece);
+        if taken.is_err() || taken == Ok(0) {
+            self.faults = self.faults.saturating_add(1);
+        }
+        taken
+    }
+}
+
+// One read. A read that a signal interrupted is made again.
+fn read_some<R: Read>(reader: &mut R, into: &mut [u8]) -> Result<usize, Failed>
+    ensures { IfOk result (λ n. n ≤ length into.new) }
+{
+    for _ in 0..u64::MAX {
+        match reader.read(into) {
+            Ok(given) => return Ok(given),
+            Err(error) => {
+                if error.kind() != ErrorKind::Interrupted {
+                    return Err(Failed);
+                }
+            }
+        }
+    }
+    Err(Failed)
+}
+
+// One write. A write that a signal interrupted is made again.
+fn write_some<W: Write>(writer: &mut W, piece: &[u8]) -> Result<usize, Failed>
+    ensures { IfOk result (λ n. n ≤ length piece.now) }
+{
+    for _ in 0..u64::MAX {
+        match writer.write(piece) {
+            Ok(taken) => return Ok(taken),
+            Err(error) => {
+                if error.kind() != ErrorKind::Interrupted {
+                    return Err(Failed);
+                }
+            }
+        }
+    }
+    Err(Failed)
+}
+
+#[cfg(test)]
+mod tests {
+    use super::*;
+    use std::io;
+
+    // A stream whose first call a signal interrupts, and whose third fails.
+    #[derive(Drop)]
+    struct Unsteady(u8);
+
+    impl Unsteady {
+        fn turn(&mut self, len: usize) -> io::Result<usize>
+            ensures { IfOk result (λ n. n ≤ len) }
+        {
+            self.0 = self.0.saturating_add(1);
+            match self.0 {
+                1 => Err(io::Error::from(ErrorKind::Interrupted)),
+                3 => Err(io::Error::from(ErrorKind::BrokenPipe)),
+                _ => Ok(len),
+            }
+        }
+    }
+
+    impl Read for Unsteady {
+        fn read(&mut self, buf: &mut [u8]) -> io::Result<usize> {
+            self.turn(buf.len())
+        }
+    }
+
+    impl Write for Unsteady {
+        fn write(&mut self, buf: &[u8]) -> io::Result<usize> {
+            self.turn(buf.len())
+        }
+
+        fn flush(&mut self) -> io::Result<()> {
+            Ok(())
+        }
+    }
+
+    #[test]
+    fn an_interrupted_call_is_made_again(rt: HostRuntime) {
+        let mut stream = Unsteady(0);
+        assert_eq!(rt; read_some(&mut stream, &mut [0; 3]), Ok(3));
+        assert_eq!(rt; read_some(&mut stream, &mut [0; 3]), Err(Failed));
+        let mut stream = Unsteady(0);
+        assert_eq!(rt; write_some(&mut stream, b"abc"), Ok(3));
+        assert_eq!(rt; write_some(&mut stream, b"abc"), Err(Failed));
+    }
+}
