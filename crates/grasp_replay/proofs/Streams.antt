@@ -28,14 +28,14 @@ all_more (n ∷ ms) m all one = (all.0, all_more ms m all.1 one)
 pub none_shown : (limit : ℕ) (input : List ℕ) → HasShown limit input input []
 none_shown limit input = record { messages = []; front = []; stream = record { plain = tt; joined = refl }; told = refl; parts = refl }
 
-pub more_shown : (limit : ℕ) (input rest lines more : List ℕ) (m : Message) (n : ℕ) → HasShown limit input rest lines → IsPlainMessage m → IsWireForm m (take n rest) limit
-    → more ≡ lines ++ line_of m ++ 10 ∷ [] → HasShown limit input (drop n rest) more
-more_shown limit input rest lines more m n h plain form e = record {
+pub more_shown : (limit : ℕ) (input rest after lines more : List ℕ) (m : Message) (n : ℕ) → HasShown limit input rest lines → IsPlainMessage m → IsWireForm m (take n rest) limit
+    → after ≡ drop n rest → more ≡ lines ++ line_of m ++ 10 ∷ [] → HasShown limit input after more
+more_shown limit input rest after lines more m n h plain form is_after e = record {
   messages = h.messages ++ m ∷ [];
   front = h.front ++ take n rest;
   stream = record { plain = all_more h.messages m h.stream.plain plain; joined = joined_more limit h.messages m h.front (take n rest) h.stream.joined form };
   told = e ∙ append_assoc lines (line_of m) (10 ∷ []) ∙ ap (λ ls. ls ++ (line_of m ++ 10 ∷ [])) h.told ∙ sym (lines_of-append h.messages (m ∷ []));
-  parts = h.parts ∙ ap (λ r. h.front ++ r) (sym (take-append-drop n rest)) ∙ sym (append_assoc h.front (take n rest) (drop n rest)) }
+  parts = h.parts ∙ ap (λ r. h.front ++ r) (sym (take-append-drop n rest)) ∙ sym (append_assoc h.front (take n rest) (drop n rest)) ∙ ap (λ r. (h.front ++ take n rest) ++ r) (sym is_after) }
 
 pub all_shown : (limit : ℕ) (input rest lines : List ℕ) → length rest ≡ 0 → HasShown limit input rest lines → ShowsAll limit input lines
 all_shown limit input [] lines none h =
@@ -43,11 +43,11 @@ all_shown limit input [] lines none h =
     record { messages = h.messages; stream = record { plain = h.stream.plain; joined = subst (λ (x : List ℕ). AreWireForms h.messages x limit) whole h.stream.joined }; told = h.told }
 all_shown limit input (b ∷ rest) lines none h = absurd (omega arith)
 
-pub rest_is_stream : (limit : ℕ) (rest : List ℕ) (m : Message) (n : ℕ) → IsWireForm m (take n rest) limit → IsStream limit rest → IsStream limit (drop n rest)
-rest_is_stream limit rest m n form s =
+pub rest_is_stream : (limit : ℕ) (rest after : List ℕ) (m : Message) (n : ℕ) → IsWireForm m (take n rest) limit → after ≡ drop n rest → IsStream limit rest → IsStream limit after
+rest_is_stream limit rest after m n form is_after s =
     let j = joined_rest limit s.0 m n rest s.1.joined form in
     let plain : AllByRecursion IsPlainMessage (j.0 ∷ j.1) = subst (AllByRecursion IsPlainMessage) j.2 s.1.plain in
-    (j.1, record { plain = plain.1; joined = j.3 })
+    (j.1, record { plain = plain.1; joined = subst (λ (x : List ℕ). AreWireForms j.1 x limit) (sym is_after) j.3 })
 
 begins : (limit : ℕ) (ms : List Message) (rest : List ℕ) → 0 < length rest → AllByRecursion IsPlainMessage ms → AreWireForms ms rest limit
     → (m : Message) × (n : ℕ) × (n ≤ length rest) × IsPlainMessage m × IsWireForm m (take n rest) limit

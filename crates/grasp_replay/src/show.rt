@@ -59,7 +59,8 @@ fn lines_of_stream(alloc: Global, input: &[u8]) -> Result<Option<Vec<u8>>, OutOf
             return Ok(None);
         };
         push_line(&mut lines, &message)?;
-        rest = &rest[used as usize..];
+        let (_, after) = rest.split_at(used as usize);
+        rest = after;
     }
     Ok(Some(lines))
 }

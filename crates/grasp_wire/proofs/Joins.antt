@@ -1,20 +1,19 @@
 -- Wire forms, one after the other.
-use Rattle.std.proofs.Common.{◌≡◌, ◌<◌, ◌≤◌, ℕ, List, [], ◌∷◌, ◌++◌, take, drop, take-append-drop, append-nil, append_assoc, subst, length, rules, sym, refl, ◌∙◌, ap, arith}
+use Rattle.std.proofs.Common.{◌≡◌, ◌<◌, ◌≤◌, ℕ, List, [], ◌∷◌, ◌++◌, take, drop, take-append-drop, append-nil, append_assoc, subst, length, true, rules, sym, refl, ◌∙◌, ap, arith}
 use Rattle.std.proofs.lemmas.List.{length-take-le, length-take, append_cancel_left}
-use Rattle.grasp_cbor.specs.DataItem.{DataItem}
-use Rattle.grasp_cbor.specs.Encodes.{Encodes, IsPlain}
+use Rattle.grasp_cbor.specs.DataItem.{DataItem, unsigned}
+use Rattle.grasp_cbor.specs.Encodes.{Encodes}
+use Rattle.grasp_cbor.specs.Head.{direct}
+use Rattle.grasp_cbor.specs.Plain.{is_plain}
+use Rattle.grasp_cbor.proofs.Whole.{one_encodes}
 use Rattle.grasp_types.specs.Message.{item_of, IsMessage}
 use Rattle.grasp_types.specs.declared.message.Message.{Message}
 use Rattle.grasp_types.specs.declared.message.Message.TheVariants.{Noop, Wait, Discovery, Response, ReqNeg, ReqSyn, Negotiate, End, Synch, Flood, Invalid}
 use Rattle.grasp_wire.specs.Wire.{IsWireForm, AreWireForms}
 use Rattle.grasp_wire.specs.Plain.{IsPlainMessage}
 
--- stands in for the law of encodings
-pub one_encoding : (t u : DataItem) (s w x y : List ℕ) → Encodes t s → Encodes u w → s ++ x ≡ w ++ y → (t ≡ u) × (s ≡ w)
-one_encoding t u s w x y a b e = absurd a.none
-
 -- the item of a plain message is made of numbers and arrays
-pub plain_item : (m : Message) → IsPlainMessage m → IsPlain (item_of m)
+pub plain_item : (m : Message) → IsPlainMessage m → is_plain (item_of m) ≡ true
 plain_item Noop p = search rules
 plain_item (Wait s t) p = search rules
 plain_item (Discovery a b c) p = absurd p
@@ -29,14 +28,18 @@ plain_item (Invalid a b) p = absurd p
 
 -- two fronts of one text that encode items are one
 pub one_front : (t u : DataItem) (k n : ℕ) (s : List ℕ) → Encodes t (take k s) → Encodes u (take n s) → (t ≡ u) × (take k s ≡ take n s)
-one_front t u k n s a b = one_encoding t u (take k s) (take n s) (drop k s) (drop n s) a b (take-append-drop k s ∙ sym (take-append-drop n s))
+one_front t u k n s a b = one_encodes t u (take k s) (take n s) (drop k s) (drop n s) a b (take-append-drop k s ∙ sym (take-append-drop n s))
 
 pub front_within : (n : ℕ) (s : List ℕ) (limit : ℕ) → n ≤ length s → length (take n s) ≤ limit → n ≤ limit
 front_within n s limit within fits = omega (arith, length-take-le n s within)
 
--- stands in
+-- an encoding has bytes: that of 0 would follow no bytes
 pub no_bytes : (t : DataItem) (s : List ℕ) → Encodes t s → 0 < length s
-no_bytes t s a = absurd a.none
+no_bytes t [] p =
+    let zero : Encodes (unsigned 0) (0 ∷ []) = record { encoding = (direct, omega arith, refl); within = omega arith } in
+    let same = one_encodes t (unsigned 0) [] (0 ∷ []) (0 ∷ []) [] p zero refl in
+    absurd (cc same.1)
+no_bytes t (b ∷ s) p = omega arith
 
 -- one more
 pub joined_more : (limit : ℕ) (ms : List Message) (m : Message) (s front : List ℕ) → AreWireForms ms s limit → IsWireForm m front limit → AreWireForms (ms ++ m ∷ []) (s ++ front) limit
@@ -58,5 +61,5 @@ pub joined_rest : (limit : ℕ) (ms : List Message) (m : Message) (n : ℕ) (s :
     → (first : Message) × (others : List Message) × (ms ≡ first ∷ others) × AreWireForms others (drop n s) limit
 joined_rest limit [] m n s joined form = absurd (omega (arith, (some_bytes limit m n s form).1, ap length joined))
 joined_rest limit (first ∷ others) m n s j form =
-    let same = one_encoding (item_of m) (item_of first) (take n s) j.0 (drop n s) j.1 form.encodes j.2.encodes (take-append-drop n s ∙ j.4) in
+    let same = one_encodes (item_of m) (item_of first) (take n s) j.0 (drop n s) j.1 form.encodes j.2.encodes (take-append-drop n s ∙ j.4) in
     (first, others, refl, subst (λ (x : List ℕ). AreWireForms others x limit) (same_rest n s j.0 j.1 j.4 same.1) j.3)
