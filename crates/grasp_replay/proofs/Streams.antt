@@ -35,7 +35,8 @@ more_shown limit input rest after lines more m n h plain form is_after e = recor
   front = h.front ++ take n rest;
   stream = record { plain = all_more h.messages m h.stream.plain plain; joined = joined_more limit h.messages m h.front (take n rest) h.stream.joined form };
   told = e ∙ append_assoc lines (line_of m) (10 ∷ []) ∙ ap (λ ls. ls ++ (line_of m ++ 10 ∷ [])) h.told ∙ sym (lines_of-append h.messages (m ∷ []));
-  parts = h.parts ∙ ap (λ r. h.front ++ r) (sym (take-append-drop n rest)) ∙ sym (append_assoc h.front (take n rest) (drop n rest)) ∙ ap (λ r. (h.front ++ take n rest) ++ r) (sym is_after) }
+  parts = h.parts ∙ ap (λ r. h.front ++ r) (sym (take-append-drop n rest)) ∙ sym (append_assoc h.front (take n rest) (drop n rest)) ∙ ap (λ r. (h.front ++ take n rest) ++ r) (sym is_after);
+}
 
 pub all_shown : (limit : ℕ) (input rest lines : List ℕ) → length rest ≡ 0 → HasShown limit input rest lines → ShowsAll limit input lines
 all_shown limit input [] lines none h =

@@ -1,7 +1,7 @@
 // The line of a message.
 ghost use Rattle.std.specs.Prelude.{◌≡◌, [], ◌∷◌, ◌++◌, OnOk, decimal};
 ghost use Rattle.grasp_wire.specs.Plain.{IsPlainMessage};
-ghost use Rattle.grasp_replay.specs.Line.{line_of};
+ghost use Rattle.grasp_replay.specs.Line.{line_of, spaced};
 
 use grasp_cbor::OutOfMemory;
 use grasp_types::Message;
@@ -15,10 +15,9 @@ pub fn push_line(text: &mut Vec<u8>, message: &Message) -> Result<(), OutOfMemor
     match message {
         Message::Noop => text.extend_from_slice(b"noop")?,
         Message::Wait { session, millis } => {
-            text.extend_from_slice(b"wait ")?;
-            push_decimal(text, *session)?;
-            text.push(b' ')?;
-            push_decimal(text, *millis)?;
+            text.extend_from_slice(b"wait")?;
+            push_number(text, *session)?;
+            push_number(text, *millis)?;
         }
         _ => unreachable!(),
     }
@@ -26,10 +25,12 @@ pub fn push_line(text: &mut Vec<u8>, message: &Message) -> Result<(), OutOfMemor
     Ok(())
 }
 
-fn push_decimal(text: &mut Vec<u8>, number: u32) -> Result<(), OutOfMemory>
-    ensures { OnOk result (text.new.items ≡ text.old.items ++ decimal number) }
+// Adds a blank and the number's digits.
+fn push_number(text: &mut Vec<u8>, number: u32) -> Result<(), OutOfMemory>
+    ensures { OnOk result (text.new.items ≡ text.old.items ++ spaced (decimal number ∷ [])) }
 {
     let mut buffer = Buffer::new();
+    text.push(b' ')?;
     text.extend_from_slice(buffer.format(number).as_bytes())?;
     Ok(())
 }

@@ -6,6 +6,8 @@ mod line;
 mod replay;
 mod show;
 mod start;
+#[cfg(test)]
+mod tests;
 
 use exit::{Status, fault_line};
 use grasp_io::{StdSink, StdSource};

@@ -83,17 +83,22 @@ plain_found [] m h = absurd (cc)
 plain_found (t ∷ []) m h =
     let kind = some_bind (number_in t) _ m h in
     elim (chosen (kind.0 == 0) (Some Noop) None (Some m) kind.2) [
-      inl p ↦ noop_found t m kind.0 (number_found t kind.0 kind.1) (test_is kind.0 0 p.0) p.1
-    | inr p ↦ absurd (cc p.1) ]
+      | inl p ↦ noop_found t m kind.0 (number_found t kind.0 kind.1) (test_is kind.0 0 p.0) p.1
+      | inr p ↦ absurd (cc p.1)
+    ]
 plain_found (t ∷ u ∷ []) m h = let kind = some_bind (number_in t) _ m h in absurd (cc kind.2)
 plain_found (t ∷ u ∷ v ∷ []) m h =
     let kind = some_bind (number_in t) _ m h in
     elim (chosen (kind.0 == 7) (wait_in (t ∷ u ∷ v ∷ [])) None (Some m) kind.2) [
-      inl p ↦ wait_found t u v m (number_found t kind.0 kind.1 ∙ ap unsigned (test_is kind.0 7 p.0)) p.1
-    | inr p ↦ absurd (cc p.1) ]
-plain_found (t ∷ u ∷ v ∷ w ∷ ws) m h = let kind = some_bind (number_in t) _ m h in 
-    absurd (cc (kind.2, neither (length (t ∷ u ∷ v ∷ w ∷ ws) == 1) (kind.0 == 0) (length (t ∷ u ∷ v ∷ w ∷ ws) == 3) (kind.0 == 7) (Some Noop) (wait_in (t ∷ u ∷ v ∷ w ∷ ws)) None
-        (is_not _ 1 (omega arith)) (is_not _ 3 (omega arith))))
+      | inl p ↦ wait_found t u v m (number_found t kind.0 kind.1 ∙ ap unsigned (test_is kind.0 7 p.0)) p.1
+      | inr p ↦ absurd (cc p.1)
+    ]
+plain_found (t ∷ u ∷ v ∷ w ∷ ws) m h = let kind = some_bind (number_in t) _ m h in
+    absurd (cc (
+      kind.2,
+      neither (length (t ∷ u ∷ v ∷ w ∷ ws) == 1) (kind.0 == 0) (length (t ∷ u ∷ v ∷ w ∷ ws) == 3) (kind.0 == 7) (Some Noop) (wait_in (t ∷ u ∷ v ∷ w ∷ ws)) None
+          (is_not _ 1 (omega arith)) (is_not _ 3 (omega arith)),
+    ))
 
 -- what is the item of such a message is read
 pub plain_again : (parts : List DataItem) (m : Message) → IsPlainMessage m → IsMessage m → array_of parts ≡ item_of m → plain_in parts ≡ Some m
