@@ -5,7 +5,8 @@ use Rattle.std.proofs.lemmas.Bool.{cases_lt, cases_order}
 use Rattle.grasp_cbor.specs.Step.{name_of}
 use Rattle.grasp_cbor.specs.declared.walker.FaultName.{FaultName}
 use Rattle.grasp_cbor.proofs.HeadBytes.{AllBytes-append, AllBytes-drop, AllBytes-take, AllBytes-at}
-use Rattle.grasp_cbor.specs.CanGoOn.{AllBytes, IsItem, CanGoOnWithin}
+use Rattle.grasp_cbor.specs.Bytes.{AllBytes}
+use Rattle.grasp_cbor.specs.CanGoOn.{IsItem, CanGoOnWithin}
 use Rattle.grasp_cbor.specs.Front.{Spot, Front}
 use Rattle.grasp_cbor.specs.DataItem.{DataItem}
 use Rattle.grasp_cbor.specs.Encodes.{Encodes}

@@ -10,7 +10,8 @@ use Rattle.grasp_cbor.specs.declared.heads.Major.TheVariants.{Unsigned, Negative
 use Rattle.grasp_cbor.specs.Stands.{info_of}
 use Rattle.grasp_cbor.proofs.Majors.{major_number-below}
 use Rattle.grasp_cbor.proofs.HeadBytes.{head_is, tail_bytes, AllBytes-append, AllBytes-back, zeros}
-use Rattle.grasp_cbor.specs.CanGoOn.{AllBytes, IsItem, CanGoOnWithin, AreItems, joined}
+use Rattle.grasp_cbor.specs.Bytes.{AllBytes}
+use Rattle.grasp_cbor.specs.CanGoOn.{IsItem, CanGoOnWithin, AreItems, joined}
 use Rattle.grasp_cbor.specs.Utf8.{can_end, CanEnd}
 use Rattle.grasp_cbor.specs.Front.{Body, nothing, some_bytes, some_text, some_parts, body_of, IsSimpleHead, IsFine, IsHeadOf, HasParts, Inside, HasRoom, Spot, starts, after_simple, in_text, elsewhere, IsCutHead, IsCutString, IsCut, at_start, at_simple, at_head, at_bytes, at_text, Front}
 use Rattle.grasp_cbor.proofs.Shapes.{Fills, IsRow, headed, item_of}

@@ -8,7 +8,8 @@ use Rattle.grasp_cbor.proofs.Same.{same_head}
 use Rattle.grasp_cbor.specs.declared.heads.Major.{Major}
 use Rattle.grasp_cbor.specs.declared.heads.Major.TheVariants.{Unsigned, Negative, ByteString, TextString, Array, Map, Tag, Simple}
 use Rattle.grasp_cbor.proofs.HeadBytes.{AllBytes-append}
-use Rattle.grasp_cbor.specs.CanGoOn.{AllBytes, IsItem, AreItems, joined}
+use Rattle.grasp_cbor.specs.Bytes.{AllBytes}
+use Rattle.grasp_cbor.specs.CanGoOn.{IsItem, AreItems, joined}
 use Rattle.grasp_cbor.specs.Front.{Body, some_parts, body_of, IsHeadOf, Inside}
 use Rattle.grasp_cbor.proofs.Shapes.{Fills, IsRow, headed, item_of}
 

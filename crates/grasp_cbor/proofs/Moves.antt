@@ -11,7 +11,8 @@ use Rattle.grasp_cbor.specs.declared.heads.Major.{Major}
 use Rattle.grasp_cbor.specs.declared.heads.Major.TheVariants.{Unsigned, Negative, ByteString, TextString, Array, Map, Tag, Simple}
 use Rattle.grasp_cbor.specs.declared.walker.Stage.{Stage}
 use Rattle.grasp_cbor.specs.declared.walker.Stage.TheVariants.{Beginning, Heading, InBytes, InText}
-use Rattle.grasp_cbor.specs.CanGoOn.{AllBytes, IsItem, joined}
+use Rattle.grasp_cbor.specs.Bytes.{AllBytes}
+use Rattle.grasp_cbor.specs.CanGoOn.{IsItem, joined}
 use Rattle.grasp_cbor.specs.Utf8.{ready, owed_after, owed_of, owes_within, can_end}
 use Rattle.grasp_cbor.specs.Front.{some_parts, body_of, IsFine, IsHeadOf, HasParts, Inside, Spot, starts, after_simple, in_text, elsewhere, IsCutString, start_name}
 use Rattle.grasp_cbor.specs.Step.{Move, goes, whole, bad, finished, after_head, width_of, heads, started, is_simple, shifted, texts, step, name_of}

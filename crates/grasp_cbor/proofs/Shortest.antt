@@ -26,7 +26,7 @@ mutual
   pub IsEncoding-shortest : (t : DataItem) → IsEncodable t → IsEncoding t (shortest t)
   IsEncoding-shortest (unsigned n) h = IsHead-shortest_head 0 n h
   IsEncoding-shortest (negative n) h = IsHead-shortest_head 1 n h
-  IsEncoding-shortest (byte_string bs) h = (shortest_head 2 (length bs), IsHead-shortest_head 2 (length bs) h, refl)
+  IsEncoding-shortest (byte_string bs) h = (shortest_head 2 (length bs), IsHead-shortest_head 2 (length bs) h.0, refl)
   IsEncoding-shortest (text_string bs) h = (shortest_head 3 (length bs), IsHead-shortest_head 3 (length bs) h.0, h.1, refl)
   IsEncoding-shortest (array ts) h = (shortest_head 4 _, shortest_items ts, IsHead-shortest_head 4 _ h.0, AreEncodings-shortest ts h.1, refl)
   IsEncoding-shortest (mapping es) h = (shortest_head 5 _, shortest_pairs es, IsHead-shortest_head 5 _ h.0, ArePairEncodings-shortest es h.1, refl)

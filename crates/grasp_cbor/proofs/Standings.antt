@@ -10,7 +10,8 @@ use Rattle.grasp_cbor.specs.declared.heads.Major.{Major}
 use Rattle.grasp_cbor.specs.declared.heads.Major.TheVariants.{Unsigned, Negative, ByteString, TextString, Array, Map, Tag, Simple}
 use Rattle.grasp_cbor.specs.declared.walker.Stage.{Stage}
 use Rattle.grasp_cbor.specs.declared.walker.Stage.TheVariants.{Beginning, Heading, InBytes, InText}
-use Rattle.grasp_cbor.specs.CanGoOn.{AllBytes, IsItem, CanGoOnWithin}
+use Rattle.grasp_cbor.specs.Bytes.{AllBytes}
+use Rattle.grasp_cbor.specs.CanGoOn.{IsItem, CanGoOnWithin}
 use Rattle.grasp_cbor.specs.Utf8.{ready, owed_of, owes_within, can_end}
 use Rattle.grasp_cbor.specs.Front.{body_of, HasRoom, Spot, after_simple, in_text, elsewhere, IsCutHead, IsCut, at_start, at_simple, at_head, at_bytes, at_text, Front, IsNamed}
 use Rattle.grasp_cbor.specs.Step.{Move, goes, whole, bad, is_simple, step, name_of}

@@ -5,7 +5,7 @@ use Rattle.std.specs.Str.{IsUtf8}
 use Rattle.std.proofs.lemmas.Str.{IsUtf8-append, IsUtf8-nil, IsUtf8-encode}
 use Rattle.std.proofs.lemmas.Bool.{cases_lt, cases_eq, lt-ltb, le-ltb, le-leb, leb-true, eq-eqb, ne_eqb, and_parts}
 use Rattle.grasp_cbor.specs.declared.utf8.Owed.{Owed}
-use Rattle.grasp_cbor.specs.CanGoOn.{AllBytes}
+use Rattle.grasp_cbor.specs.Bytes.{AllBytes}
 use Rattle.grasp_cbor.proofs.HeadBytes.{AllBytes-append}
 use Rattle.grasp_cbor.specs.Utf8.{owing, ready, lead, owed_after, owed_of, owes_within, can_end, CanEnd}
 

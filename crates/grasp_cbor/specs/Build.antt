@@ -1,4 +1,5 @@
--- Making an item of bytes from left to right, as a function: the item and the bytes after it, or none.
+-- Making an item of bytes from left to right, as a function: the item and the bytes after it, or none. Only private calls
+-- cite it, between the code and its meaning, `IsBuilt`.
 use Rattle.std.specs.Prelude.{◌≡◌, ℕ, zero, suc, ◌/◌, ◌%◌, ◌++◌, List, [], ◌∷◌, length, take, drop, Option, Some, None, Result, Ok, Err, nat_lt, ◌==◌, if◌then◌else◌}
 use Rattle.std.specs.Int.{Width, w16, w32, w64, byte_len, from_be_bytes}
 use Rattle.std.specs.Str.{is_utf8}

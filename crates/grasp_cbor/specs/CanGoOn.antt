@@ -1,5 +1,6 @@
 -- Which bytes are an item, and which can go on to one.
-use Rattle.std.specs.Prelude.{ℕ, ◌<◌, ◌≤◌, List, [], ◌∷◌, ◌++◌}
+use Rattle.std.specs.Prelude.{ℕ, ◌≤◌, List, [], ◌∷◌, ◌++◌}
+use Rattle.grasp_cbor.specs.Bytes.{AllBytes}
 use Rattle.grasp_cbor.specs.DataItem.{DataItem, depth_of}
 use Rattle.grasp_cbor.specs.Encodes.{IsEncoding}
 
@@ -8,11 +9,6 @@ pub record IsItem (depth : ℕ) (s : List ℕ) : Type 0 where
   pub item : DataItem
   pub encoding : IsEncoding item s
   pub within : depth_of item ≤ depth
-
--- each is a byte
-abbrev pub AllBytes : List ℕ → Type 0
-AllBytes [] = Unit {0}
-AllBytes (b ∷ bs) = (b < 256) × AllBytes bs
 
 -- some bytes that aren't empty complete these to an item that nests so deep at most
 abbrev pub CanGoOnWithin : ℕ → List ℕ → Type 0

@@ -45,7 +45,8 @@ abbrev pub mapping_of : List (DataItem × DataItem) → DataItem
 mapping_of es = mapping (data_pairs es)
 
 abbrev mutual
-  -- how deep an item nests: 0 without parts, otherwise 1 plus the greatest depth of its parts
+  -- how deep an item nests: 0 for a number, string, simple value or float; otherwise 1 plus the greatest depth of its parts,
+  -- which is 1 for an empty array or map
   pub depth_of : DataItem → ℕ
   depth_of (unsigned n) = 0
   depth_of (negative n) = 0

@@ -1,4 +1,4 @@
--- Which bytes encode a data item (RFC 8949, section 3).
+-- Which bytes encode a data item, every length being definite (RFC 8949, section 3).
 use Rattle.std.specs.Prelude.{◌≡◌, ℕ, ◌^◌, ◌<◌, ◌≤◌, ◌∷◌, List, [], ◌++◌, length}
 use Rattle.std.specs.Int.{w16, w32, w64, to_be_bytes}
 use Rattle.std.specs.Str.{IsUtf8}

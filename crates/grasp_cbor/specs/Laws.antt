@@ -5,14 +5,19 @@ use Rattle.grasp_cbor.specs.DataItem.{DataItem, depth_of}
 use Rattle.grasp_cbor.specs.Encodable.{IsEncodable}
 use Rattle.grasp_cbor.specs.Encodes.{Encodes}
 use Rattle.grasp_cbor.specs.Shortest.{shortest}
-use Rattle.grasp_cbor.specs.CanGoOn.{AllBytes, IsItem, CanGoOn}
+use Rattle.grasp_cbor.specs.Bytes.{AllBytes}
+use Rattle.grasp_cbor.specs.CanGoOn.{IsItem, CanGoOn}
 use Rattle.grasp_cbor.specs.Front.{Spot, Front, IsNamed}
 use Rattle.grasp_cbor.specs.FaultAt.{FaultAt}
 use Rattle.grasp_cbor.specs.Ending.{Ending, IsEnding}
 
--- the shortest encoding of an item is one of its encodings
+-- the shortest encoding of an item is one of its encodings, where its numbers are in range and it nests at most 16 deep
 abbrev pub ShortestEncodes : Type 0
 ShortestEncodes = (item : DataItem) → IsEncodable item → depth_of item ≤ 16 → Encodes item (shortest item)
+
+-- what bytes encode has its numbers in range
+abbrev pub EncodedAreEncodable : Type 0
+EncodedAreEncodable = (item : DataItem) (bytes : List ℕ) → AllBytes bytes → Encodes item bytes → IsEncodable item
 
 -- bytes encode at most one item, and no encoding begins another
 abbrev pub EncodingsAreApart : Type 0

@@ -1,5 +1,6 @@
 pub mod Build
 pub mod Built
+pub mod Bytes
 pub mod CanGoOn
 pub mod DataItem
 pub mod DataItemCode

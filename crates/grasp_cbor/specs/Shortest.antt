@@ -1,4 +1,5 @@
--- The shortest encoding of a data item (RFC 8949, section 4.2.1): each head has the least size.
+-- The shortest encoding of a data item (RFC 8949, section 4.2.1): each head has the least size. Pairs keep their order, and
+-- keys may repeat.
 use Rattle.std.specs.Prelude.{ℕ, ◌∷◌, List, [], ◌++◌, length}
 use Rattle.std.specs.Int.{w16, w32, w64, to_be_bytes}
 use Rattle.grasp_cbor.specs.DataItem.{DataItem, DataItems, DataPairs, unsigned, negative, byte_string, text_string, array, mapping, tagged, simple_value, half_float, single_float, double_float, no_items, item_and, no_pairs, pair_and, item_count, pair_count}

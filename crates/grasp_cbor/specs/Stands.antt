@@ -4,7 +4,7 @@ use Rattle.grasp_cbor.specs.Head.{HeadSize, direct, one_byte, two_bytes, four_by
 use Rattle.grasp_cbor.specs.Utf8.{ready, owed_of}
 use Rattle.grasp_cbor.specs.Major.{major_number}
 use Rattle.grasp_cbor.specs.Front.{Inside, IsCutString, Spot, starts, after_simple, in_text, elsewhere}
-use Rattle.grasp_cbor.specs.CanGoOn.{AllBytes}
+use Rattle.grasp_cbor.specs.Bytes.{AllBytes}
 use Rattle.grasp_cbor.specs.Step.{is_simple}
 use Rattle.grasp_cbor.specs.declared.utf8.Owed.{Owed}
 use Rattle.grasp_cbor.specs.declared.heads.Major.{Major}

@@ -1,20 +1,24 @@
-//! Writing items in their shortest encoding (RFC 8949, section 4.2.1).
+//! Writing items in their shortest encoding: each head has the least width (RFC 8949, section 4.2.1), a float keeps its
+//! width, and pairs keep their order.
 
 ghost use Rattle.std.specs.Prelude.{◌≡◌, ℕ, ◌<◌, ◌≤◌, List, ◌++◌, OnOk, OnErr};
+ghost use Rattle.grasp_cbor.specs.Bytes.{AllBytes};
 ghost use Rattle.grasp_cbor.specs.DataItem.{depth_of, data_items, data_pairs};
 ghost use Rattle.grasp_cbor.specs.Item.{data_item_of, items_of, pairs_of, float_of};
 ghost use Rattle.grasp_cbor.specs.Encodable.{IsEncodable, AreEncodable, ArePairsEncodable};
 ghost use Rattle.grasp_cbor.specs.Encodes.{Encodes};
 ghost use Rattle.grasp_cbor.specs.Extends.{Extends};
 ghost use Rattle.grasp_cbor.specs.Head.{shortest_head, simple_head};
-ghost use Rattle.grasp_cbor.specs.Laws.{ShortestEncodes};
+ghost use Rattle.grasp_cbor.specs.Laws.{ShortestEncodes, EncodedAreEncodable};
 ghost use Rattle.grasp_cbor.specs.Shortest.{shortest, shortest_items, shortest_pairs};
 
 use crate::{FloatBits, Item, Items, OutOfMemory, Pairs};
 
-/// The shortest encoding of an item is one of its encodings, where its numbers are in range.
+/// The shortest encoding of an item is one of its encodings, where its numbers are in range and it nests at most
+/// 16 deep; and what bytes encode has its numbers in range.
 pub fn shortest_encodes()
-    ensures { ShortestEncodes }
+    ensures shortest { ShortestEncodes }
+    ensures encoded { EncodedAreEncodable }
 {}
 
 /// Appends the shortest encoding of an item to `out`. After an `Err` the vector is as before.
@@ -159,6 +163,7 @@ fn write_float(out: &mut Vec<u8>, bits: &FloatBits) -> Result<(), OutOfMemory>
 }
 
 fn append(out: &mut Vec<u8>, bytes: &[u8]) -> Result<(), OutOfMemory>
+    ensures bytes { AllBytes bytes.now }
     ensures ok { OnOk result (out.new.items ≡ out.old.items ++ bytes.now) }
     ensures err { OnErr result (out.new.items ≡ out.old.items) }
 {

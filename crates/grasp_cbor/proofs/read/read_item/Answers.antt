@@ -1,6 +1,6 @@
 use Rattle.std.proofs.Common.{◌≡◌, rules, Some, arith}
 use Rattle.grasp_cbor.specs.Item.{data_item_of}
-use Rattle.grasp_cbor.specs.CanGoOn.{AllBytes}
+use Rattle.grasp_cbor.specs.Bytes.{AllBytes}
 use Rattle.grasp_cbor.specs.Ending.{partial, too_long, faulty, whole, IsWhole, IsPartial, IsTooLong, IsFaulty}
 use Rattle.grasp_cbor.specs.ReadItem.{fault_ending}
 use Rattle.grasp_cbor.proofs.HeadBytes.{AllBytes-from}
