@@ -14,7 +14,7 @@ use Rattle.grasp_types.specs.declared.message.Verdict.{Verdict}
 use Rattle.grasp_types.specs.declared.message.Verdict.TheVariants.{Accept, Decline}
 use Rattle.grasp_types.specs.declared.objective.Objective.{Objective}
 use Rattle.grasp_types.specs.Address.{proto_item, proto_or_null, port_or_null, locator_item}
-use Rattle.grasp_types.specs.Objective.{optional, objective_item, IsObjective}
+use Rattle.grasp_types.specs.Objective.{optional, objective_item, IsValue, IsObjective}
 use Rattle.grasp_types.specs.Message.{verdict_item, answer_items, locator_or_empty, flood_part_item, item_of, IsMessage, IsFloodPart}
 
 proto_depth : (p : Proto) → depth_of (proto_item p) ≡ 0
@@ -43,8 +43,12 @@ optional_depth : (n : ℕ) (t : Option DataItem) → IfSome t (λ x. depth_of x 
 optional_depth n None h = omega arith
 optional_depth n (Some t) h = omega (arith, h)
 
+value_depth : (t : Option DataItem) → IfSome t IsValue → items_depth (data_items (optional t)) ≤ 13
+value_depth None h = omega arith
+value_depth (Some t) h = omega (arith, h.within)
+
 objective_depth : (o : Objective) → IsObjective o → depth_of (objective_item o) ≤ 14
-objective_depth o h = omega (arith, optional_depth 13 o.value h.value)
+objective_depth o h = omega (arith, value_depth o.value h.value)
 
 some_objective_depth : (o : Option Objective) → IfSome o IsObjective → IfSome (option_map objective_item o) (λ x. depth_of x ≤ 14)
 some_objective_depth None h = h
@@ -85,4 +89,4 @@ message_depth (End session verdict) h = omega (arith, verdict_depth verdict)
 message_depth (Wait session millis) h = omega arith
 message_depth (Synch session objective) h = omega (arith, objective_depth objective h.1)
 message_depth (Flood session initiator ttl parts) h = omega (arith, parts_depth parts h.3.each)
-message_depth (Invalid session detail) h = omega (arith, optional_depth 13 detail h.1)
+message_depth (Invalid session detail) h = omega (arith, value_depth detail h.1)

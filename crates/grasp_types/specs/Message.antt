@@ -82,7 +82,7 @@ pub record AreFloodParts (parts : List FloodPart) : Type 0 where
   pub some : 1 ≤ length parts
   pub each : All IsFloodPart parts
 
--- each part is within the range of its type, as it is in every message that the code holds
+-- each part is within the range of its type
 abbrev pub IsMessage : Message → Type 0
 IsMessage Noop = Unit {0}
 IsMessage (Discovery session initiator objective) = (session < 2 ^ 32) × IsAddress initiator × IsObjective objective
@@ -96,7 +96,7 @@ IsMessage (Synch session objective) = (session < 2 ^ 32) × IsObjective objectiv
 IsMessage (Flood session initiator ttl parts) = (session < 2 ^ 32) × IsAddress initiator × (ttl < 2 ^ 32) × AreFloodParts parts
 IsMessage (Invalid session detail) = (session < 2 ^ 32) × IfSome detail IsValue
 
--- no two messages have the same data item
+-- no two messages whose parts are in range have the same data item
 abbrev pub OneMessageAnItem : Type 0
 OneMessageAnItem = (x y : Message) → IsMessage x → IsMessage y → item_of x ≡ item_of y → x ≡ y
 

@@ -2,6 +2,7 @@
 use Rattle.std.specs.Prelude.{ℕ, Bool, not, if◌then◌else◌, ◌==◌, ◌+◌, bit_and, ◌<◌, ◌≤◌, ◌^◌, List, [], ◌∷◌, Option, Some, None, IfSome}
 use Rattle.std.specs.Str.{IsUtf8}
 use Rattle.grasp_cbor.specs.DataItem.{DataItem, unsigned, text_string, array_of, depth_of}
+use Rattle.grasp_cbor.specs.Encodable.{IsEncodable}
 use Rattle.grasp_types.specs.declared.objective.Objective.{Objective}
 use Rattle.grasp_types.specs.declared.session.Kind.{Kind}
 use Rattle.grasp_types.specs.declared.session.Kind.TheVariants.{Negotiation, Synchronization}
@@ -37,11 +38,12 @@ optional (Some item) = item ∷ []
 abbrev pub objective_item : Objective → DataItem
 objective_item o = array_of (text_string o.name ∷ unsigned o.flags ∷ unsigned o.loops ∷ optional o.value)
 
--- an item that nests at most 13 deep, as a value does and what an M_INVALID tells
-abbrev pub IsValue : DataItem → Type 0
-IsValue item = depth_of item ≤ 13
+-- an item that nests at most 13 deep and whose numbers are in range, as a value and as what an M_INVALID tells
+pub record IsValue (item : DataItem) : Type 0 where
+  pub within : depth_of item ≤ 13
+  pub encodable : IsEncodable item
 
--- the name is UTF-8, the numbers are within their ranges, and the value nests at most 13 deep
+-- the name is UTF-8, the numbers are within their ranges, and the value is one
 pub record IsObjective (o : Objective) : Type 0 where
   pub name : IsUtf8 o.name
   pub flags : o.flags ≤ 15

@@ -99,7 +99,7 @@ pub enum Call {
     GetFlood {
         name: Chars,
     },
-    /// Forgets what a node flooded.
+    /// Forgets what a node flooded of an objective.
     ExpireFlood {
         name: Chars,
         initiator: Address,

@@ -30,7 +30,7 @@ pub enum ApiRefused {
     BadLocator,
     /// This agent has no live session of this handle.
     NoSession,
-    /// The session has an outcome, or it is the peer's turn.
+    /// The session has an outcome, or, but for `SendInvalid`, it is the peer's turn.
     NotYourTurn,
     /// The last loop count allows no further step.
     LoopsSpent,
@@ -38,9 +38,9 @@ pub enum ApiRefused {
     WaitsSpent,
     /// No kept flood has this name and initiator.
     NoFlood,
-    /// 64 sessions are live, or 64 searches are kept.
+    /// 64 sessions are live; for `Discover`, 64 searches are kept.
     SessionsFull,
-    /// 64 streams have a record, or this node has dialled 2^62.
+    /// 64 streams have a record, or this core has dialled 2^62.
     StreamsFull,
     /// The message doesn't fit the limit.
     TooLong,

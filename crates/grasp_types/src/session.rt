@@ -15,7 +15,7 @@ pub enum Kind {
     Synchronization,
 }
 
-/// Which end did it.
+/// Which end did it, or whose message did.
 #[derive(Clone, Copy, Debug, PartialEq, Eq)]
 pub enum By {
     /// This end.
@@ -42,13 +42,13 @@ pub enum Outcome {
     Declined { by: By, reason: Option<Chars> },
     /// The peer told its value.
     Synchronized { objective: Objective },
-    /// Nothing came until the deadline.
+    /// A reading reached the deadline.
     TimedOut { deadline: u64, now: u64 },
     /// The stream broke.
     Broken,
     /// This node had no memory for what came.
     OutOfMemory,
-    /// One end sent M_INVALID, or what it sent was out of order.
+    /// One end sent M_INVALID. `Mine` also where what came was bad.
     Invalid { by: By },
 }
 

@@ -93,7 +93,7 @@ impl Output {
     }
 }
 
-/// Outputs, in the order in which they were queued.
+/// Outputs in order: those that were queued, and then the closings, by rising number of their streams.
 #[derive(Debug, Drop)]
 pub struct Outputs {
     held: Vec<Output>,
