@@ -1,6 +1,6 @@
 //! Data items and the lists that they hold (RFC 8949, section 3.1).
 
-ghost use Rattle.std.specs.Prelude.{◌≡◌, ◌≤◌, ◌<◌, ◌^◌, min, [], ◌∷◌, ◌++◌, length, slice_get, option_map, OnOk, OnErr, IfOk};
+ghost use Rattle.std.specs.Prelude.{◌≡◌, ◌≤◌, ◌<◌, ◌^◌, min, [], ◌∷◌, ◌++◌, length, map, slice_get, option_map, OnOk, OnErr, IfOk};
 ghost use Rattle.grasp_cbor.specs.DataItem.{depth_of, items_depth, pairs_depth, data_items, data_pairs};
 ghost use Rattle.grasp_cbor.specs.Plain.{is_plain, are_plain};
 ghost use Rattle.grasp_cbor.specs.Item.{data_item_of, items_of, pairs_of, pair_of};
@@ -123,6 +123,13 @@ impl Items {
     {
         self.held.push(item)?;
         Ok(())
+    }
+
+    /// The items.
+    pub fn slice(&self) -> &[Item]
+        ensures { map data_item_of result.now ≡ items_of self.now }
+    {
+        &self.held
     }
 
     /// The item at this place, counted from 0, or `None` past the end.

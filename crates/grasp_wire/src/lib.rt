@@ -1,6 +1,11 @@
 //! GRASP messages as bytes (RFC 8990, section 2.8): which bytes are a message, and which messages a stream is.
 #![tactic(auto)]
 
+mod locator;
+mod message;
+mod parts;
 mod plain;
 
+pub use message::read_message;
+pub use parts::Unread;
 pub use plain::plain_message;
