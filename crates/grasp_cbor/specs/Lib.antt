@@ -17,7 +17,6 @@ pub mod ItemReader
 pub mod Laws
 pub mod Length
 pub mod Major
-pub mod Plain
 pub mod ReadItem
 pub mod Room
 pub mod Shortest

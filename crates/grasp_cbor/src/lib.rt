@@ -10,7 +10,6 @@ mod item_reader;
 mod laws;
 mod memory;
 mod parts;
-mod plain;
 mod read;
 mod room;
 mod scalars;
@@ -29,7 +28,6 @@ pub use memory::OutOfMemory;
 pub use parts::{
     write_array_head, write_byte_string, write_null, write_text_string, write_unsigned,
 };
-pub use plain::read_plain;
 pub use read::{ItemFault, ReadItem, build_whole, read_item};
 pub use room::{room_after, room_after_head, room_after_string};
 pub use scalars::{FloatBits, SimpleValue};

@@ -2,7 +2,6 @@
 
 ghost use Rattle.std.specs.Prelude.{◌≡◌, ◌≤◌, ◌<◌, ◌^◌, min, [], ◌∷◌, ◌++◌, length, map, slice_get, option_map, OnOk, OnErr, IfOk};
 ghost use Rattle.grasp_cbor.specs.DataItem.{depth_of, items_depth, pairs_depth, data_items, data_pairs};
-ghost use Rattle.grasp_cbor.specs.Plain.{is_plain, are_plain};
 ghost use Rattle.grasp_cbor.specs.Item.{data_item_of, items_of, pairs_of, pair_of};
 
 use crate::{Chars, FloatBits, Octets, OutOfMemory, SimpleValue};
@@ -59,19 +58,6 @@ impl Item {
             Item::Map(pairs) => pairs.deepest().saturating_add(1),
             Item::Tag(_, item) => item.depth().saturating_add(1),
             _ => 0,
-        }
-    }
-
-    /// Whether the item is built of unsigned numbers and arrays alone.
-    #[cycle(plain)]
-    #[tactic(auto, using(crate::proofs::Views::views))]
-    pub(crate) fn is_plain(&self) -> bool
-        ensures { result ≡ is_plain (data_item_of self.now) }
-    {
-        match self {
-            Item::Uint(_) => true,
-            Item::List(items) => items.are_plain(),
-            _ => false,
         }
     }
 
@@ -149,19 +135,6 @@ impl Items {
             most = most.max(item.depth());
         }
         most
-    }
-
-    /// Whether each item is built of unsigned numbers and arrays alone.
-    #[cycle(plain)]
-    fn are_plain(&self) -> bool
-        ensures { result ≡ are_plain (data_items (items_of self.now)) }
-    {
-        for item in &self.held {
-            if !item.is_plain() {
-                return false;
-            }
-        }
-        true
     }
 
     /// Another of the same items.
