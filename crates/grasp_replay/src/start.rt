@@ -1,0 +1,45 @@
+// What `main` does before the call: the program's words, and the two that it answers by itself.
+use crate::exit::Status;
+use std::env;
+use std::io::ErrorKind;
+use std::rt::Env;
+
+const HELP: &str = "\
+Usage: grasp_replay show < STREAM
+
+Writes a line for each GRASP message (RFC 8990) of the stream on standard input.
+
+  --help     prints this text
+  --version  prints the version
+";
+
+const VERSION: &str = "grasp_replay 0.1.0\n";
+
+/// The words after the program's name.
+pub fn words<R: Env + AllocGlobal>(rt: &R) -> Result<Vec<String>, Status> {
+    match env::args(rt) {
+        Ok(args) => words_of(rt, args),
+        Err(error) if error.kind() == ErrorKind::OutOfMemory => Err(Status::OutOfMemory),
+        Err(_) => Err(Status::Usage),
+    }
+}
+
+/// The text that these words alone ask for.
+pub fn text_for(words: &[String]) -> Option<&'static str> {
+    match words {
+        [word] if word.as_str() == "--help" => Some(HELP),
+        [word] if word.as_str() == "--version" => Some(VERSION),
+        _ => None,
+    }
+}
+
+fn words_of<R: AllocGlobal>(rt: &R, mut args: env::Args) -> Result<Vec<String>, Status> {
+    let mut words = Vec::new(rt.alloc());
+    let _ = args.next();
+    for word in args {
+        if words.push(word).is_err() {
+            return Err(Status::OutOfMemory);
+        }
+    }
+    Ok(words)
+}
