@@ -1,6 +1,6 @@
 -- A prefix and the other half of its parent.
 use Rattle.std.proofs.Common.{◌≡◌, ℕ, suc, ◌+◌, ◌-◌, ◌*◌, ◌/◌, ◌%◌, ◌^◌, ◌<◌, ◌≤◌, ◌⊎◌, inl, inr, refl, sym, ◌∙◌, ap, subst, arith}
-use Rattle.std.proofs.lemmas.Nat.{mod-mul-add, pow-add, div-add-mod', mod_below, pow_below}
+use Rattle.std.proofs.lemmas.Nat.{div-add-mod', mod_below, pow_below}
 use Rattle.std.proofs.lemmas.Bool.{cases_eq}
 use Rattle.std.proofs.Math.Nat.{pow-suc}
 use Rattle.grasp_types.specs.Prefix.{AddressBlock as Prefix, IsMultiple}

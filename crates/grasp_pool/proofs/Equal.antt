@@ -1,5 +1,5 @@
 -- The lists after each change are those that the functions give.
-use Rattle.std.proofs.Common.{◌≡◌, ℕ, zero, suc, ◌+◌, ◌-◌, ◌<◌, ◌≤◌, ◌⊎◌, ◌↔◌, inl, inr, List, [], ◌∷◌, length, Contains, slice_index_or, refl, sym, ◌∙◌, ap, subst, arith, Some, None, Bool, true, false, cond, not, nat_eq, nat_lt, nat_le, ◌==◌, ◌&&◌, ◌%◌}
+use Rattle.std.proofs.Common.{◌≡◌, ℕ, zero, suc, ◌+◌, ◌<◌, ◌≤◌, ◌⊎◌, ◌↔◌, inl, inr, List, [], ◌∷◌, length, Contains, slice_index_or, refl, sym, ◌∙◌, ap, subst, arith, Some, None, Bool, true, false, cond, not, nat_eq, nat_lt, nat_le, ◌==◌, ◌&&◌}
 use Rattle.std.proofs.lemmas.Bool.{cases_lt, cases_eq}
 use Rattle.std.proofs.lemmas.Bool.Decides.{leb_tells}
 use Rattle.grasp_types.specs.Prefix.{AddressBlock as Prefix}
@@ -8,7 +8,6 @@ use Rattle.grasp_pool.proofs.Unique.{none_in, cons_cases, cons_more, cons_first,
 use Rattle.grasp_pool.specs.Parts.{IsAdded, IsRemoved, IsNarrow}
 use Rattle.grasp_pool.specs.Functions.{add, without, split, wide, has, joins, merge, parent_of, buddy_of}
 use Rattle.grasp_pool.proofs.Dyadic.{same_prefix}
-use Rattle.grasp_pool.specs.Spans.{size}
 use Rattle.grasp_pool.proofs.Lists.{rising_cons, lt_tells}
 
 pub add_members : (p : Prefix) (ps : List Prefix) → IsAdded ps (add p ps) p

@@ -1,5 +1,5 @@
 -- When a prefix can be gained.
-use Rattle.std.proofs.Common.{◌≡◌, ℕ, ◌+◌, ◌<◌, ◌≤◌, ◌⊎◌, ◌↔◌, inl, inr, List, [], ◌∷◌, Contains, refl, sym, ◌∙◌, ap, subst, arith, Bool, true, false, cond, nat_lt, ◌&&◌, IsTrue}
+use Rattle.std.proofs.Common.{◌≡◌, ◌+◌, ◌<◌, ◌≤◌, ◌⊎◌, ◌↔◌, inl, inr, List, [], ◌∷◌, Contains, refl, sym, subst, arith, Bool, true, false, cond, nat_lt, ◌&&◌, IsTrue}
 use Rattle.std.proofs.lemmas.Bool.{cases_lt}
 use Rattle.grasp_types.specs.Prefix.{AddressBlock as Prefix, span_of, Overlap}
 use Rattle.grasp_pool.specs.Spans.{size}

@@ -1,9 +1,9 @@
 -- What the functions on lists do to the addresses.
-use Rattle.std.proofs.Common.{◌≡◌, ℕ, zero, suc, ◌+◌, ◌-◌, ◌<◌, ◌≤◌, ◌⊎◌, ◌↔◌, inl, inr, List, [], ◌∷◌, length, Contains, slice_index_or, refl, sym, ◌∙◌, ap, subst, arith, Bool, true, false, cond, nat_lt, ◌==◌}
+use Rattle.std.proofs.Common.{◌≡◌, ℕ, zero, suc, ◌+◌, ◌<◌, ◌≤◌, ◌⊎◌, ◌↔◌, inl, inr, List, [], ◌∷◌, length, Contains, refl, sym, ap, subst, arith, Bool, true, false, cond, nat_lt, ◌==◌}
 use Rattle.std.proofs.lemmas.Bool.{cases_lt}
 use Rattle.grasp_types.specs.Prefix.{AddressBlock as Prefix, span_of}
 use Rattle.grasp_pool.specs.Spans.{IsValid, Covers}
-use Rattle.grasp_pool.specs.Canonical.{IsRising, lower, upper, IsTidy}
+use Rattle.grasp_pool.specs.Canonical.{lower, upper, IsTidy}
 use Rattle.grasp_pool.specs.Parts.{ApartFrom, AreHalves, IsAlone, IsSame, IsJoined, first_part}
 use Rattle.grasp_pool.specs.Functions.{add, without, split, merge, parent_of, buddy_of}
 use Rattle.grasp_pool.proofs.Dyadic.{lower_valid}

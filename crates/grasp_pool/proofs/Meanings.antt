@@ -1,14 +1,13 @@
 -- What the functions on pools mean.
-use Rattle.std.proofs.Common.{◌≡◌, ℕ, zero, suc, ◌+◌, ◌-◌, ◌<◌, ◌≤◌, ◌⊎◌, ◌↔◌, inl, inr, List, [], ◌∷◌, length, Contains, slice_index_or, refl, sym, ◌∙◌, ap, subst, arith, Bool, true, false, cond, nat_lt, nat_le, Option, Some, None, MatchOption}
+use Rattle.std.proofs.Common.{◌≡◌, ℕ, zero, suc, ◌+◌, ◌-◌, ◌<◌, ◌≤◌, ◌⊎◌, inl, inr, List, [], ◌∷◌, length, Contains, slice_index_or, refl, sym, subst, arith, Bool, true, false, cond, nat_lt, nat_le, Option, Some, None, MatchOption}
 use Rattle.std.proofs.lemmas.Bool.Decides.{leb_tells}
-use Rattle.grasp_types.specs.Prefix.{AddressBlock as Prefix, span_of}
-use Rattle.grasp_pool.specs.Spans.{IsValid, Covers}
-use Rattle.grasp_pool.specs.Canonical.{IsClean, IsTidy, IsLowestFree, HasNoFree}
-use Rattle.grasp_pool.specs.Holdings.{Holding, IsFree, IsListed, IsNew, Reserves, GivesBack, Confirms, Doubts, Gains}
-use Rattle.grasp_pool.specs.Parts.{ApartFrom, IsNarrow, IsCarved, first_part}
+use Rattle.grasp_types.specs.Prefix.{AddressBlock as Prefix}
+use Rattle.grasp_pool.specs.Spans.{IsValid}
+use Rattle.grasp_pool.specs.Canonical.{IsTidy, IsLowestFree, HasNoFree}
+use Rattle.grasp_pool.specs.Holdings.{Holding, IsNew, Reserves, GivesBack, Confirms, Doubts, Gains}
+use Rattle.grasp_pool.specs.Parts.{IsNarrow, IsCarved, first_part}
 use Rattle.grasp_pool.specs.Pools.{IsPool, room_of, IsTaken, IsNotTaken}
 use Rattle.grasp_pool.specs.Functions.{add, without, split, wide, head_part, rest_of, lowest_free, carved_list, merge, take_reply, after_take, after_back, after_confirm, after_doubt, after_gain}
-use Rattle.grasp_pool.proofs.Unique.{cons_first}
 use Rattle.grasp_pool.proofs.Lists.{lt_tells}
 use Rattle.grasp_pool.proofs.Equal.{add_members, add_rising, without_members, without_rising}
 use Rattle.grasp_pool.proofs.Cleaning.{removed_clean, removed_apart}

@@ -1,5 +1,5 @@
 -- From roots to a list.
-use Rattle.std.proofs.Common.{ℕ, ◌+◌, ◌<◌, ◌≤◌, ◌⊎◌, ◌↔◌, inl, inr, List, [], length, slice_index_or, sym, ◌∙◌, ap, subst, arith, Option, Some, None, is_some, IfSome, true, false, Bool, not, ◌≡◌, drop, suc}
+use Rattle.std.proofs.Common.{ℕ, ◌+◌, ◌<◌, ◌≤◌, ◌⊎◌, ◌↔◌, inl, inr, List, [], length, slice_index_or, sym, ◌∙◌, ap, subst, arith, Option, Some, None, is_some, IfSome, false, Bool, not, ◌≡◌, drop, suc}
 use Rattle.std.proofs.lemmas.Bool.{cases_eq}
 use Rattle.std.proofs.lemmas.List.{get_or_default, drop_all}
 use Rattle.std.proofs.Math.Seq.{drop-cons}

@@ -4,7 +4,7 @@ use Rattle.grasp_types.specs.Prefix.{AddressBlock as Prefix, span_of, Overlap}
 use Rattle.grasp_pool.specs.Spans.{Apart, IsValid}
 use Rattle.grasp_pool.specs.Canonical.{IsRising, IsTidy, IsLowestFree, HasNoFree}
 use Rattle.grasp_pool.specs.Parts.{IsIndex}
-use Rattle.grasp_pool.specs.Holdings.{Holding, IsFree, IsListed, IsNew, Reserves, Gains}
+use Rattle.grasp_pool.specs.Holdings.{Holding, IsFree, IsListed, Reserves, Gains}
 
 -- what is true of every pool
 pub record IsPool (h : Holding) : Type 0 where

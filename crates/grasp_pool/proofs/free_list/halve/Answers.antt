@@ -1,6 +1,6 @@
-use Rattle.std.proofs.Common.{rules, ◌≡◌, ℕ, ◌+◌, ◌<◌, ◌≤◌, ◌^◌, List, Contains, subst, sym, ap, ◌∙◌, arith}
+use Rattle.std.proofs.Common.{rules, ◌≡◌, ◌+◌, ◌<◌, ◌^◌, Contains, subst, sym, ap, ◌∙◌}
 use Rattle.grasp_types.specs.Prefix.{AddressBlock as Prefix, IsPrefix}
-use Rattle.grasp_pool.specs.Spans.{size, IsValid}
+use Rattle.grasp_pool.specs.Spans.{size}
 use Rattle.grasp_pool.specs.Canonical.{lower, upper, IsClean}
 use Rattle.grasp_pool.specs.Parts.{ApartFrom, IsAdded, IsSame}
 use Rattle.grasp_pool.specs.Functions.{add}

@@ -1,6 +1,6 @@
-use Rattle.std.proofs.Common.{rules, ◌≡◌, ℕ, ◌+◌, ◌-◌, ◌%◌, ◌<◌, ◌≤◌, ◌^◌, arith, sym, subst}
+use Rattle.std.proofs.Common.{rules, ◌≡◌, ◌+◌, ◌-◌, ◌%◌, ◌<◌, ◌≤◌, ◌^◌, sym, subst}
 use Rattle.grasp_types.specs.Prefix.{AddressBlock as Prefix, IsPrefix}
-use Rattle.grasp_pool.specs.Spans.{size, IsValid}
+use Rattle.grasp_pool.specs.Spans.{size}
 use Rattle.grasp_pool.specs.Parts.{AreHalves}
 use Rattle.grasp_pool.specs.Functions.{parent_of, buddy_of}
 use Rattle.grasp_pool.proofs.Buddies.{size_small, offset_small, are_halves, buddy_valid, buddy_fits, of_three}

@@ -1,6 +1,5 @@
-use Rattle.std.proofs.Common.{rules, ℕ, ◌≡◌, ◌≤◌, ◌+◌, ◌-◌, Option, Some, None, subst, sym, arith}
-use Rattle.grasp_types.specs.Prefix.{AddressBlock as Prefix}
-use Rattle.grasp_pool.specs.Parts.{BeginBelow, BeginFrom, IsOverlapAt}
+use Rattle.std.proofs.Common.{rules, ℕ, ◌≡◌, ◌+◌, ◌-◌, subst}
+use Rattle.grasp_pool.specs.Parts.{BeginBelow, BeginFrom}
 use Rattle.grasp_pool.proofs.Meeting.{answer_after, answer_before, none_before, none_below}
 use Rattle.grasp_pool.proofs.overlapping.first_overlap.Goals as goal
 

@@ -1,4 +1,4 @@
-use Rattle.std.proofs.Common.{rules, ◌≡◌, ◌+◌, ◌-◌, ◌<◌, ◌≤◌, ◌^◌, refl, arith}
+use Rattle.std.proofs.Common.{rules, ◌≡◌, ◌+◌, ◌-◌, ◌<◌, ◌^◌, refl, arith}
 use Rattle.grasp_pool.specs.Spans.{size}
 use Rattle.grasp_pool.proofs.Dyadic.{ends_within, size_pos}
 use Rattle.grasp_pool.proofs.Meeting.{meets}

@@ -1,4 +1,4 @@
-use Rattle.std.proofs.Common.{rules, subst, sym, ◌<◌, length}
+use Rattle.std.proofs.Common.{rules, subst, sym}
 use Rattle.grasp_types.specs.Prefix.{AddressBlock as Prefix, Overlap}
 use Rattle.grasp_pool.proofs.Meeting.{false_misses}
 use Rattle.grasp_pool.proofs.Opening.{no_root, root_apart, apart_up_to, hit_at}

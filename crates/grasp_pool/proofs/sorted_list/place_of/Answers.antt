@@ -1,4 +1,4 @@
-use Rattle.std.proofs.Common.{rules, of_calls, nat_lt, ◌≡◌, ◌<◌, ◌≤◌, ℕ, true, false, length, slice_index_or, List}
+use Rattle.std.proofs.Common.{rules, of_calls, nat_lt, ◌≡◌, true, false, slice_index_or}
 use Rattle.std.proofs.lemmas.Fn.{always_returns_same}
 use Rattle.std.specs.List.Sorted.{IsPartitionPoint}
 use Rattle.grasp_types.specs.Prefix.{AddressBlock as Prefix}

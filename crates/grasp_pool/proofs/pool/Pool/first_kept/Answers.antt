@@ -1,6 +1,5 @@
-use Rattle.std.proofs.Common.{subst, sym, inl, inr, ◌≡◌, List, Contains, ◌++◌, Option, ap, ◌∙◌}
+use Rattle.std.proofs.Common.{subst, sym, inl, inr, ◌≡◌, List, ◌++◌, Option, ap, ◌∙◌}
 use Rattle.grasp_types.specs.Prefix.{AddressBlock as Prefix}
-use Rattle.grasp_pool.specs.Spans.{IsValid}
 use Rattle.grasp_pool.specs.Holdings.{Holding}
 use Rattle.grasp_pool.specs.Parts.{ArePairwiseApart, IsAnswer, lesser_of}
 use Rattle.grasp_pool.specs.Pools.{entries}
