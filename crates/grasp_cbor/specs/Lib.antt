@@ -15,8 +15,8 @@ pub mod Head
 pub mod Item
 pub mod ItemReader
 pub mod Laws
+pub mod Length
 pub mod Major
-pub mod Plain
 pub mod ReadItem
 pub mod Room
 pub mod Shortest

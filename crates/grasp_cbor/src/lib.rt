@@ -9,8 +9,9 @@ mod heads;
 mod item_reader;
 mod laws;
 mod memory;
-mod plain;
+mod parts;
 mod read;
+mod room;
 mod scalars;
 mod strings;
 #[cfg(test)]
@@ -24,8 +25,11 @@ pub use build::encodings_are_apart;
 pub use item_reader::ItemReader;
 pub use laws::{bytes_are_taken_or_faulty, endings_are_apart, faults_are_alone, fronts_can_go_on};
 pub use memory::OutOfMemory;
-pub use plain::read_plain;
+pub use parts::{
+    write_array_head, write_byte_string, write_null, write_text_string, write_unsigned,
+};
 pub use read::{ItemFault, ReadItem, build_whole, read_item};
+pub use room::{room_after, room_after_head, room_after_string};
 pub use scalars::{FloatBits, SimpleValue};
 pub use strings::{Chars, Octets};
 pub use tree::{Item, Items, Pairs};

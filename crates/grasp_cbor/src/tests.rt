@@ -1,6 +1,7 @@
 use crate::{
     Chars, FloatBits, Item, ItemFault, ItemReader, Items, Octets, OutOfMemory, Pairs, ReadItem,
-    SimpleValue, Taken, read_item, read_plain, write_item,
+    SimpleValue, Taken, read_item, room_after, write_array_head, write_byte_string, write_item,
+    write_null, write_text_string, write_unsigned,
 };
 use std::alloc::Global;
 use std::test::Fail;
@@ -492,19 +493,19 @@ fn lists_and_strings(rt: HostRuntime) -> Result<(), Fail> {
 }
 
 #[test]
-fn plain_items(rt: HostRuntime) -> Result<(), Fail> {
+fn part_by_part(rt: HostRuntime) -> Result<(), Fail> {
     let alloc = rt.alloc();
-    let rows: [(&[u8], u64, Option<u64>); 5] = [
-        (b"\x83\x07\x01\x19\x13\x88", LIMIT, Some(6)),
-        (b"\x81\x00\x81\x00", LIMIT, Some(2)),
-        (b"\x81\x00", 1, None),
-        (b"\x83\x07\x1c", LIMIT, None),
-        (b"\x81\x60", LIMIT, None),
-    ];
-    for (bytes, limit, want) in rows {
-        let used = read_plain(alloc, bytes, limit)?.map(|(_, used)| used);
-        assert_eq!(rt; used, want);
-    }
+    let mut out = Vec::new(alloc);
+    write_array_head(4, &mut out)?;
+    write_unsigned(1000, &mut out)?;
+    write_byte_string(b"\x01\x02", &mut out)?;
+    write_text_string(&Chars::of(alloc, "IETF")?, &mut out)?;
+    write_null(&mut out)?;
+    let expected: &[u8] = b"\x84\x19\x03\xe8\x42\x01\x02\x64IETF\xf6";
+    assert!(rt; out.as_slice() == expected);
+    let item = count(alloc, 1, 25)?;
+    assert_eq!(rt; room_after(&item, 29), Some(0));
+    assert_eq!(rt; room_after(&item, 28), None);
     Ok(())
 }
 

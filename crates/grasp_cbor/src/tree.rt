@@ -1,8 +1,7 @@
 //! Data items and the lists that they hold (RFC 8949, section 3.1).
 
-ghost use Rattle.std.specs.Prelude.{◌≡◌, ◌≤◌, ◌<◌, ◌^◌, min, [], ◌∷◌, ◌++◌, length, slice_get, option_map, OnOk, OnErr, IfOk};
+ghost use Rattle.std.specs.Prelude.{◌≡◌, ◌≤◌, ◌<◌, ◌^◌, min, [], ◌∷◌, ◌++◌, length, map, slice_get, option_map, OnOk, OnErr, IfOk};
 ghost use Rattle.grasp_cbor.specs.DataItem.{depth_of, items_depth, pairs_depth, data_items, data_pairs};
-ghost use Rattle.grasp_cbor.specs.Plain.{is_plain, are_plain};
 ghost use Rattle.grasp_cbor.specs.Item.{data_item_of, items_of, pairs_of, pair_of};
 
 use crate::{Chars, FloatBits, Octets, OutOfMemory, SimpleValue};
@@ -62,19 +61,6 @@ impl Item {
         }
     }
 
-    /// Whether the item is built of unsigned numbers and arrays alone.
-    #[cycle(plain)]
-    #[tactic(auto, using(crate::proofs::Views::views))]
-    pub(crate) fn is_plain(&self) -> bool
-        ensures { result ≡ is_plain (data_item_of self.now) }
-    {
-        match self {
-            Item::Uint(_) => true,
-            Item::List(items) => items.are_plain(),
-            _ => false,
-        }
-    }
-
     /// Another of the same item.
     #[cycle(copy)]
     #[tactic(auto, using(crate::proofs::Views::views))]
@@ -125,6 +111,13 @@ impl Items {
         Ok(())
     }
 
+    /// The items.
+    pub fn slice(&self) -> &[Item]
+        ensures { map data_item_of result.now ≡ items_of self.now }
+    {
+        &self.held
+    }
+
     /// The item at this place, counted from 0, or `None` past the end.
     pub fn at(&self, i: u64) -> Option<&Item>
         ensures { option_map (λ x. data_item_of x.now) result ≡ slice_get (items_of self.now) i }
@@ -142,19 +135,6 @@ impl Items {
             most = most.max(item.depth());
         }
         most
-    }
-
-    /// Whether each item is built of unsigned numbers and arrays alone.
-    #[cycle(plain)]
-    fn are_plain(&self) -> bool
-        ensures { result ≡ are_plain (data_items (items_of self.now)) }
-    {
-        for item in &self.held {
-            if !item.is_plain() {
-                return false;
-            }
-        }
-        true
     }
 
     /// Another of the same items.

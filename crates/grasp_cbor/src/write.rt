@@ -27,6 +27,7 @@ pub fn write_item(item: &Item, out: &mut Vec<u8>) -> Result<(), OutOfMemory>
     requires { depth_of (data_item_of item.now) ≤ 16 }
     ensures ok { OnOk result (out.new.items ≡ out.old.items ++ shortest (data_item_of item.now)) }
     ensures encodes { OnOk result (Encodes (data_item_of item.now) (shortest (data_item_of item.now))) }
+    ensures encodable { OnOk result (IsEncodable (data_item_of item.now)) }
     ensures err { OnErr result (out.new.items ≡ out.old.items) }
 {
     let len = out.len();
@@ -108,7 +109,7 @@ fn write_map(out: &mut Vec<u8>, pairs: &Pairs) -> Result<(), OutOfMemory>
 
 /// Appends the shortest head of a major type and an argument.
 #[tactic(auto, unfolding(crate::specs::Head::shortest_head, crate::specs::Head::shortest_size))]
-fn write_head(out: &mut Vec<u8>, major: u8, n: u64) -> Result<(), OutOfMemory>
+pub(crate) fn write_head(out: &mut Vec<u8>, major: u8, n: u64) -> Result<(), OutOfMemory>
     requires { major < 8 }
     ensures ok { OnOk result (out.new.items ≡ out.old.items ++ shortest_head major n) }
     ensures err { OnErr result (out.new.items ≡ out.old.items) }
@@ -162,7 +163,7 @@ fn write_float(out: &mut Vec<u8>, bits: &FloatBits) -> Result<(), OutOfMemory>
     }
 }
 
-fn append(out: &mut Vec<u8>, bytes: &[u8]) -> Result<(), OutOfMemory>
+pub(crate) fn append(out: &mut Vec<u8>, bytes: &[u8]) -> Result<(), OutOfMemory>
     ensures bytes { AllBytes bytes.now }
     ensures ok { OnOk result (out.new.items ≡ out.old.items ++ bytes.now) }
     ensures err { OnErr result (out.new.items ≡ out.old.items) }

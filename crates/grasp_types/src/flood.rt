@@ -1,6 +1,6 @@
 //! Floods.
 
-ghost use Rattle.std.specs.Prelude.{◌≡◌, ◌≤◌, [], ◌∷◌, ◌++◌, length, slice_get, option_map, OnOk, OnErr, IfOk};
+ghost use Rattle.std.specs.Prelude.{◌≡◌, ◌<◌, ◌≤◌, ◌^◌, [], ◌∷◌, ◌++◌, length, slice_get, option_map, OnOk, OnErr, IfOk};
 ghost use Rattle.grasp_types.specs.Flood.{first_loops};
 
 use crate::address::copy_some_locator;
@@ -63,6 +63,7 @@ impl FloodParts {
     pub fn len(&self) -> u64
         ensures value { result ≡ length self.now }
         ensures some { 1 ≤ result }
+        ensures few { result < 2 ^ 63 }
     {
         self.held.len() as u64
     }

@@ -1,6 +1,6 @@
 //! Lists of locators.
 
-ghost use Rattle.std.specs.Prelude.{◌≡◌, ◌≤◌, [], ◌∷◌, ◌++◌, length, slice_get, option_map, OnOk, OnErr, IfOk};
+ghost use Rattle.std.specs.Prelude.{◌≡◌, ◌<◌, ◌≤◌, ◌^◌, [], ◌∷◌, ◌++◌, length, slice_get, option_map, OnOk, OnErr, IfOk};
 
 use crate::Locator;
 use grasp_cbor::OutOfMemory;
@@ -38,6 +38,7 @@ impl Locators {
     pub fn len(&self) -> u64
         ensures value { result ≡ length self.now }
         ensures some { 1 ≤ result }
+        ensures few { result < 2 ^ 63 }
     {
         self.held.len() as u64
     }

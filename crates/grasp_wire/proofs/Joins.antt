@@ -4,27 +4,43 @@ use Rattle.std.proofs.lemmas.List.{length-take-le, length-take, append_cancel_le
 use Rattle.grasp_cbor.specs.DataItem.{DataItem, unsigned}
 use Rattle.grasp_cbor.specs.Encodes.{Encodes}
 use Rattle.grasp_cbor.specs.Head.{direct}
-use Rattle.grasp_cbor.specs.Plain.{is_plain}
+use Rattle.grasp_cbor.specs.Ending.{Ending, whole, partial, too_long, faulty, IsWhole, IsEnding}
+use Rattle.grasp_cbor.specs.declared.walker.FaultName.{FaultName}
 use Rattle.grasp_cbor.proofs.Whole.{one_encodes}
 use Rattle.grasp_types.specs.Message.{item_of, IsMessage}
 use Rattle.grasp_types.specs.declared.message.Message.{Message}
-use Rattle.grasp_types.specs.declared.message.Message.TheVariants.{Noop, Wait, Discovery, Response, ReqNeg, ReqSyn, Negotiate, End, Synch, Flood, Invalid}
 use Rattle.grasp_wire.specs.Wire.{IsWireForm, AreWireForms}
-use Rattle.grasp_wire.specs.Plain.{IsPlainMessage}
+use Rattle.grasp_wire.specs.Plain.{HasNoItem, IsPlainMessage}
 
--- the item of a plain message is made of numbers and arrays
-pub plain_item : (m : Message) → IsPlainMessage m → is_plain (item_of m) ≡ true
-plain_item Noop p = search rules
-plain_item (Wait s t) p = search rules
-plain_item (Discovery a b c) p = absurd p
-plain_item (Response a b c d e) p = absurd p
-plain_item (ReqNeg a b) p = absurd p
-plain_item (ReqSyn a b) p = absurd p
-plain_item (Negotiate a b) p = absurd p
-plain_item (End a b) p = absurd p
-plain_item (Synch a b) p = absurd p
-plain_item (Flood a b c d) p = absurd p
-plain_item (Invalid a b) p = absurd p
+-- how long the item is with which reading ends
+abbrev used_in : Ending → ℕ
+used_in (whole item used) = used
+used_in partial = 0
+used_in too_long = 0
+used_in (faulty name place) = 0
+
+-- reading within a greater limit ends so, and so does every other such ending
+abbrev pub EndsSo : List ℕ → ℕ → Ending → Type 0
+EndsSo bytes most e = (ending : Ending) → IsEnding bytes most ending → e ≡ ending
+
+wider : (bytes : List ℕ) (limit most : ℕ) (item : DataItem) (used : ℕ) → limit ≤ most → IsWhole bytes limit item used → IsEnding bytes most (whole item used)
+wider bytes limit most item used le w = record { encodes = w.encodes; inside = w.inside; within = omega (arith, w.within, le) }
+
+-- where reading ends with no item, none begins the bytes
+pub no_item_partial : (bytes : List ℕ) (limit most : ℕ) → limit ≤ most → EndsSo bytes most partial → HasNoItem bytes limit
+no_item_partial bytes limit most le only item used w = let e = only (whole item used) (wider bytes limit most item used le w) in cc
+
+pub no_item_long : (bytes : List ℕ) (limit most : ℕ) → limit ≤ most → EndsSo bytes most too_long → HasNoItem bytes limit
+no_item_long bytes limit most le only item used w = let e = only (whole item used) (wider bytes limit most item used le w) in cc
+
+pub no_item_faulty : (bytes : List ℕ) (limit most : ℕ) (name : FaultName) (at : ℕ) → limit ≤ most → EndsSo bytes most (faulty name at) → HasNoItem bytes limit
+no_item_faulty bytes limit most name at le only item used w = let e = only (whole item used) (wider bytes limit most item used le w) in cc
+
+-- where it ends with one that is longer than the limit, none within the limit begins them
+pub no_item_longer : (bytes : List ℕ) (limit most : ℕ) (t : DataItem) (k : ℕ) → limit ≤ most → limit < k → EndsSo bytes most (whole t k) → HasNoItem bytes limit
+no_item_longer bytes limit most t k le long only item used w =
+    let e = ap used_in (only (whole item used) (wider bytes limit most item used le w)) in
+    absurd (omega (arith, e, long, w.within))
 
 -- two fronts of one text that encode items are one
 pub one_front : (t u : DataItem) (k n : ℕ) (s : List ℕ) → Encodes t (take k s) → Encodes u (take n s) → (t ≡ u) × (take k s ≡ take n s)

@@ -1,6 +1,7 @@
--- The messages that are made of numbers alone: noop and wait (RFC 8990, sections 2.8.2 and 2.8.9).
+-- The messages that are made of numbers alone: noop and wait (RFC 8990, sections 2.8.13 and 2.8.9).
 use Rattle.std.specs.Prelude.{◌^◌, ◌==◌, ◌&&◌, ℕ, Option, Some, None, List, length, slice_get, nat_lt, if◌then◌else◌, ⊤}
 use Rattle.grasp_cbor.specs.DataItem.{DataItem, unsigned}
+use Rattle.grasp_cbor.specs.Ending.{IsWhole}
 use Rattle.grasp_types.specs.declared.message.Message.{Message}
 use Rattle.grasp_types.specs.declared.message.Message.TheVariants.{Noop, Wait}
 
@@ -9,6 +10,10 @@ abbrev pub IsPlainMessage : Message → Type 0
 IsPlainMessage Noop = ⊤
 IsPlainMessage (Wait session millis) = ⊤
 IsPlainMessage _ = ⊥
+
+-- no item of at most limit bytes begins these
+abbrev pub HasNoItem : List ℕ → ℕ → Type 0
+HasNoItem bytes limit = (item : DataItem) (used : ℕ) → IsWhole bytes limit item used → ⊥
 
 -- go on with what is there
 infixl 10 ◌>>=◌

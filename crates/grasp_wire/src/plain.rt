@@ -1,13 +1,14 @@
 // Messages that are made of numbers alone.
 ghost use Rattle.std.specs.Prelude.{◌≡◌, ◌<◌, ◌≤◌, ◌^◌, ℕ, length, take, slice_get, option_and_then, IfOk, IfSome, IfNone};
 ghost use Rattle.grasp_cbor.specs.DataItem.{DataItem, array_of};
+ghost use Rattle.grasp_cbor.specs.Ending.{IsWhole};
 ghost use Rattle.grasp_cbor.specs.Item.{data_item_of, items_of};
 ghost use Rattle.grasp_types.specs.Message.{item_of, IsMessage};
 ghost use Rattle.grasp_types.specs.declared.message.Message.{Message};
 ghost use Rattle.grasp_wire.specs.Wire.{IsWireForm};
-ghost use Rattle.grasp_wire.specs.Plain.{IsPlainMessage, number_at, narrow_at, plain_in};
+ghost use Rattle.grasp_wire.specs.Plain.{HasNoItem, IsPlainMessage, number_at, narrow_at, plain_in};
 
-use grasp_cbor::{Item, Items, OutOfMemory, read_plain};
+use grasp_cbor::{Item, ItemFault, Items, OutOfMemory, ReadItem, read_item};
 use grasp_types::Message;
 use std::alloc::Global;
 
@@ -24,12 +25,36 @@ pub fn plain_message(
     ensures none { IfOk result (λ found. IfNone found ((m : Message) (n : ℕ) → n ≤ length bytes.now → IsPlainMessage m
         → IsWireForm m (take n bytes.now) limit → ⊥)) }
 {
-    let Some((item, used)) = read_plain(alloc, bytes, u64::from(limit))? else {
+    let Some((item, used)) = front_item(alloc, bytes, limit)? else {
         return Ok(None);
     };
     match plain_of(&item) {
         Some(message) => Ok(Some((message, used))),
         None => Ok(None),
+    }
+}
+
+// The item that begins the bytes and has no more than `limit` of them, and its length.
+fn front_item(alloc: Global, bytes: &[u8], limit: u32) -> Result<Option<(Item, u64)>, OutOfMemory>
+    ensures some { IfOk result (λ found. IfSome found (λ p. IsWhole bytes.now limit (data_item_of p.0) p.1)) }
+    ensures none { IfOk result (λ found. IfNone found (HasNoItem bytes.now limit)) }
+{
+    let most = u64::from(limit).max(1);
+    match read_item(alloc, bytes, most) {
+        Ok(ReadItem::Whole { item, used }) => {
+            if used <= u64::from(limit) {
+                Ok(Some((item, used)))
+            } else {
+                Ok(None)
+            }
+        }
+        Ok(ReadItem::Partial) => Ok(None),
+        Err(ItemFault::OutOfMemory) => Err(OutOfMemory),
+        Err(ItemFault::Malformed { at: _ }) => Ok(None),
+        Err(ItemFault::Indefinite { at: _ }) => Ok(None),
+        Err(ItemFault::NotText { at: _ }) => Ok(None),
+        Err(ItemFault::TooDeep { at: _ }) => Ok(None),
+        Err(ItemFault::TooLong) => Ok(None),
     }
 }
 

@@ -1,0 +1,5 @@
+pub mod Kept
+pub mod LawKept
+pub mod LawLeast
+pub mod Lists
+pub mod Places

@@ -1,0 +1,146 @@
+-- What the calls of a map do to lists of entries.
+use Rattle.std.specs.Prelude.{Result, Ok, Err, OnErr}
+use Rattle.std.proofs.Common.{lt-ltb, zero, suc, ◌≡◌, ℕ, ◌+◌, ◌<◌, ◌≤◌, Bool, true, false, cond, not, ◌||◌, nat_lt, ltb, List, [], ◌∷◌, ◌++◌, length, map, filter, take, drop, slice_get, Option, None, Some, is_some, refl, sym, ap, ◌∙◌, true≢false, arith, add-one}
+use Rattle.std.specs.List.{list_any}
+use Rattle.std.specs.Map.{lookup}
+use Rattle.indexmap.specs.IndexMap.{insert_entry, set_value_at}
+use Rattle.grasp_flood.specs.declared.keys.FloodId.{FloodId}
+use Rattle.grasp_flood.specs.declared.keys.FloodKey.{FloodKey}
+use Rattle.grasp_flood.specs.declared.kept.FloodKept.{FloodKept}
+use Rattle.grasp_flood.specs.Flood.{same_flood, same_key}
+use Rattle.grasp_flood.specs.declared.heard.Heard.TheVariants.{Known, NoPlace, New}
+use Rattle.grasp_flood.specs.Floods.{Floods, has_key, put, after_keep, heard_reply}
+
+-- a look-up finds something exactly where a key passes
+pub is_some_lookup : {K V : Type 0} (test : K → Bool) (es : List (K × V)) → is_some (lookup test es) ≡ list_any (λ e. test e.0) es
+is_some_lookup test [] = refl
+is_some_lookup test (e ∷ es) =
+    elim (test e.0) as (λ b. is_some (cond b (Some e.1) (lookup test es)) ≡ (b || list_any (λ x. test x.0) es)) [ true ↦ refl | false ↦ is_some_lookup test es ]
+
+-- a map's insert puts an entry
+pub insert_entry_put : (es : List (FloodKey × FloodKept)) (key : FloodKey) (kept : FloodKept) → insert_entry same_key es key kept ≡ put (key, kept) es
+insert_entry_put [] key kept = refl
+insert_entry_put (e ∷ es) key kept =
+    ap (λ rest. cond (same_key key e.0) ((e.0, kept) ∷ es) (e ∷ rest)) (insert_entry_put es key kept)
+
+-- a new memory goes last
+pub insert_entry_new : (flood : FloodId) (last : ℕ) (es : List (FloodId × ℕ)) → list_any (λ m. same_flood flood m.0) es ≡ false → insert_entry same_flood es flood last ≡ es ++ (flood, last) ∷ []
+insert_entry_new flood last [] none = refl
+insert_entry_new flood last (e ∷ es) none = by (same_flood flood e.0) none (insert_entry_new flood last es)
+  where
+    by : (b : Bool) → (b || list_any (λ m. same_flood flood m.0) es) ≡ false → (list_any (λ m. same_flood flood m.0) es ≡ false → insert_entry same_flood es flood last ≡ es ++ (flood, last) ∷ [])
+        → cond b ((e.0, last) ∷ es) (e ∷ insert_entry same_flood es flood last) ≡ e ∷ (es ++ (flood, last) ∷ [])
+    by true h rest = absurd (true≢false h)
+    by false h rest = ap (λ xs. e ∷ xs) (rest h)
+
+module _ {X : Type 0} (p : X → Bool) where
+  filter_le : (xs : List X) → length (filter p xs) ≤ length xs
+  filter_le [] = omega arith
+  filter_le (x ∷ xs) = let rest = filter_le xs in
+      elim (p x) as (λ b. length (cond b (x ∷ filter p xs) (filter p xs)) ≤ length (x ∷ xs)) [ true ↦ omega arith | false ↦ omega arith ]
+
+-- fewer are left exactly where one was taken out
+pub fewer_where_any : {X : Type 0} (p : X → Bool) (xs : List X) → nat_lt (length (filter (λ x. not (p x)) xs)) (length xs) ≡ list_any p xs
+fewer_where_any p [] = refl
+fewer_where_any p (x ∷ xs) =
+    let rest = fewer_where_any p xs in
+    let less = filter_le (λ x. not (p x)) xs in
+    by (p x) rest less
+  where
+    by : (b : Bool) → nat_lt (length (filter (λ x. not (p x)) xs)) (length xs) ≡ list_any p xs → length (filter (λ x. not (p x)) xs) ≤ length xs
+        → nat_lt (length (cond (not b) (x ∷ filter (λ x. not (p x)) xs) (filter (λ x. not (p x)) xs))) (length (x ∷ xs)) ≡ (b || list_any p xs)
+    by true rest less = grind arith
+    by false rest less = grind arith
+
+take_suc : {X : Type 0} (xs : List X) (i : ℕ) (x : X) → slice_get xs i ≡ Some x → take (suc i) xs ≡ take i xs ++ x ∷ []
+take_suc [] i x e = cc
+take_suc (y ∷ ys) zero x e = cc
+take_suc (y ∷ ys) (suc i) x e = ap (λ rest. y ∷ rest) (take_suc ys i x e)
+
+-- one more part
+pub take_one_more : {X : Type 0} (xs : List X) (i : ℕ) (x : X) → slice_get xs i ≡ Some x → take (i + 1) xs ≡ take i xs ++ x ∷ []
+take_one_more xs i x e = ap (λ n. take n xs) (add-one i) ∙ take_suc xs i x e
+
+pub map_append : {X Y : Type 0} (f : X → Y) (xs ys : List X) → map f (xs ++ ys) ≡ map f xs ++ map f ys
+map_append f [] ys = refl
+map_append f (x ∷ xs) ys = ap (λ rest. f x ∷ rest) (map_append f xs ys)
+
+-- the parts so far and one more, each through f
+pub map_one_more : {X Y : Type 0} (f : X → Y) (xs : List X) (i : ℕ) (x : X) → slice_get xs i ≡ Some x → map f (take (i + 1) xs) ≡ map f (take i xs) ++ f x ∷ []
+map_one_more f xs i x e = ap (map f) (take_one_more xs i x e) ∙ map_append f (take i xs) (x ∷ [])
+
+filter_append : {X : Type 0} (p : X → Bool) (xs ys : List X) → filter p (xs ++ ys) ≡ filter p xs ++ filter p ys
+filter_append p [] ys = refl
+filter_append p (x ∷ xs) ys = let rest = filter_append p xs ys in
+    elim (p x) as (λ b. cond b (x ∷ filter p (xs ++ ys)) (filter p (xs ++ ys)) ≡ cond b (x ∷ filter p xs) (filter p xs) ++ filter p ys)
+    [ true ↦ ap (λ zs. x ∷ zs) rest | false ↦ rest ]
+
+module _ {X Y : Type 0} (p : X → Bool) (f : X → Y) (xs : List X) (i : ℕ) (x : X) where
+  seam : slice_get xs i ≡ Some x → map f (filter p (take (i + 1) xs)) ≡ map f (filter p (take i xs)) ++ map f (filter p (x ∷ []))
+  seam e = ap (λ zs. map f (filter p zs)) (take_one_more xs i x e) ∙ ap (map f) (filter_append p (take i xs) (x ∷ [])) ∙ map_append f (filter p (take i xs)) (filter p (x ∷ []))
+
+  -- one more that passes the test
+  pub passes_more : slice_get xs i ≡ Some x → p x ≡ true → map f (filter p (take (i + 1) xs)) ≡ map f (filter p (take i xs)) ++ f x ∷ []
+  passes_more e t = seam e ∙ ap (λ b. map f (filter p (take i xs)) ++ map f (cond b (x ∷ []) [])) t
+
+  -- one more that doesn't
+  pub fails_more : slice_get xs i ≡ Some x → p x ≡ false → map f (filter p (take (i + 1) xs)) ≡ map f (filter p (take i xs))
+  fails_more e t = seam e ∙ ap (λ b. map f (filter p (take i xs)) ++ map f (cond b (x ∷ []) [])) t ∙ append_nil (map f (filter p (take i xs)))
+    where
+      append_nil : (zs : List Y) → zs ++ [] ≡ zs
+      append_nil [] = refl
+      append_nil (z ∷ zs) = ap (λ rest. z ∷ rest) (append_nil zs)
+
+-- the first i entries through f, and the others as they were
+abbrev pub first_through : {X : Type 0} → (X → X) → ℕ → List X → List X
+first_through f i [] = []
+first_through f zero (x ∷ xs) = x ∷ xs
+first_through f (suc i) (x ∷ xs) = f x ∷ first_through f i xs
+
+pub first_through_none : {X : Type 0} (f : X → X) (xs : List X) → first_through f 0 xs ≡ xs
+first_through_none f [] = refl
+first_through_none f (x ∷ xs) = refl
+
+pub first_through_all : {X : Type 0} (f : X → X) (i : ℕ) (xs : List X) → length xs ≤ i → first_through f i xs ≡ map f xs
+first_through_all f i [] h = refl
+first_through_all f zero (x ∷ xs) h = absurd (omega arith)
+first_through_all f (suc i) (x ∷ xs) h = ap (λ rest. f x ∷ rest) (first_through_all f i xs (omega arith))
+
+pub length_first_through : {X : Type 0} (f : X → X) (i : ℕ) (xs : List X) → length (first_through f i xs) ≡ length xs
+length_first_through f i [] = refl
+length_first_through f zero (x ∷ xs) = refl
+length_first_through f (suc i) (x ∷ xs) = ap suc (length_first_through f i xs)
+
+first_through_suc : {K V : Type 0} (f : K × V → K × V) (i : ℕ) (xs : List (K × V)) (k : K) (v w : V)
+    → slice_get (first_through f i xs) i ≡ Some (k, v) → (k, w) ≡ f (k, v) → set_value_at (first_through f i xs) i w ≡ first_through f (suc i) xs
+first_through_suc f i [] k v w at is = refl
+first_through_suc {K} {V} f zero (x ∷ xs) k v w at is =
+    let here : x ≡ (k, v) = cc in
+    let front : (x.0, w) ≡ f x = ap (λ (p : K × V). (p.0, w)) here ∙ is ∙ ap f (sym here) in
+    ap (λ p. p ∷ xs) front ∙ ap (λ rest. f x ∷ rest) (sym (first_through_none f xs))
+first_through_suc f (suc i) (x ∷ xs) k v w at is = ap (λ rest. f x ∷ rest) (first_through_suc f i xs k v w at is)
+
+-- a write of the next value through f
+pub first_through_more : {K V : Type 0} (f : K × V → K × V) (i : ℕ) (xs : List (K × V)) (k : K) (v w : V)
+    → slice_get (first_through f i xs) i ≡ Some (k, v) → (k, w) ≡ f (k, v) → set_value_at (first_through f i xs) i w ≡ first_through f (i + 1) xs
+first_through_more f i xs k v w at is = first_through_suc f i xs k v w at is ∙ sym (ap (λ n. first_through f n xs) (add-one i))
+
+-- what the look-up of a flood says of the memories
+pub remembered_is : (flood : FloodId) (es : List (FloodId × ℕ)) (found answer : Bool) → found ≡ is_some (lookup (same_flood flood) es) → found ≡ answer
+    → list_any (λ m. same_flood flood m.0) es ≡ answer
+remembered_is flood es found answer e is = sym (is_some_lookup (same_flood flood) es) ∙ sym e ∙ is
+
+-- a flood that isn't remembered is new where fewer than 256 are, and else has no place
+pub is_new : (floods : Floods) (flood : FloodId) → list_any (λ m. same_flood flood m.0) floods.memories ≡ false → length floods.memories < 256 → heard_reply floods flood ≡ New
+is_new floods flood unknown room = rw (unknown, lt-ltb (length floods.memories) 256 room)
+
+pub has_no_place : (floods : Floods) (flood : FloodId) → list_any (λ m. same_flood flood m.0) floods.memories ≡ false → 256 ≤ length floods.memories → heard_reply floods flood ≡ NoPlace
+has_no_place floods flood unknown full = let no : nat_lt (length floods.memories) 256 ≡ false = grind (arith, full) in rw (unknown, no)
+
+pub is_known : (floods : Floods) (flood : FloodId) → list_any (λ m. same_flood flood m.0) floods.memories ≡ true → heard_reply floods flood ≡ Known
+is_known floods flood known = rw known
+
+-- what holds anyhow holds after an error
+pub OnErr_anyhow : {T E P : Type 0} (r : Result T E) → P → OnErr r P
+OnErr_anyhow (Ok x) p = tt
+OnErr_anyhow (Err e) p = p

@@ -1,0 +1,3 @@
+pub mod Entries
+pub mod Soundness
+pub mod Expiry

@@ -1,0 +1,4 @@
+pub mod Flood
+pub mod FloodLaws
+pub mod Floods
+pub mod Laws

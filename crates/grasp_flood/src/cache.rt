@@ -1,0 +1,189 @@
+//! The cache of floods.
+
+ghost use Rattle.std.specs.Prelude.{◌≡◌, ◌+◌, ◌≤◌, ◌<◌, length, map, fold, IfOk, OnErr};
+ghost use Rattle.indexmap.specs.IndexMap.{spare};
+ghost use Rattle.grasp_flood.specs.Flood.{flood_of, key_of};
+ghost use Rattle.grasp_flood.specs.declared.heard.Heard.TheVariants.{New};
+ghost use Rattle.grasp_flood.specs.Floods.{no_floods, has_key, entry_of, after_keep, after_renewal, heard_reply, after_heard, reads_of, after_drop, after_expiry, IsSound};
+
+use crate::kept::{end_of, entry_of, read_of};
+use crate::{FloodId, FloodKept, FloodKey, Heard};
+use grasp_cbor::{Chars, OutOfMemory};
+use grasp_types::{Address, FloodParts, FloodReads};
+use indexmap::IndexMap;
+use std::alloc::Global;
+use std::marker::Model;
+
+/// At most so many entries are kept.
+const MOST_ENTRIES: usize = 128;
+
+/// At most so many floods are remembered.
+const MOST_MEMORIES: usize = 256;
+
+/// A flood is remembered for so many milliseconds.
+const MEMORY: u64 = 120_000;
+
+type Entries = IndexMap<FloodKey, FloodKept>;
+
+/// What floods told, and which floods are remembered.
+#[derive(Drop)]
+pub struct FloodCache {
+    entries: Entries,
+    memories: IndexMap<FloodId, u64>,
+}
+
+impl Model for FloodCache {
+    ghost use Rattle.std.specs.Coded.{codes};
+    ghost use Rattle.grasp_flood.specs.contracts.kept.FloodKept as kept;
+    ghost use Rattle.grasp_flood.specs.contracts.keys.FloodId as flood;
+    ghost use Rattle.grasp_flood.specs.contracts.keys.FloodKey as key;
+    ghost use Rattle.grasp_flood.specs.Floods.{Floods, IsSound};
+
+    ghost Value = { Floods };
+
+    ghost coded = { Prim.hlevel (codes, key.the_row.coded, kept.the_row.coded, flood.the_row.coded) };
+
+    ghost view = { λ a. record { entries = a.entries.entries; memories = a.memories.entries } };
+
+    ghost invariant = { λ a. IsSound (record { entries = a.entries.entries; memories = a.memories.entries }) };
+}
+
+impl FloodCache {
+    /// An empty cache, with memory for 128 entries and 256 memories.
+    pub fn new(alloc: Global) -> Result<FloodCache, OutOfMemory>
+        ensures empty { IfOk result (λ cache. cache ≡ no_floods) }
+        ensures sound { IfOk result IsSound }
+    {
+        Ok(FloodCache {
+            entries: IndexMap::with_capacity(alloc, MOST_ENTRIES)?,
+            memories: IndexMap::with_capacity(alloc, MOST_MEMORIES)?,
+        })
+    }
+
+    /// Hears a flood of another node at this reading: its session number, its initiator, the lifetime of what it
+    /// tells, where 0 never ends, and its parts (RFC 8990, section 2.8.11).
+    ///
+    /// A flood that is remembered renews what it told, to the later of the two ends. A new one is remembered for
+    /// 120000 ms, and each of its parts takes the place of what was kept of its name and initiator, or comes last where
+    /// fewer than 128 entries are kept. Only a new flood takes memory. After an `Err` the cache is as before.
+    pub fn heard(
+        &mut self,
+        now: u64,
+        session: u32,
+        initiator: Address,
+        ttl: u32,
+        parts: &FloodParts,
+    ) -> Result<Heard, OutOfMemory>
+        ensures reply { IfOk result (λ heard. heard ≡ heard_reply self.old (flood_of session initiator)) }
+        ensures after { IfOk result (λ heard. self.new ≡ after_heard self.old now (flood_of session initiator) ttl parts.now heard) }
+        ensures err { OnErr result (self.new ≡ self.old) }
+        ensures wanted { OnErr result (heard_reply self.old (flood_of session initiator) ≡ New) }
+        ensures sound { IsSound self.new }
+    {
+        let flood = FloodId { session, initiator };
+        let end = end_of(now, ttl);
+        if self.memories.contains_key(&flood) {
+            renew_all(&mut self.entries, flood, end);
+            return Ok(Heard::Known);
+        }
+        if self.memories.len() >= MOST_MEMORIES {
+            return Ok(Heard::NoPlace);
+        }
+        let told = entries_of(*self.entries.allocator(), flood, end, parts)?;
+        self.entries.reserve(told.len())?;
+        self.memories.insert(flood, now.saturating_add(MEMORY))?;
+        keep_all(&mut self.entries, told);
+        Ok(Heard::New)
+    }
+
+    /// What is kept of this name, in the order in which the keys were first kept.
+    pub fn get(&self, name: &Chars) -> Result<FloodReads, OutOfMemory>
+        ensures reads { IfOk result (λ reads. reads ≡ reads_of self.now name.now) }
+        ensures sound { IsSound self.now }
+    {
+        let alloc = *self.entries.allocator();
+        let mut reads = FloodReads::new(alloc);
+        for i in 0..self.entries.len() {
+            let Some((key, kept)) = self.entries.get_index(i) else {
+                unreachable!()
+            };
+            if key.name.bytes() == name.bytes() {
+                reads.push(read_of(key, kept)?)?;
+            }
+        }
+        Ok(reads)
+    }
+
+    /// Drops what is kept under this name and initiator, and says whether there was anything. It takes no memory.
+    pub fn drop_one(&mut self, name: &Chars, initiator: Address) -> bool
+        ensures there { result ≡ has_key (key_of name.now initiator) self.old.entries }
+        ensures after { self.new ≡ after_drop self.old (key_of name.now initiator) }
+        ensures sound { IsSound self.new }
+    {
+        let before = self.entries.len();
+        self.entries.retain(|key, _kept| !key.is(name, initiator));
+        self.entries.len() < before
+    }
+
+    /// Drops what has ended by this reading, and forgets the floods whose memory has. It takes no memory.
+    pub fn expire(&mut self, now: u64)
+        ensures after { self.new ≡ after_expiry self.old now }
+        ensures sound { IsSound self.new }
+    {
+        self.entries.retain(|_key, kept| kept.is_after(now));
+        self.memories.retain(|_flood, end| now < *end);
+    }
+}
+
+/// What is kept of these parts of a flood, with their keys.
+fn entries_of(
+    alloc: Global,
+    flood: FloodId,
+    end: Option<u64>,
+    parts: &FloodParts,
+) -> Result<Vec<(FloodKey, FloodKept)>, OutOfMemory>
+    ensures { IfOk result (λ told. told.items ≡ map (entry_of flood end) parts.now) }
+{
+    let mut told = Vec::new(alloc);
+    for i in 0..parts.len() {
+        let Some(part) = parts.at(i) else {
+            unreachable!()
+        };
+        told.push(entry_of(flood, end, part)?)?;
+    }
+    Ok(told)
+}
+
+/// Keeps each of these in its order. There is room for all.
+fn keep_all(entries: &mut Entries, told: Vec<(FloodKey, FloodKept)>)
+    requires { length told.items ≤ spare entries.old }
+    ensures { entries.new.entries ≡ fold after_keep entries.old.entries told.items }
+{
+    for (key, kept) in told {
+        keep(entries, key, kept);
+    }
+}
+
+/// Keeps this, where something is kept under its key or fewer than 128 entries are. There is room for one more.
+#[tactic(auto, using(crate::proofs::Entries::is_some_lookup, crate::proofs::Entries::insert_entry_put))]
+fn keep(entries: &mut Entries, key: FloodKey, kept: FloodKept)
+    requires { 0 < spare entries.old }
+    ensures after { entries.new.entries ≡ after_keep entries.old.entries (key, kept) }
+    ensures room { spare entries.old ≤ spare entries.new + 1 }
+{
+    if entries.contains_key(&key) || entries.len() < MOST_ENTRIES {
+        let Ok(_) = entries.insert(key, kept) else {
+            unreachable!()
+        };
+    }
+}
+
+/// Renews what this flood made.
+fn renew_all(entries: &mut Entries, flood: FloodId, end: Option<u64>)
+    ensures { entries.new.entries ≡ map (after_renewal flood end) entries.old.entries }
+{
+    for i in 0..entries.len() {
+        let (key, kept) = entries.pair_mut(i);
+        kept.renew(key, flood, end);
+    }
+}

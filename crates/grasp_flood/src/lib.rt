@@ -1,0 +1,19 @@
+//! What floods told a node, and which floods it must not send on again (RFC 8990, section 2.5.6.2).
+//!
+//! A flood is known by its session number and its initiator. What it told is kept under a name and an initiator, with
+//! an end or without one. Readings of the clock and lifetimes are in milliseconds.
+#![tactic(auto)]
+
+mod cache;
+mod heard;
+mod kept;
+mod keys;
+mod laws;
+#[cfg(test)]
+mod tests;
+
+pub use cache::FloodCache;
+pub use heard::Heard;
+pub use kept::FloodKept;
+pub use keys::{FloodId, FloodKey};
+pub use laws::{all_stays_sound, expiry_twice_is_once, nothing_ended_stays};

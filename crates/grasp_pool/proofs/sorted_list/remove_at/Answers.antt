@@ -1,0 +1,37 @@
+use Rattle.std.proofs.Common.{◌≡◌, ◌<◌, ◌∙◌, ap, arith, length, slice_index_or, Contains, List}
+use Rattle.std.proofs.lemmas.List.{get_or_default}
+use Rattle.grasp_pool.proofs.Equal.{removed_is}
+use Rattle.grasp_pool.proofs.Lists.{remove_rising, remove_members}
+use Rattle.grasp_pool.specs.Canonical.{IsRising}
+use Rattle.std.proofs.lemmas.List.Elements.{Contains-get_or}
+use Rattle.std.proofs.Common.{Contains, subst, sym, rules, List}
+use Rattle.grasp_types.specs.Prefix.{AddressBlock as Prefix}
+use Rattle.grasp_pool.specs.Parts.{IsRemoved}
+use Rattle.grasp_pool.proofs.sorted_list.remove_at.Goals as goal
+
+pub returns-clause-items : goal.returns-clause-items
+returns-clause-items c = subst (λ (l : List Prefix). IsRemoved c.args.list.now.items l c.remove.result) (sym c.remove.ensures.items)
+    (remove_members c.args.list.now.items c.args.i c.remove.result c.requires.rising (search rules) c.remove.ensures.value)
+
+pub returns-clause-is : goal.returns-clause-is
+returns-clause-is c =
+    let old = c.args.list.now.items
+    in let rising = remove_rising old c.args.i c.requires.rising (search rules) c.remove.result
+    in removed_is old c.remove.new.self.items c.remove.result c.requires.rising (subst (λ (l : List Prefix). IsRising l) (sym c.remove.ensures.items) rising)
+    (subst (λ (x : Prefix). Contains old x) (sym c.remove.ensures.value) (Contains-get_or old c.args.i c.remove.result (search rules))) (returns-clause-items c)
+
+pub returns-clause-rising : goal.returns-clause-rising
+returns-clause-rising c =
+    let rising = remove_rising c.args.list.now.items c.args.i c.requires.rising (search rules) c.remove.result
+    in subst (λ (l : List Prefix). IsRising l) (sym c.remove.ensures.items) rising
+
+pub returns-clause-below : goal.returns-clause-below
+returns-clause-below c = λ k d lt.
+    let old = c.args.list.now.items
+    in let within : c.args.i < length old = search rules
+    in let same : slice_index_or c.remove.new.self.items k d ≡ slice_index_or old k d = c.remove.ensures.by_index.0 k d lt
+    in let up : (slice_index_or old k d).address < (slice_index_or old c.args.i d).address = c.requires.rising k c.args.i d lt within
+    in let s : (slice_index_or c.remove.new.self.items k d).address ≡ (slice_index_or old k d).address = ap (λ (v : Prefix). v.address) same
+    in let t : c.remove.result.address ≡ (slice_index_or old c.args.i d).address
+    = ap (λ (v : Prefix). v.address) (c.remove.ensures.value ∙ get_or_default old c.args.i c.remove.result d within)
+    in omega arith

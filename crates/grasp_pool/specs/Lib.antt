@@ -1,0 +1,9 @@
+pub mod Spans
+pub mod Canonical
+pub mod Holdings
+pub mod Parts
+pub mod Pools
+pub mod Functions
+pub mod Roots
+pub mod Answers
+pub mod Ledger

@@ -1,0 +1,51 @@
+//! Prefixes, the two halves of each, and the prefix of which it is one.
+
+ghost use Rattle.std.specs.Prelude.{◌≡◌, ◌≤◌};
+ghost use Rattle.grasp_types.specs.Prefix.{IsPrefix};
+ghost use Rattle.grasp_pool.specs.Spans.{IsValid, size};
+ghost use Rattle.grasp_pool.specs.Parts.{AreHalves};
+ghost use Rattle.grasp_pool.specs.Functions.{parent_of, buddy_of};
+
+use grasp_types::Prefix;
+
+/// The prefix that has another as one of its halves, and the other half.
+#[derive(Clone, Copy)]
+pub struct Halves {
+    pub parent: Prefix,
+    pub buddy: Prefix,
+}
+
+/// The prefix of this address and length, which are known to make one.
+pub fn prefix_at(address: u128, length: u8) -> Prefix
+    requires { IsPrefix address length }
+    ensures { result ≡ record { address = address; length = length } }
+{
+    let Some(prefix) = Prefix::of(address, length) else {
+        unreachable!()
+    };
+    prefix
+}
+
+/// How many addresses it has.
+pub fn size_of(prefix: Prefix) -> u128
+    ensures value { result ≡ size prefix }
+    ensures valid { IsValid prefix }
+{
+    1u128 << (128 - prefix.length())
+}
+
+/// The prefix of which it is one half, and the other half.
+pub fn halves_of(prefix: Prefix) -> Halves
+    requires { 2 ≤ prefix.length }
+    ensures halves { AreHalves prefix result }
+    ensures is { (result.parent ≡ parent_of prefix) × (result.buddy ≡ buddy_of prefix) }
+{
+    let half = size_of(prefix);
+    let address = prefix.address();
+    let length = prefix.length();
+    let offset = address % (half + half);
+    let start = address - offset;
+    let parent = prefix_at(start, length - 1);
+    let buddy = prefix_at(start + (half - offset), length);
+    Halves { parent, buddy }
+}

@@ -1,0 +1,80 @@
+//! Laws of the definitions that the pool's contracts cite.
+
+ghost use Rattle.std.specs.Prelude.{◌≡◌, ℕ, ◌↔◌, ◌<◌, ◌≤◌, List, Contains, MatchOption, IsTrue};
+ghost use Rattle.grasp_types.specs.Prefix.{AddressBlock};
+ghost use Rattle.grasp_pool.specs.Spans.{Covers, IsValid};
+ghost use Rattle.grasp_pool.specs.Canonical.{IsCanonical, IsClean, IsRising, IsTidy, IsLowestFree, HasNoFree};
+ghost use Rattle.grasp_pool.specs.Holdings.{Holding, IsFree, IsListed, IsNew, GivesBack, Confirms, Doubts, Gains};
+ghost use Rattle.grasp_pool.specs.Pools.{IsPool, room_of, IsTaken, IsNotTaken};
+ghost use Rattle.grasp_pool.specs.Functions.{lowest_free, can_gain, take_reply, after_take, after_back, after_confirm, after_doubt, after_gain};
+ghost use Rattle.grasp_pool.specs.Ledger.{Ledger, Move, Step, Follows, IsReached, IsStart, IsRun, last_of, HeldApart, AuthoritiesApart, OffersKept, PoolApart, IsOwned};
+
+/// A set of addresses has one list of maximal prefixes in rising order.
+pub fn one_canonical_list()
+    ensures { (xs ys : List AddressBlock) → IsCanonical xs → IsCanonical ys → ((a : ℕ) → Covers xs a ↔ Covers ys a) → xs ≡ ys }
+{}
+
+/// Where no two prefixes of a rising list overlap or make up a larger one, they are the maximal prefixes of what it covers.
+pub fn clean_lists_are_canonical()
+    ensures { (xs : List AddressBlock) → IsClean xs → IsRising xs → IsCanonical xs }
+{}
+
+/// A pool is its three sets.
+pub fn same_sets_same_pool()
+    ensures { (g h : Holding) → IsPool g → IsPool h → ((a : ℕ) → IsFree g a ↔ IsFree h a) → ((q : AddressBlock) → Contains g.reserved q ↔ Contains h.reserved q) → ((q : AddressBlock) → Contains g.doubtful q ↔ Contains h.doubtful q) → g ≡ h }
+{}
+
+/// There is at most one lowest free prefix of a length.
+pub fn one_lowest_free()
+    ensures { (ps : List AddressBlock) (n : ℕ) (p q : AddressBlock) → IsLowestFree ps n p → IsLowestFree ps n q → p ≡ q }
+{}
+
+/// The lowest free prefix of a length, as a function of the list, is what its definition by addresses says.
+pub fn lowest_free_is_lowest()
+    ensures { (ps : List AddressBlock) (n : ℕ) → IsTidy ps → 1 ≤ n → n ≤ 128 → MatchOption (lowest_free ps n) (HasNoFree ps n) (λ p. IsLowestFree ps n p) }
+{}
+
+/// What `take` answers and leaves, as functions, is what is said of it by addresses, and a pool stays a pool.
+pub fn take_means()
+    ensures answer { (h : Holding) (n : ℕ) → IsPool h → 1 ≤ n → n ≤ 128 → MatchOption (take_reply h n) (IsNotTaken h (after_take h n (take_reply h n)) n) (λ p. IsTaken h (after_take h n (take_reply h n)) n p) }
+    ensures pool { (h : Holding) (n : ℕ) → IsPool h → 1 ≤ n → n ≤ 128 → IsPool (after_take h n (take_reply h n)) }
+{}
+
+/// What the calls on a reserved prefix leave, as functions, is what is said of them by addresses, and a pool stays a pool.
+pub fn reserved_calls_mean()
+    ensures back { (h : Holding) (p : AddressBlock) → IsPool h → Contains h.reserved p → GivesBack h (after_back h p) p }
+    ensures back_pool { (h : Holding) (p : AddressBlock) → IsPool h → Contains h.reserved p → IsPool (after_back h p) }
+    ensures confirmed { (h : Holding) (p : AddressBlock) → IsPool h → Contains h.reserved p → Confirms h (after_confirm h p) p }
+    ensures confirmed_pool { (h : Holding) (p : AddressBlock) → IsPool h → Contains h.reserved p → IsPool (after_confirm h p) }
+    ensures doubted { (h : Holding) (p : AddressBlock) → IsPool h → Contains h.reserved p → Doubts h (after_doubt h p) p }
+    ensures doubted_pool { (h : Holding) (p : AddressBlock) → IsPool h → Contains h.reserved p → IsPool (after_doubt h p) }
+{}
+
+/// What `can_gain` and `gain` answer and leave, as functions, is what is said of them by addresses, and a pool stays a pool.
+pub fn gain_means()
+    ensures gainable { (h : Holding) (p : AddressBlock) → IsTrue (can_gain h p) ↔ (IsNew h p × (0 < room_of h)) }
+    ensures gained { (h : Holding) (p : AddressBlock) → IsPool h → IsValid p → IsTrue (can_gain h p) → Gains h (after_gain h p) p }
+    ensures gained_pool { (h : Holding) (p : AddressBlock) → IsPool h → IsValid p → IsTrue (can_gain h p) → IsPool (after_gain h p) }
+{}
+
+/// Whatever moves are made from disjoint roots: no address is held by two nodes, no authority overlaps what any
+/// node holds or another authority, an offer of unknown outcome stays with its giver, and each reserved or doubtful
+/// prefix is kept for exactly one talk.
+pub fn prefixes_stay_apart()
+    ensures held { (ledger : Ledger) (steps : List Step) → IsStart ledger → IsRun ledger steps → HeldApart (last_of ledger steps) }
+    ensures authorities { (ledger : Ledger) (steps : List Step) → IsStart ledger → IsRun ledger steps → AuthoritiesApart (last_of ledger steps) }
+    ensures offers { (ledger : Ledger) (steps : List Step) → IsStart ledger → IsRun ledger steps → OffersKept (last_of ledger steps) }
+    ensures pools { (ledger : Ledger) (steps : List Step) → IsStart ledger → IsRun ledger steps → (n : ℕ) → PoolApart ((last_of ledger steps).pool n) }
+    ensures owned { (ledger : Ledger) (steps : List Step) → IsStart ledger → IsRun ledger steps → (n : ℕ) (q : AddressBlock) → IsListed ((last_of ledger steps).pool n) q → IsOwned (last_of ledger steps) n q }
+{}
+
+/// A ledger that is reached stays one under each move, and is disjoint as above.
+pub fn moves_go_on()
+    ensures start { (ledger : Ledger) → IsStart ledger → IsReached ledger }
+    ensures more { (old new : Ledger) (move : Move) → IsReached old → Follows old move new → IsReached new }
+    ensures held { (ledger : Ledger) → IsReached ledger → HeldApart ledger }
+    ensures authorities { (ledger : Ledger) → IsReached ledger → AuthoritiesApart ledger }
+    ensures offers { (ledger : Ledger) → IsReached ledger → OffersKept ledger }
+    ensures pools { (ledger : Ledger) → IsReached ledger → (n : ℕ) → PoolApart (ledger.pool n) }
+    ensures owned { (ledger : Ledger) → IsReached ledger → (n : ℕ) (q : AddressBlock) → IsListed (ledger.pool n) q → IsOwned ledger n q }
+{}

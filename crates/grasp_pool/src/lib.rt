@@ -1,0 +1,23 @@
+//! Pools of prefixes: which addresses a node may give, which are reserved, and which are in doubt (RFC 8992).
+#![tactic(auto)]
+
+mod fault;
+mod firsts;
+mod free_list;
+mod halves;
+mod laws;
+mod overlapping;
+mod pool;
+mod roots;
+mod sorted_list;
+
+pub use fault::{GainFault, PoolFault};
+pub use laws::{
+    clean_lists_are_canonical, gain_means, lowest_free_is_lowest, moves_go_on, one_canonical_list,
+    one_lowest_free, prefixes_stay_apart, reserved_calls_mean, same_sets_same_pool, take_means,
+};
+pub use pool::Pool;
+pub use roots::RootPrefix;
+
+#[cfg(test)]
+mod tests;

@@ -1,0 +1,231 @@
+//! The pool: what is free, reserved and doubtful.
+
+ghost use Rattle.std.specs.Prelude.{◌≡◌, ◌↔◌, ◌<◌, ◌≤◌, Contains, IfOk, IsTrue, is_ok, MatchOption, MatchResult, slice_get};
+ghost use Rattle.grasp_pool.specs.Spans.{IsValid};
+ghost use Rattle.grasp_pool.specs.Canonical.{IsCanonical, IsRising};
+ghost use Rattle.grasp_pool.specs.Holdings.{IsNew, Reserves, GivesBack, Confirms, Doubts, Gains};
+ghost use Rattle.grasp_pool.specs.Parts.{IsAnswer};
+ghost use Rattle.grasp_pool.specs.Pools.{IsPool, entries, room_of, IsTaken, IsNotTaken, IsGained};
+ghost use Rattle.grasp_pool.specs.Answers.{IsOpened, IsRootFault, IsRefused};
+ghost use Rattle.grasp_pool.specs.Functions.{pool_of, has, can_gain, take_reply, after_take, after_back, after_confirm, after_doubt, after_gain};
+
+use crate::fault::{GainFault, PoolFault};
+use crate::free_list::{FreeList, MOST_ENTRIES, carve, merge_in};
+use crate::overlapping::{first_overlap, lesser};
+use crate::roots::{RootPrefix, fill, first_bad, first_clash};
+use crate::sorted_list::{drop_prefix, find_prefix, insert_prefix};
+use grasp_types::Prefix;
+use std::alloc::Global;
+use std::marker::Model;
+
+/// How many roots a pool is opened with at most.
+const MOST_ROOTS: usize = 1024;
+
+/// The room that `take` needs: it leaves up to 127 pieces of a free prefix and one reserved prefix.
+const TAKE_ROOM: u64 = 128;
+
+/// The prefixes of a node: which are free, which are reserved for an offer, and which are in doubt (RFC 8992).
+///
+/// `open` takes all the memory that the pool will ever need, and no later call takes any.
+#[derive(Drop)]
+pub struct Pool {
+    free: FreeList,
+    reserved: Vec<Prefix>,
+    doubtful: Vec<Prefix>,
+}
+
+impl Model for Pool {
+    ghost use Rattle.std.specs.Prelude.{vec_capacity};
+    ghost use Rattle.grasp_pool.specs.Holdings.{Holding};
+    ghost use Rattle.grasp_pool.specs.Pools.{IsStored};
+
+    ghost Value = { Holding };
+
+    ghost view = { λ s. record { free = s.free.entries.items; reserved = s.reserved.items; doubtful = s.doubtful.items } };
+
+    ghost invariant = { λ s. IsStored (record { free = s.free.entries.items; reserved = s.reserved.items; doubtful = s.doubtful.items }) s.free.firsts.items (vec_capacity s.free.entries) (vec_capacity s.reserved) (vec_capacity s.doubtful) };
+}
+
+impl Pool {
+    /// A pool whose free addresses are those of the roots.
+    ///
+    /// `TooMany` above 1,024 roots; then `BadRoot` for the first root that is no prefix; then `Overlap` for
+    /// the least second root that overlaps an earlier one, with the least such first; then `OutOfMemory`.
+    pub fn open(alloc: Global, roots: &[RootPrefix]) -> Result<Pool, PoolFault>
+        ensures pool { IfOk result (λ pool. IsPool pool) }
+        ensures is { IfOk result (λ pool. pool ≡ pool_of roots.now) }
+        ensures opened { MatchResult result (λ pool. IsOpened roots.now pool) (λ fault. IsRootFault roots.now fault) }
+    {
+        if roots.len() > MOST_ROOTS {
+            return Err(PoolFault::TooMany);
+        }
+        if let Some(i) = first_bad(roots) {
+            return Err(PoolFault::BadRoot { index: i as u64 });
+        }
+        if let Some(clash) = first_clash(roots) {
+            return Err(PoolFault::Overlap {
+                first: clash.first as u64,
+                second: clash.second as u64,
+            });
+        }
+        let Ok(mut free) = FreeList::open(alloc) else {
+            return Err(PoolFault::OutOfMemory);
+        };
+        let Ok(reserved) = Vec::with_capacity(alloc, MOST_ENTRIES) else {
+            return Err(PoolFault::OutOfMemory);
+        };
+        let Ok(doubtful) = Vec::with_capacity(alloc, MOST_ENTRIES) else {
+            return Err(PoolFault::OutOfMemory);
+        };
+        fill(&mut free, roots);
+        Ok(Pool {
+            free,
+            reserved,
+            doubtful,
+        })
+    }
+
+    /// The maximal free prefix at this place, from 0 in rising order of address.
+    pub fn free(&self, i: u64) -> Option<Prefix>
+        ensures pool { IsPool self.now }
+        ensures canonical { IsCanonical self.now.free }
+        ensures at { result ≡ slice_get self.now.free i }
+    {
+        self.free.entries.get(i as usize).copied()
+    }
+
+    /// The reserved prefix at this place, from 0 in rising order of address.
+    pub fn reserved(&self, i: u64) -> Option<Prefix>
+        ensures rising { IsRising self.now.reserved }
+        ensures at { result ≡ slice_get self.now.reserved i }
+    {
+        self.reserved.get(i as usize).copied()
+    }
+
+    /// The doubtful prefix at this place, from 0 in rising order of address.
+    pub fn doubtful(&self, i: u64) -> Option<Prefix>
+        ensures rising { IsRising self.now.doubtful }
+        ensures at { result ≡ slice_get self.now.doubtful i }
+    {
+        self.doubtful.get(i as usize).copied()
+    }
+
+    /// How many entries may still be added, 0 to 4096.
+    pub fn room(&self) -> u64
+        ensures pool { IsPool self.now }
+        ensures value { result ≡ room_of self.now }
+    {
+        let entries = self.free.entries.len() + self.reserved.len() + self.doubtful.len();
+        (MOST_ENTRIES - entries) as u64
+    }
+
+    /// Whether the prefix is reserved, so that it can be confirmed, given back or doubted.
+    pub fn is_reserved(&self, prefix: Prefix) -> bool
+        ensures reserved { IsTrue result ↔ Contains self.now.reserved prefix }
+        ensures is { result ≡ has self.now.reserved prefix }
+    {
+        match find_prefix(&self.reserved, prefix) {
+            Some(_) => true,
+            None => false,
+        }
+    }
+
+    /// Reserves the prefix of this length with the least address whose addresses are all free.
+    ///
+    /// The length is 1 to 128. `None` where there is none, or the room is below 128.
+    pub fn take(&mut self, length: u8) -> Option<Prefix>
+        requires some { 1 ≤ length }
+        requires most { length ≤ 128 }
+        ensures pool { IsPool self.new }
+        ensures taken { MatchOption result (IsNotTaken self.old self.new length) (λ p. IsTaken self.old self.new length p) }
+        ensures reply { result ≡ take_reply self.old length }
+        ensures after { self.new ≡ after_take self.old length result }
+    {
+        if self.room() < TAKE_ROOM {
+            return None;
+        }
+        let Some(part) = carve(&mut self.free, length) else {
+            return None;
+        };
+        insert_prefix(&mut self.reserved, part);
+        Some(part)
+    }
+
+    /// Makes a reserved prefix free.
+    pub fn give_back(&mut self, prefix: Prefix)
+        requires { Contains self.old.reserved prefix }
+        ensures pool { IsPool self.new }
+        ensures back { GivesBack self.old self.new prefix }
+        ensures after { self.new ≡ after_back self.old prefix }
+    {
+        drop_prefix(&mut self.reserved, prefix);
+        merge_in(&mut self.free, prefix);
+    }
+
+    /// Forgets a reserved prefix.
+    pub fn confirm(&mut self, prefix: Prefix)
+        requires { Contains self.old.reserved prefix }
+        ensures pool { IsPool self.new }
+        ensures confirmed { Confirms self.old self.new prefix }
+        ensures after { self.new ≡ after_confirm self.old prefix }
+    {
+        drop_prefix(&mut self.reserved, prefix);
+    }
+
+    /// Makes a reserved prefix doubtful.
+    pub fn doubt(&mut self, prefix: Prefix)
+        requires { Contains self.old.reserved prefix }
+        ensures pool { IsPool self.new }
+        ensures doubted { Doubts self.old self.new prefix }
+        ensures after { self.new ≡ after_doubt self.old prefix }
+    {
+        drop_prefix(&mut self.reserved, prefix);
+        insert_prefix(&mut self.doubtful, prefix);
+    }
+
+    /// The entry of least address that overlaps the prefix.
+    fn first_kept(&self, prefix: Prefix) -> Option<Prefix>
+        ensures pool { IsPool self.now }
+        ensures valid { IsValid prefix }
+        ensures first { IsAnswer (entries self.now) prefix result }
+    {
+        let _address = prefix.address();
+        let free = first_overlap(&self.free.entries, prefix);
+        let reserved = first_overlap(&self.reserved, prefix);
+        let doubtful = first_overlap(&self.doubtful, prefix);
+        lesser(lesser(free, reserved), doubtful)
+    }
+
+    /// Whether `gain` answers Ok: the prefix overlaps no entry, and there is room.
+    pub fn can_gain(&self, prefix: Prefix) -> bool
+        ensures gainable { IsTrue result ↔ (IsNew self.now prefix × (0 < room_of self.now)) }
+        ensures is { result ≡ can_gain self.now prefix }
+    {
+        if self.room() == 0 {
+            return false;
+        }
+        match self.first_kept(prefix) {
+            None => true,
+            Some(_) => false,
+        }
+    }
+
+    /// Makes a prefix free here that overlaps no entry.
+    ///
+    /// `Overlaps` where it overlaps an entry; then `Full` where the room is 0. After a fault the pool is as it was.
+    pub fn gain(&mut self, prefix: Prefix) -> Result<(), GainFault>
+        ensures pool { IsPool self.new }
+        ensures answers { is_ok result ≡ can_gain self.old prefix }
+        ensures gained { MatchResult result (λ _. IsGained self.old self.new prefix) (λ fault. IsRefused self.old self.new prefix fault) }
+        ensures after { IfOk result (λ _. self.new ≡ after_gain self.old prefix) }
+    {
+        if let Some(kept) = self.first_kept(prefix) {
+            return Err(GainFault::Overlaps { kept });
+        }
+        if self.room() == 0 {
+            return Err(GainFault::Full);
+        }
+        merge_in(&mut self.free, prefix);
+        Ok(())
+    }
+}

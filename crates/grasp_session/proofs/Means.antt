@@ -1,0 +1,71 @@
+-- What each accepting answer of a table means, for the crates above.
+use Rattle.std.proofs.Common.{◌≡◌, ℕ, ◌==◌, Bool, true, false, cond, List, [], ◌∷◌, Option, Some, None, Result, Ok, Err, nat_lt, refl, sym, ap, ◌∙◌, subst}
+use Rattle.std.proofs.lemmas.Bool.{cond-true}
+use Rattle.grasp_types.specs.declared.session.Handle.{Handle}
+use Rattle.grasp_types.specs.declared.message.Message.{Message}
+use Rattle.grasp_session.specs.declared.answer.Act.{Act}
+use Rattle.grasp_session.specs.declared.answer.Received.{Received}
+use Rattle.grasp_session.specs.declared.answer.Received.TheVariants.{Kept, Ignored, Bad}
+use Rattle.grasp_session.specs.declared.answer.SessionRefused.{SessionRefused}
+use Rattle.grasp_session.specs.declared.answer.SessionRefused.TheVariants.{NoSession}
+use Rattle.grasp_session.specs.Transcript.{Saying, act_of, refusal, message_of, having_said, receive, after_received}
+use Rattle.grasp_session.specs.Sessions.{SessionState, Sessions, with_transcript, if_owner, if_refused, session_at, session_owned, found, on_stream, changed, check_reply, say_reply, after_say, receive_reply, after_receive}
+
+-- a check that answers Ok: the session is there, this owner's, and nothing refuses the act
+pub record Checked (z : Sessions) (owner : ℕ) (h : Handle) (act : Act) : Type 0 where
+  pub state : SessionState
+  pub at : session_at z h ≡ Some state
+  pub owned : session_owned z owner h ≡ Some state
+  pub allowed : refusal state.view act ≡ None
+
+owned_at : (owner : ℕ) (o : Option SessionState) (x : SessionState) → if_owner (λ y. y.owner) owner o ≡ Some x → o ≡ Some x
+owned_at owner None x e = absurd (cc)
+owned_at owner (Some y) x e = by_test (y.owner == owner) e where
+  by_test : (b : Bool) → cond b (Some y) None ≡ Some x → Some y ≡ Some x
+  by_test true f = f
+  by_test false f = absurd (cc)
+
+not_refused : (o : Option SessionRefused) → if_refused o ≡ Ok tt → o ≡ None
+not_refused None e = refl
+not_refused (Some refused) e = absurd (cc)
+
+abbrev answer : Act → Option SessionState → Result (Unit {0}) SessionRefused
+answer act None = Err NoSession
+answer act (Some x) = if_refused (refusal x.view act)
+
+pub checked_means : (z : Sessions) (owner : ℕ) (h : Handle) (act : Act) → check_reply z owner h act ≡ Ok tt → Checked z owner h act
+checked_means z owner h act e = by_state (session_owned z owner h) refl e where
+  by_state : (o : Option SessionState) → session_owned z owner h ≡ o → answer act o ≡ Ok tt → Checked z owner h act
+  by_state None f g = absurd (cc)
+  by_state (Some x) f g = record { state = x; at = owned_at owner (session_at z h) x f; owned = f; allowed = not_refused (refusal x.view act) g }
+
+-- what is said then, and what the sessions are after it
+pub record Said (z : Sessions) (now : ℕ) (h : Handle) (saying : Saying) (x : SessionState) : Type 0 where
+  pub message : say_reply z h saying ≡ message_of x.view saying
+  pub after : after_say z now h saying ≡ changed z h (with_transcript x (having_said x.view now saying))
+
+pub said_means : (z : Sessions) (now : ℕ) (h : Handle) (saying : Saying) (x : SessionState) → session_at z h ≡ Some x → Said z now h saying x
+said_means z now h saying x e = record { message = rw e refl; after = rw e refl }
+
+-- a message that is kept: the session on the stream keeps it
+pub record IsKept (z : Sessions) (now stream : ℕ) (m : Message) : Type 0 where
+  pub handle : Handle
+  pub state : SessionState
+  pub on : on_stream z stream ≡ Some handle
+  pub at : session_at z handle ≡ Some state
+  pub keeps : receive state.view m ≡ Kept
+  pub after : after_receive z now stream m Kept ≡ changed z handle (with_transcript state (after_received state.view now m Kept))
+
+abbrev kind_of : Message → Option SessionState → Received
+kind_of m None = Ignored
+kind_of m (Some x) = receive x.view m
+
+pub kept_means : (z : Sessions) (now stream : ℕ) (m : Message) → receive_reply z stream m ≡ Kept → IsKept z now stream m
+kept_means z now stream m e = by_handle (on_stream z stream) refl e where
+  by_state : (h : Handle) → on_stream z stream ≡ Some h → (o : Option SessionState) → session_at z h ≡ o → kind_of m o ≡ Kept → IsKept z now stream m
+  by_state h f None g k = absurd (cc)
+  by_state h f (Some x) g k = record { handle = h; state = x; on = f; at = g; keeps = k; after = rw (f, g) refl }
+
+  by_handle : (o : Option Handle) → on_stream z stream ≡ o → kind_of m (found z o) ≡ Kept → IsKept z now stream m
+  by_handle None f g = absurd (cc)
+  by_handle (Some h) f g = by_state h f (session_at z h) refl g

@@ -1,0 +1,5 @@
+use Rattle.grasp_session.proofs.Words.{legal_is_word}
+use Rattle.grasp_session.proofs.laws.legal_is_grammar.Goals as goal
+
+pub returns : goal.returns
+returns c = legal_is_word

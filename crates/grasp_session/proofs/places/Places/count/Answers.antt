@@ -1,0 +1,7 @@
+use Rattle.std.proofs.Common.{rules, ◌≡◌, ℕ, ◌+◌, ◌<◌, ◌≤◌, Some, None, refl, sym, ap, ◌∙◌, subst, arith, slice_index_or, slice_set}
+use Rattle.grasp_session.specs.Places.{held}
+use Rattle.grasp_session.proofs.Seats.{held_count}
+use Rattle.grasp_session.proofs.places.Places.count.Goals as goal
+
+pub returns-clause-count : goal.returns-clause-count
+returns-clause-count c = c.len.ensures ∙ (c.self.invariant.counted ∙ (sym (held_count c.self.inside.sessions c.self.inside.keys c.self.invariant.filled) ∙ ap (Rattle.std.proofs.Common.count_by Rattle.std.proofs.Common.is_some) c.self.view_is))

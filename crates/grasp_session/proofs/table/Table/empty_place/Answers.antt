@@ -1,0 +1,15 @@
+use Rattle.std.proofs.Common.{rules, ◌≡◌, ℕ, ◌+◌, ◌<◌, ◌≤◌, Some, None, length, take, slice_index_or, refl, sym, ap, ◌∙◌, subst, arith}
+use Rattle.std.proofs.Common.{is_some}
+use Rattle.grasp_session.proofs.Oldest.{AreFilled, filled_none, filled_more, filled_all, copied_some}
+use Rattle.grasp_session.proofs.table.Table.empty_place.Goals as goal
+
+pub loop-place-init : goal.loop-place-init
+loop-place-init c = filled_none c.args.self.now.places (sym c.len-place-end.ensures.value ∙ c.len-place-end.ensures.all)
+
+pub loop-place-preserved : goal.loop-place-preserved
+loop-place-preserved c =
+    filled_more c.args.self.now.places c.loop-place.place c.loop-place.invariant (omega (arith, c.loop-place-test.true, c.len-place-end.ensures.all))
+    (sym (ap is_some c.get.ensures.session) ∙ (copied_some c.get.result ∙ c.if-is_none.ensures))
+
+pub returns-clause-none : goal.returns-clause-none
+returns-clause-none c = filled_all c.args.self.now.places c.loop-place.place c.loop-place.invariant (omega (arith, c.loop-place-test.false, c.len-place-end.ensures.all))

@@ -1,0 +1,6 @@
+use Rattle.std.proofs.Common.{rules, ◌≡◌, ℕ, ◌+◌, ◌<◌, ◌≤◌, Some, None, Ok, Err, is_some, refl, sym, ap, ◌∙◌, subst, arith}
+use Rattle.grasp_session.proofs.Calls.{remove_done}
+use Rattle.grasp_session.proofs.table.Table.remove.Goals as goal
+
+pub returns : goal.returns
+returns c = record { removes = λ z st. remove_done c.args.self.now c.take-session.new.self z c.args.handle c.take-session.result st c.take-session.ensures.session c.take-session.ensures.rest }

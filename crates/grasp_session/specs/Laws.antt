@@ -1,0 +1,153 @@
+-- What is proved of negotiations, whatever the two ends and the outside do.
+use Rattle.std.specs.Prelude.{◌≡◌, ◌≢◌, ℕ, ◌<◌, true, false, List, [], ◌∷◌, ◌++◌, Option, Some, None, ◌⊎◌, ◌↔◌, reverse}
+use Rattle.grasp_types.specs.declared.objective.Objective.{Objective}
+use Rattle.grasp_types.specs.declared.session.Kind.{Kind}
+use Rattle.grasp_types.specs.declared.message.Verdict.TheVariants.{Accept, Decline}
+use Rattle.grasp_types.specs.declared.session.By.{By}
+use Rattle.grasp_types.specs.declared.session.By.TheVariants.{Mine, Theirs}
+use Rattle.grasp_types.specs.declared.session.Outcome.{Outcome}
+use Rattle.grasp_types.specs.declared.session.Outcome.TheVariants as outcome
+use Rattle.grasp_types.specs.declared.message.Message.{Message}
+use Rattle.grasp_types.specs.declared.message.Message.TheVariants.{ReqNeg, End}
+use Rattle.grasp_session.specs.declared.answer.Act.TheVariants as act
+use Rattle.grasp_session.specs.declared.answer.Received.TheVariants.{Kept}
+use Rattle.grasp_session.specs.Messages.{Side, Near, other}
+use Rattle.grasp_session.specs.Conversation.{Said, strip, turn, ended, accepted_by, IsLegal, IsLegalConversation, Trails, steps, number, requested, MayFollow, newest_offer_by, answered, spoken}
+use Rattle.grasp_session.specs.Grammar.{IsPrefixOfWord}
+use Rattle.grasp_session.specs.Transcript.{Transcript, opening, known, sent_of, kept_of, is_going, outcome_of, Faulty, Deed, after_deed, after_deeds, SayEnd, refusal, having_said, receive}
+use Rattle.grasp_session.specs.Talk.{Stage, Absent, Refused, Present, Party, Talk, quiet, party, Move, moved, run}
+
+-- a conversation is legal exactly where it is the beginning of a whole negotiation (RFC 8990, section 2.5.5)
+abbrev pub LegalIsGrammar : Type 0
+LegalIsGrammar = (c : List Said) → IsLegal c ↔ IsPrefixOfWord (reverse c)
+
+-- fewer steps than this loop count, and none where it is 0
+pub record IsBounded (loops : ℕ) (c : List Said) : Type 0 where
+  pub below : 0 < loops → steps c < loops
+  pub none : loops ≡ 0 → steps c ≡ 0
+
+-- the steps that an end sends and keeps, whatever its peer sends
+abbrev pub StepsBounded : Type 0
+StepsBounded = (kind : Kind) (role : Side) (timeout now session : ℕ) (o : Objective) (deeds : List Deed) → IsBounded o.loops (known (after_deeds (opening kind role timeout now session o) deeds))
+
+-- what a run of moves leaves
+abbrev pub after : List Move → Talk
+after ms = run quiet ms
+
+-- the conversation of any run is legal
+abbrev pub RunsAreLegal : Type 0
+RunsAreLegal = (ms : List Move) → IsLegalConversation (after ms).said
+
+-- the steps of any run
+abbrev pub RunsAreBounded : Type 0
+RunsAreBounded = (ms : List Move) → IsBounded (requested (strip (after ms).said)).loops (strip (after ms).said)
+
+-- what an end with a transcript knows: an earlier part of the conversation, of which it has all its own messages, and to which only the other side has added
+pub record IsView (side : Side) (said : List Said) (v : Transcript) : Type 0 where
+  pub role : v.role ≡ side
+  pub trails : Trails side (known v) (strip said)
+  pub own : spoken side said ≡ sent_of v.entries
+  pub whole : (turn (known v) ≡ side) ⊎ (ended (known v) ≡ true) → known v ≡ strip said
+  pub no_fault : v.mark ≢ Some Faulty
+  pub same_number : number (known v) ≡ number (strip said)
+  pub same_request : requested (known v) ≡ requested (strip said)
+
+abbrev pub ViewsTrail : Type 0
+ViewsTrail = (ms : List Move) (side : Side) (v : Transcript) → (party (after ms) side).stage ≡ Present v → IsView side (after ms).said v
+
+-- a side without a transcript said nothing, or one decline
+abbrev pub IsSilent : Side → List Said → Stage → Type 0
+IsSilent side said Absent = spoken side said ≡ []
+IsSilent side said Refused = (session : ℕ) × (reason : Option (List ℕ)) × (spoken side said ≡ End session (Decline reason) ∷ [])
+IsSilent side said (Present v) = Unit {0}
+
+abbrev pub SilentUnseen : Type 0
+SilentUnseen = (ms : List Move) (side : Side) → IsSilent side (after ms).said (party (after ms) side).stage
+
+-- what an end took and what it hasn't taken are the other side's messages. Until its outcome it kept all that it took
+pub record HasTaken (side : Side) (said : List Said) (p : Party) : Type 0 where
+  pub given : spoken (other side) said ≡ reverse p.inbox ++ p.taken
+  pub kept : (v : Transcript) → p.stage ≡ Present v → is_going v ≡ true → kept_of v.entries ≡ p.taken
+
+abbrev pub TakenInOrder : Type 0
+TakenInOrder = (ms : List Move) (side : Side) → HasTaken side (after ms).said (party (after ms) side)
+
+-- until the outcome each message that comes next is kept
+abbrev pub NoneIsBad : Type 0
+NoneIsBad = (ms : List Move) (side : Side) (v : Transcript) (m : Message) (left : List Message) → (party (after ms) side).stage ≡ Present v → (party (after ms) side).inbox ≡ m ∷ left
+    → is_going v ≡ true → receive v m ≡ Kept
+
+-- the side whose acceptance an end of this role reports
+abbrev pub speaker : Side → By → Side
+speaker role Mine = role
+speaker role Theirs = other role
+
+-- two ends that agree: one by its own acceptance, the other by its peer's, on the last offer of the side that didn't accept
+pub record Agreement (a b : By) (o p : Objective) (said : List Said) : Type 0 where
+  pub one : ((a ≡ Mine) × (b ≡ Theirs)) ⊎ ((a ≡ Theirs) × (b ≡ Mine))
+  pub same : o ≡ p
+  pub offered : o ≡ newest_offer_by (other (speaker Near a)) (strip said)
+
+abbrev pub BothAgree : Type 0
+BothAgree = (ms : List Move) (v w : Transcript) (a b : By) (o p : Objective) → (after ms).near.stage ≡ Present v → (after ms).far.stage ≡ Present w
+    → outcome_of v ≡ Some (outcome.Agreed a o) → outcome_of w ≡ Some (outcome.Agreed b p) → Agreement a b o p (after ms).said
+
+-- what an end that offers knows of its offer
+pub record OfferStands (side : Side) (said : List Said) (v : Transcript) : Type 0 where
+  -- its transcript has its last offer
+  pub offer : newest_offer_by side (known v) ≡ newest_offer_by side (strip said)
+  -- where the other side may answer, this side kept no step and no end after its offer
+  pub before : turn (strip said) ≡ other side → ended (strip said) ≡ false → answered side (known v) ≡ false
+  -- after the other side's acceptance it kept this acceptance, or still no step and no end
+  pub accepted : accepted_by (other side) (strip said) ≡ true → (known v ≡ strip said) ⊎ (answered side (known v) ≡ false)
+
+abbrev pub OffersStand : Type 0
+OffersStand = (ms : List Move) (side : Side) (v : Transcript) → (party (after ms) side).stage ≡ Present v → OfferStands side (after ms).said v
+
+-- what an outcome says of the conversation
+abbrev pub OutcomeSays : Side → List Said → Transcript → Option Outcome → Type 0
+OutcomeSays side said v None = is_going v ≡ true
+OutcomeSays side said v (Some (outcome.Agreed by o)) = (known v ≡ strip said) × (accepted_by (speaker side by) (strip said) ≡ true) × (o ≡ newest_offer_by (other (speaker side by)) (strip said))
+OutcomeSays side said v (Some (outcome.Declined by reason)) = (known v ≡ strip said) × (ended (strip said) ≡ true) × ((s : Side) → accepted_by s (strip said) ≡ false)
+OutcomeSays side said v (Some (outcome.Synchronized o)) = ⊥
+OutcomeSays side said v (Some (outcome.TimedOut d n)) = ended (known v) ≡ false
+OutcomeSays side said v (Some outcome.Broken) = ended (known v) ≡ false
+OutcomeSays side said v (Some outcome.OutOfMemory) = ended (known v) ≡ false
+OutcomeSays side said v (Some (outcome.Invalid by)) = ended (known v) ≡ false
+
+abbrev pub OutcomesSay : Type 0
+OutcomesSay = (ms : List Move) (side : Side) (v : Transcript) → (party (after ms) side).stage ≡ Present v → OutcomeSays side (after ms).said v (outcome_of v)
+
+-- a transcript with an outcome stays as it is
+abbrev pub OutcomesStay : Type 0
+OutcomesStay = (v : Transcript) (d : Deed) → is_going v ≡ false → after_deed v d ≡ v
+
+-- a move leaves the stripped conversation or adds what may follow: so nothing after an end, and nothing of the side whose turn it isn't
+abbrev pub MovesFollow : Type 0
+MovesFollow = (ms : List Move) (m : Move) → (strip (moved (after ms) m).said ≡ strip (after ms).said)
+    ⊎ ((x : Said) × (strip (moved (after ms) m).said ≡ x ∷ strip (after ms).said) × MayFollow (strip (after ms).said) x)
+
+-- what is so where an end may accept: v is its transcript, w its peer's
+pub record Accepting (side : Side) (said : List Said) (v w : Transcript) : Type 0 where
+  pub whole : known v ≡ strip said
+  pub its_turn : turn (strip said) ≡ side
+  pub same_offer : newest_offer_by (other side) (known v) ≡ newest_offer_by (other side) (known w)
+  pub no_answer : answered (other side) (known w) ≡ false
+  pub agrees : (now : ℕ) → outcome_of (having_said v now (SayEnd Accept)) ≡ Some (outcome.Agreed Mine (newest_offer_by (other side) (known w)))
+
+abbrev pub AcceptsTheLast : Type 0
+AcceptsTheLast = (ms : List Move) (side : Side) (v w : Transcript) → (party (after ms) side).stage ≡ Present v → (party (after ms) (other side)).stage ≡ Present w
+    → refusal v act.End ≡ None → Accepting side (after ms).said v w
+
+-- nothing, or a request first
+abbrev pub IsOpened : List Message → Type 0
+IsOpened told = (told ≡ []) ⊎ ((session : ℕ) × (objective : Objective) × (rest : List Message) × (told ≡ ReqNeg session objective ∷ rest))
+
+-- near's first message, of any kind, is its request
+abbrev pub FirstIsRequest : Type 0
+FirstIsRequest = (ms : List Move) → IsOpened (reverse (spoken Near (after ms).said))
+
+-- where an end may accept, its peer has a transcript
+abbrev pub PeerIsPresent : Type 0
+PeerIsPresent = (ms : List Move) (side : Side) (v : Transcript) → (party (after ms) side).stage ≡ Present v → refusal v act.End ≡ None
+    → (w : Transcript) × ((party (after ms) (other side)).stage ≡ Present w)

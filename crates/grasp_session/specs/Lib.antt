@@ -1,0 +1,11 @@
+pub mod Messages
+pub mod Conversation
+pub mod Grammar
+pub mod Transcript
+pub mod Talk
+pub mod Sessions
+pub mod Keeps
+pub mod Places
+pub mod Stands
+pub mod Laws
+pub mod Sample
