@@ -1,4 +1,4 @@
-//! Floods that come, come again, end, and find no place.
+//! A flood that comes, comes again, ends, and is dropped.
 
 use crate::{FloodCache, Heard};
 use grasp_cbor::{Chars, Item};
@@ -8,8 +8,6 @@ use std::process::Abort;
 use std::test::Fail;
 
 const FIRST: Address = Address::V6(1);
-
-const SECOND: Address = Address::V4(2);
 
 /// A part with this name and value, flags 5 and loop count 5, and no locator.
 fn part(alloc: Global, name: &str, number: u64) -> Result<FloodPart, Fail> {
@@ -91,119 +89,5 @@ fn flood_through_a_relay(rt: HostRuntime) -> Result<(), Fail> {
     let name = Chars::of(alloc, "f")?;
     assert!(rt; cache.drop_one(&name, FIRST));
     assert!(rt; !cache.drop_one(&name, FIRST));
-    Ok(())
-}
-
-#[test]
-fn renewals(rt: HostRuntime) -> Result<(), Fail> {
-    let alloc = rt.alloc();
-    // The lifetime of a flood at 0, then that of the same at 100, and whether it is there at a reading. The flood of
-    // another node with the same number, and one of the same node with another, end at 1000 in any case.
-    for (first, second, reading, there) in [
-        (1000, 500, 999, true),
-        (1000, 500, 1000, false),
-        (1000, 1000, 1099, true),
-        (1000, 1000, 1100, false),
-        (0, 500, 1_000_000, true),
-        (1000, 0, 1_000_000, true),
-    ] {
-        let mut cache = FloodCache::new(alloc)?;
-        hear(alloc, &mut cache, 0, (41, FIRST), first, ("f", 7))?;
-        hear(alloc, &mut cache, 0, (41, SECOND), 1000, ("f", 8))?;
-        hear(alloc, &mut cache, 0, (42, FIRST), 1000, ("g", 9))?;
-        let heard = hear(alloc, &mut cache, 100, (41, FIRST), second, ("f", 7))?;
-        assert_eq!(rt; heard, Heard::Known);
-        cache.expire(reading);
-        let others = reading < 1000;
-        has(
-            &rt,
-            alloc,
-            &cache,
-            "g",
-            if others { &[(FIRST, 9)] } else { &[] },
-        )?;
-        has(
-            &rt,
-            alloc,
-            &cache,
-            "f",
-            match (there, others) {
-                (true, true) => &[(FIRST, 7), (SECOND, 8)],
-                (true, false) => &[(FIRST, 7)],
-                _ => &[],
-            },
-        )?;
-    }
-    Ok(())
-}
-
-#[test]
-fn memories(rt: HostRuntime) -> Result<(), Fail> {
-    let alloc = rt.alloc();
-    let mut cache = FloodCache::new(alloc)?;
-    // A memory ends after 120000 ms, and a repeat doesn't renew it. At the greatest reading it ends at once.
-    for (now, session, initiator, want) in [
-        (0, 41, FIRST, Heard::New),
-        (1, 41, SECOND, Heard::New),
-        (2, 42, FIRST, Heard::New),
-        (119_999, 41, FIRST, Heard::Known),
-        (120_000, 41, FIRST, Heard::New),
-        (120_000, 41, SECOND, Heard::Known),
-        (u64::MAX, 41, FIRST, Heard::New),
-        (u64::MAX, 41, FIRST, Heard::New),
-    ] {
-        cache.expire(now);
-        let heard = hear(alloc, &mut cache, now, (session, initiator), 1, ("f", 7))?;
-        assert_eq!(rt; heard, want, "{session} at {now}");
-    }
-    Ok(())
-}
-
-#[test]
-fn places(rt: HostRuntime) -> Result<(), Fail> {
-    let alloc = rt.alloc();
-    let mut cache = FloodCache::new(alloc)?;
-    // Two parts of one name: the later one takes the place of the earlier.
-    let mut two = FloodParts::of(alloc, part(alloc, "f", 1)?)?;
-    two.push(part(alloc, "f", 2)?)?;
-    assert_eq!(rt; cache.heard(0, 41, FIRST, 0, &two), Ok(Heard::New));
-    has(&rt, alloc, &cache, "f", &[(FIRST, 2)])?;
-    // A new value takes the place of the old one, and one that was dropped comes last.
-    hear(alloc, &mut cache, 0, (41, SECOND), 0, ("f", 3))?;
-    hear(alloc, &mut cache, 0, (42, FIRST), 0, ("f", 4))?;
-    has(&rt, alloc, &cache, "f", &[(FIRST, 4), (SECOND, 3)])?;
-    assert!(rt; cache.drop_one(&Chars::of(alloc, "f")?, FIRST));
-    has(&rt, alloc, &cache, "f", &[(SECOND, 3)])?;
-    hear(alloc, &mut cache, 0, (43, FIRST), 0, ("f", 5))?;
-    has(&rt, alloc, &cache, "f", &[(SECOND, 3), (FIRST, 5)])
-}
-
-#[test]
-fn full_caches(rt: HostRuntime) -> Result<(), Fail> {
-    let alloc = rt.alloc();
-    let mut cache = FloodCache::new(alloc)?;
-    // 256 floods of as many names: the first 128 names are kept, and all floods are remembered.
-    for i in 0..256u32 {
-        let name = format!(in alloc; "f{i}")?;
-        hear(alloc, &mut cache, 0, (i, FIRST), 0, (name.as_str(), 1))?;
-        has(
-            &rt,
-            alloc,
-            &cache,
-            name.as_str(),
-            if i < 128 { &[(FIRST, 1)] } else { &[] },
-        )?;
-    }
-    // Once the memories have ended, a full cache still takes a new value of a name that it has.
-    for (now, session, want, number) in [
-        (0, 256, Heard::NoPlace, 1),
-        (0, 255, Heard::Known, 1),
-        (120_000, 256, Heard::New, 9),
-    ] {
-        cache.expire(now);
-        let heard = hear(alloc, &mut cache, now, (session, FIRST), 0, ("f0", 9))?;
-        assert_eq!(rt; heard, want, "{session} at {now}");
-        has(&rt, alloc, &cache, "f0", &[(FIRST, number)])?;
-    }
     Ok(())
 }
