@@ -1,0 +1,16 @@
+pub mod Blanks
+pub mod HexWords
+pub mod Lawful
+pub mod Leaves
+pub mod Lines
+pub mod ListLaws
+pub mod MessageLaws
+pub mod NumberWords
+pub mod PartLaws
+pub mod PrefixWords
+pub mod Pushed
+pub mod SpelledWords
+pub mod Splitting
+pub mod TextWords
+pub mod Until
+pub mod ValueWords

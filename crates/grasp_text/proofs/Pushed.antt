@@ -1,0 +1,92 @@
+-- Words behind words.
+use Rattle.std.proofs.Common.{◌≡◌, ℕ, ◌+◌, ◌≤◌, List, [], ◌∷◌, ◌++◌, length, take, Some, refl, sym, ap, subst, ◌∙◌, append_assoc}
+use Rattle.std.proofs.lemmas.List.{append-nil, take_all, take_more}
+use Rattle.std.proofs.lemmas.Option.{slice_get_within, get_or_from_slice_get}
+use Rattle.std.specs.List.{AllByRecursion, slice_get}
+use Rattle.grasp_types.specs.declared.address.Locator.{Locator}
+use Rattle.grasp_types.specs.declared.flood.FloodPart.{FloodPart}
+use Rattle.grasp_types.specs.declared.message.Message.{Message}
+use Rattle.grasp_types.specs.declared.message.Message.TheVariants.{Noop, Discovery, Response, ReqNeg, ReqSyn, Negotiate, End, Wait, Synch, Flood, Invalid}
+use Rattle.grasp_text.specs.Line.{locator_words, all_locator_words, flood_part_words, all_flood_part_words, message_words, IsWhole, IsLineOf}
+use Rattle.grasp_text.specs.Words.{spaced, joined}
+use Rattle.grasp_text.specs.Writing.{line_name, words_behind_name}
+
+-- one word, and then more
+pub one_pushed : (old middle new w rest : List ℕ) → middle ≡ old ++ 32 ∷ (w ++ []) → new ≡ middle ++ rest → new ≡ old ++ 32 ∷ (w ++ rest)
+one_pushed old middle new w rest p q = q ∙ ap (λ (x : List ℕ). x ++ rest) p ∙ append_assoc old (32 ∷ (w ++ [])) rest ∙ ap (λ (x : List ℕ). old ++ 32 ∷ (x ++ rest)) (append-nil w)
+
+pub spaced_append : (ws vs : List (List ℕ)) → spaced (ws ++ vs) ≡ spaced ws ++ spaced vs
+spaced_append [] vs = refl
+spaced_append (w ∷ ws) vs = ap (λ (x : List ℕ). 32 ∷ (w ++ x)) (spaced_append ws vs) ∙ ap (λ (x : List ℕ). 32 ∷ x) (sym (append_assoc w (spaced ws) (spaced vs)))
+
+-- some words, and then more
+pub some_pushed : (old middle new : List ℕ) (ws vs : List (List ℕ)) → middle ≡ old ++ spaced ws → new ≡ middle ++ spaced vs → new ≡ old ++ spaced (ws ++ vs)
+some_pushed old middle new ws vs p q = q ∙ ap (λ (x : List ℕ). x ++ spaced vs) p ∙ append_assoc old (spaced ws) (spaced vs) ∙ ap (λ (x : List ℕ). old ++ x) (sym (spaced_append ws vs))
+
+-- a word, and the others behind blanks
+pub joined_spaced : (w : List ℕ) (ws : List (List ℕ)) → joined (w ∷ ws) ≡ w ++ spaced ws
+joined_spaced w [] = sym (append-nil w)
+joined_spaced w (v ∷ ws) = ap (λ (x : List ℕ). w ++ 32 ∷ x) (joined_spaced v ws)
+
+pub ruleset pushes = (one_pushed, some_pushed)
+
+-- ---- one more locator, and one more part
+
+all_locator_words-append : (xs ys : List Locator) → all_locator_words (xs ++ ys) ≡ all_locator_words xs ++ all_locator_words ys
+all_locator_words-append [] ys = refl
+all_locator_words-append (x ∷ xs) ys = ap (λ (t : List (List ℕ)). locator_words x ++ t) (all_locator_words-append xs ys) ∙ sym (append_assoc (locator_words x) (all_locator_words xs) (all_locator_words ys))
+
+all_flood_part_words-append : (xs ys : List FloodPart) → all_flood_part_words (xs ++ ys) ≡ all_flood_part_words xs ++ all_flood_part_words ys
+all_flood_part_words-append [] ys = refl
+all_flood_part_words-append (x ∷ xs) ys = ap (λ (t : List (List ℕ)). flood_part_words x ++ t) (all_flood_part_words-append xs ys) ∙ sym (append_assoc (flood_part_words x) (all_flood_part_words xs) (all_flood_part_words ys))
+
+pub each_more : {A : Type 0} (P : A → Type 0) (xs : List A) (y : A) → AllByRecursion P xs → P y → AllByRecursion P (xs ++ y ∷ [])
+each_more P [] y h p = (p, tt)
+each_more P (x ∷ xs) y h p = (h.0, each_more P xs y h.1 p)
+
+take_next : {A : Type 0} (xs : List A) (i : ℕ) (x : A) → slice_get xs i ≡ Some x → take (i + 1) xs ≡ take i xs ++ x ∷ []
+take_next xs i x e = take_more xs i x (slice_get_within xs i x e) ∙ ap (λ y. take i xs ++ y ∷ []) (get_or_from_slice_get xs i x x e)
+
+pub all_step : {A : Type 0} (P : A → Type 0) (xs : List A) (i : ℕ) (x : A) → slice_get xs i ≡ Some x → AllByRecursion P (take i xs) → P x → AllByRecursion P (take (i + 1) xs)
+all_step P xs i x e h p = subst (λ ys. AllByRecursion P ys) (sym (take_next xs i x e)) (each_more P (take i xs) x h p)
+
+pub locators_step : (ls : List Locator) (i : ℕ) (l : Locator) (old out new : List ℕ) → slice_get ls i ≡ Some l → out ≡ old ++ spaced (all_locator_words (take i ls)) → new ≡ out ++ spaced (locator_words l) → new ≡ old ++ spaced (all_locator_words (take (i + 1) ls))
+locators_step ls i l old out new e p q =
+    some_pushed old out new (all_locator_words (take i ls)) (locator_words l) p q
+    ∙ ap (λ (x : List (List ℕ)). old ++ spaced x) (sym (ap all_locator_words (take_next ls i l e) ∙ all_locator_words-append (take i ls) (l ∷ []) ∙ ap (λ (x : List (List ℕ)). all_locator_words (take i ls) ++ x) (append-nil (locator_words l))))
+
+pub parts_step : (ps : List FloodPart) (i : ℕ) (p : FloodPart) (old out new : List ℕ) → slice_get ps i ≡ Some p → out ≡ old ++ spaced (all_flood_part_words (take i ps)) → new ≡ out ++ spaced (flood_part_words p) → new ≡ old ++ spaced (all_flood_part_words (take (i + 1) ps))
+parts_step ps i p old out new e a b =
+    some_pushed old out new (all_flood_part_words (take i ps)) (flood_part_words p) a b
+    ∙ ap (λ (x : List (List ℕ)). old ++ spaced x) (sym (ap all_flood_part_words (take_next ps i p e) ∙ all_flood_part_words-append (take i ps) (p ∷ []) ∙ ap (λ (x : List (List ℕ)). all_flood_part_words (take i ps) ++ x) (append-nil (flood_part_words p))))
+
+-- all of them
+pub locators_done : (ls : List Locator) (i : ℕ) (old new : List ℕ) → length ls ≤ i → new ≡ old ++ spaced (all_locator_words (take i ls)) → new ≡ old ++ spaced (all_locator_words ls)
+locators_done ls i old new le e = e ∙ ap (λ (x : List Locator). old ++ spaced (all_locator_words x)) (take_all i ls le)
+
+pub parts_done : (ps : List FloodPart) (i : ℕ) (old new : List ℕ) → length ps ≤ i → new ≡ old ++ spaced (all_flood_part_words (take i ps)) → new ≡ old ++ spaced (all_flood_part_words ps)
+parts_done ps i old new le e = e ∙ ap (λ (x : List FloodPart). old ++ spaced (all_flood_part_words x)) (take_all i ps le)
+
+pub all_done : {A : Type 0} (P : A → Type 0) (xs : List A) (i : ℕ) → length xs ≤ i → AllByRecursion P (take i xs) → AllByRecursion P xs
+all_done P xs i le h = subst (λ ys. AllByRecursion P ys) (take_all i xs le) h
+
+-- ---- a whole line
+
+line_all : (m : Message) → message_words m ≡ line_name m ∷ words_behind_name m
+line_all Noop = refl
+line_all (Discovery session initiator objective) = refl
+line_all (Response session initiator ttl answer objective) = refl
+line_all (ReqNeg session objective) = refl
+line_all (ReqSyn session objective) = refl
+line_all (Negotiate session objective) = refl
+line_all (End session verdict) = refl
+line_all (Wait session millis) = refl
+line_all (Synch session objective) = refl
+line_all (Flood session initiator ttl parts) = refl
+line_all (Invalid session detail) = refl
+
+-- a name and the words behind it are the line
+pub line_pushed : (m : Message) (name text : List ℕ) → IsWhole m → name ≡ line_name m → text ≡ name ++ spaced (words_behind_name m) → IsLineOf text m
+line_pushed m name text whole e f = record { whole = whole; spelled = f ∙ ap (λ (x : List ℕ). x ++ spaced (words_behind_name m)) e ∙ sym (ap joined (line_all m) ∙ joined_spaced (line_name m) (words_behind_name m)) }
+
+pub ruleset lines = (line_pushed)

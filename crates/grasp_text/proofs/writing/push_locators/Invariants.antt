@@ -1,0 +1,12 @@
+use Rattle.std.proofs.Common.{◌≡◌, ◌++◌, take, string_bytes}
+use Rattle.std.specs.List.{AllByRecursion}
+use Rattle.grasp_types.specs.Address.{IsLocator}
+use Rattle.grasp_text.specs.Line.{all_locator_words}
+use Rattle.grasp_text.specs.Words.{spaced}
+use Rattle.grasp_text.proofs.writing.push_locators.Given as goal
+
+abbrev pub invariant-loop-i : goal.invariant-loop-i
+invariant-loop-i l = record {
+  text : string_bytes l.out ≡ string_bytes l.fn.out ++ spaced (all_locator_words (take l.i l.locators));
+  ranges : AllByRecursion IsLocator (take l.i l.locators);
+}

@@ -1,0 +1,32 @@
+//! Messages as lines of text, in both directions.
+//!
+//! A line is words with one blank between two. Each message has exactly one line.
+#![tactic(auto)]
+
+mod fault;
+mod hexes;
+mod lists;
+mod message;
+mod names;
+mod numbers;
+mod parts;
+mod prefixes;
+#[cfg(test)]
+mod tests;
+mod texts;
+mod values;
+mod words;
+mod writing;
+
+pub use fault::{TextFault, WordFault};
+pub use hexes::{address, push_address};
+pub use message::{each_has_one_line, lines_are_their_words, lines_have_one_message, message_of};
+pub use numbers::{number, push_number};
+pub use parts::{read_locator, read_objective};
+pub use prefixes::{prefix, push_prefix};
+pub use texts::{push_text, text};
+pub use values::{push_value, value};
+pub use words::Words;
+pub use writing::{
+    line_of, push_locator, push_objective, push_optional_locator, push_optional_value, push_word,
+};

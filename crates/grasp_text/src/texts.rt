@@ -1,0 +1,158 @@
+//! Texts as words: an apostrophe, and the text's bytes with some of them escaped.
+
+ghost use Rattle.std.specs.Prelude.{◌≡◌, ◌<◌, length, ◌++◌, ◌∷◌, [], OnOk, IfOk, IfSome, option_map, slice_index, string_bytes};
+ghost use Rattle.std.specs.Str.{IsUtf8};
+ghost use Rattle.hex.specs.Hex.{lower_digits};
+ghost use Rattle.grasp_text.specs.Line.{text_word, escaped, all_escaped};
+ghost use Rattle.grasp_text.specs.Reading.{text_of, unescaped, first_unescaped, behind_percent, behind_byte, is_plain, digit_of, byte_of};
+ghost use Rattle.grasp_text.specs.Words.{spaced};
+
+use grasp_cbor::{Chars, OutOfMemory};
+use std::alloc::Global;
+
+/// Whether a byte stands for itself in a text's word.
+fn stands_for_itself(byte: u8) -> bool
+    ensures { result ≡ is_plain byte }
+{
+    33 <= byte && byte <= 126 && byte != b'%'
+}
+
+/// The value of a lower-case hexadecimal digit.
+fn digit_value(digit: u8) -> Option<u8>
+    ensures value { result ≡ digit_of digit }
+    ensures small { IfSome result (λ v. v < 16) }
+{
+    match digit {
+        b'0'..=b'9' => Some(digit - b'0'),
+        b'a'..=b'f' => Some(digit - b'a' + 10),
+        _ => None,
+    }
+}
+
+/// The byte of the two digits behind a percent sign, unless it stands for itself.
+#[tactic(auto, unfolding(crate::specs::Reading::byte_of))]
+fn escaped_byte(high: u8, low: u8) -> Option<u8>
+    ensures { result ≡ byte_of high low }
+{
+    let high = digit_value(high)?;
+    let low = digit_value(low)?;
+    let byte = high * 16 + low;
+    if stands_for_itself(byte) {
+        None
+    } else {
+        Some(byte)
+    }
+}
+
+/// The first byte of those that are so escaped, and what stands behind it, or `None`.
+#[tactic(auto, unfolding(crate::specs::Reading::first_unescaped))]
+fn first_byte(escaped: &[u8]) -> Option<(u8, &[u8])>
+    ensures value { option_map (λ x. (x.0, x.1.now)) result ≡ first_unescaped escaped.now }
+    ensures shorter { IfSome result (λ x. length x.1.now < length escaped.now) }
+{
+    match escaped {
+        [] => None,
+        [first, rest @ ..] => {
+            if stands_for_itself(*first) {
+                Some((*first, rest))
+            } else if *first == b'%' {
+                behind_percent(rest)
+            } else {
+                None
+            }
+        }
+    }
+}
+
+/// The byte of the first two digits, and what stands behind them, or `None`.
+fn behind_percent(digits: &[u8]) -> Option<(u8, &[u8])>
+    ensures value { option_map (λ x. (x.0, x.1.now)) result ≡ behind_percent digits.now }
+    ensures shorter { IfSome result (λ x. length x.1.now < length digits.now) }
+{
+    match digits {
+        [high, low, rest @ ..] => match escaped_byte(*high, *low) {
+            Some(byte) => Some((byte, rest)),
+            None => None,
+        },
+        _ => None,
+    }
+}
+
+/// The bytes that are so escaped, or `None`.
+fn unescape(alloc: Global, escaped: &[u8]) -> Result<Option<Vec<u8>>, OutOfMemory>
+    ensures { IfOk result (λ o. option_map (λ v. v.items) o ≡ unescaped escaped.now) }
+{
+    let mut bytes = Vec::new(alloc);
+    let mut rest = escaped;
+    while !rest.is_empty() {
+        let Some((byte, after)) = first_byte(rest) else {
+            return Ok(None);
+        };
+        bytes.push(byte)?;
+        rest = after;
+    }
+    Ok(Some(bytes))
+}
+
+/// What stands behind this first byte, or `None`.
+pub(crate) fn behind(first: u8, word: &[u8]) -> Option<&[u8]>
+    ensures { option_map (λ s. s.now) result ≡ behind_byte first word.now }
+{
+    match word {
+        [] => None,
+        [byte, rest @ ..] => { if *byte == first { Some(rest) } else { None } }
+    }
+}
+
+/// The text of a word, or `None`.
+#[tactic(auto, unfolding(crate::specs::Reading::text_of))]
+pub fn text(alloc: Global, word: &[u8]) -> Result<Option<Chars>, OutOfMemory>
+    ensures { IfOk result (λ o. o ≡ text_of word.now) }
+{
+    match behind(b'\'', word) {
+        Some(escaped) => match unescape(alloc, escaped)? {
+            Some(bytes) => Chars::of_bytes(alloc, &bytes),
+            None => Ok(None),
+        },
+        None => Ok(None),
+    }
+}
+
+const DIGITS: [u8; 16] = *b"0123456789abcdef";
+
+/// Appends a hexadecimal digit.
+#[tactic(auto, using(crate::proofs::TextWords::lower_digit_small))]
+fn push_digit(out: &mut String, value: u8) -> Result<(), OutOfMemory>
+    requires { value < 16 }
+    ensures { OnOk result (string_bytes out.new ≡ string_bytes out.old ++ slice_index lower_digits value ∷ []) }
+{
+    out.push(char::from(DIGITS[value as usize]))?;
+    Ok(())
+}
+
+/// Appends a byte of a text, escaped where it has to be.
+fn push_escaped(out: &mut String, byte: u8) -> Result<(), OutOfMemory>
+    ensures { OnOk result (string_bytes out.new ≡ string_bytes out.old ++ escaped byte) }
+{
+    if stands_for_itself(byte) {
+        out.push(char::from(byte))?;
+    } else {
+        out.push('%')?;
+        push_digit(out, byte / 16)?;
+        push_digit(out, byte % 16)?;
+    }
+    Ok(())
+}
+
+/// Appends a blank and a text. After an `Err` the text may end in a part of them.
+pub fn push_text(out: &mut String, text: &Chars) -> Result<(), OutOfMemory>
+    ensures utf8 { OnOk result (IsUtf8 text.now) }
+    ensures text { OnOk result (string_bytes out.new ≡ string_bytes out.old ++ spaced (text_word text.now ∷ [])) }
+{
+    out.push(' ')?;
+    out.push('\'')?;
+    for byte in text.bytes() {
+        push_escaped(out, *byte)?;
+    }
+    Ok(())
+}
