@@ -1,15 +1,16 @@
 -- What the calls of a map do to lists of entries.
 use Rattle.std.specs.Prelude.{Result, Ok, Err, OnErr}
-use Rattle.std.proofs.Common.{lt-ltb, zero, suc, ◌≡◌, ℕ, ◌+◌, ◌<◌, ◌≤◌, Bool, true, false, cond, not, ◌||◌, nat_lt, ltb, List, [], ◌∷◌, ◌++◌, length, map, filter, take, drop, slice_get, Option, None, Some, is_some, refl, sym, ap, ◌∙◌, true≢false, arith, add-one}
+use Rattle.std.proofs.Common.{lt-ltb, zero, suc, ◌≡◌, ℕ, ◌+◌, ◌<◌, ◌≤◌, Bool, true, false, cond, not, ◌||◌, nat_lt, List, [], ◌∷◌, ◌++◌, length, map, filter, take, slice_get, Some, is_some, refl, sym, ap, ◌∙◌, true≢false, arith, add-one}
 use Rattle.std.specs.List.{list_any}
 use Rattle.std.specs.Map.{lookup}
 use Rattle.indexmap.specs.IndexMap.{insert_entry, set_value_at}
-use Rattle.grasp_flood.specs.declared.keys.FloodId.{FloodId}
+use Rattle.grasp_types.specs.declared.origin.Origin.{Origin}
+use Rattle.grasp_types.specs.Origin.{same_origin}
 use Rattle.grasp_flood.specs.declared.keys.FloodKey.{FloodKey}
 use Rattle.grasp_flood.specs.declared.kept.FloodKept.{FloodKept}
-use Rattle.grasp_flood.specs.Flood.{same_flood, same_key}
+use Rattle.grasp_flood.specs.Flood.{same_key}
 use Rattle.grasp_flood.specs.declared.heard.Heard.TheVariants.{Known, NoPlace, New}
-use Rattle.grasp_flood.specs.Floods.{Floods, has_key, put, after_keep, heard_reply}
+use Rattle.grasp_flood.specs.Floods.{Floods, put, heard_reply}
 
 -- a look-up finds something exactly where a key passes
 pub is_some_lookup : {K V : Type 0} (test : K → Bool) (es : List (K × V)) → is_some (lookup test es) ≡ list_any (λ e. test e.0) es
@@ -24,12 +25,12 @@ insert_entry_put (e ∷ es) key kept =
     ap (λ rest. cond (same_key key e.0) ((e.0, kept) ∷ es) (e ∷ rest)) (insert_entry_put es key kept)
 
 -- a new memory goes last
-pub insert_entry_new : (flood : FloodId) (last : ℕ) (es : List (FloodId × ℕ)) → list_any (λ m. same_flood flood m.0) es ≡ false → insert_entry same_flood es flood last ≡ es ++ (flood, last) ∷ []
+pub insert_entry_new : (flood : Origin) (last : ℕ) (es : List (Origin × ℕ)) → list_any (λ m. same_origin flood m.0) es ≡ false → insert_entry same_origin es flood last ≡ es ++ (flood, last) ∷ []
 insert_entry_new flood last [] none = refl
-insert_entry_new flood last (e ∷ es) none = by (same_flood flood e.0) none (insert_entry_new flood last es)
+insert_entry_new flood last (e ∷ es) none = by (same_origin flood e.0) none (insert_entry_new flood last es)
   where
-    by : (b : Bool) → (b || list_any (λ m. same_flood flood m.0) es) ≡ false → (list_any (λ m. same_flood flood m.0) es ≡ false → insert_entry same_flood es flood last ≡ es ++ (flood, last) ∷ [])
-        → cond b ((e.0, last) ∷ es) (e ∷ insert_entry same_flood es flood last) ≡ e ∷ (es ++ (flood, last) ∷ [])
+    by : (b : Bool) → (b || list_any (λ m. same_origin flood m.0) es) ≡ false → (list_any (λ m. same_origin flood m.0) es ≡ false → insert_entry same_origin es flood last ≡ es ++ (flood, last) ∷ [])
+        → cond b ((e.0, last) ∷ es) (e ∷ insert_entry same_origin es flood last) ≡ e ∷ (es ++ (flood, last) ∷ [])
     by true h rest = absurd (true≢false h)
     by false h rest = ap (λ xs. e ∷ xs) (rest h)
 
@@ -126,18 +127,18 @@ pub first_through_more : {K V : Type 0} (f : K × V → K × V) (i : ℕ) (xs : 
 first_through_more f i xs k v w at is = first_through_suc f i xs k v w at is ∙ sym (ap (λ n. first_through f n xs) (add-one i))
 
 -- what the look-up of a flood says of the memories
-pub remembered_is : (flood : FloodId) (es : List (FloodId × ℕ)) (found answer : Bool) → found ≡ is_some (lookup (same_flood flood) es) → found ≡ answer
-    → list_any (λ m. same_flood flood m.0) es ≡ answer
-remembered_is flood es found answer e is = sym (is_some_lookup (same_flood flood) es) ∙ sym e ∙ is
+pub remembered_is : (flood : Origin) (es : List (Origin × ℕ)) (found answer : Bool) → found ≡ is_some (lookup (same_origin flood) es) → found ≡ answer
+    → list_any (λ m. same_origin flood m.0) es ≡ answer
+remembered_is flood es found answer e is = sym (is_some_lookup (same_origin flood) es) ∙ sym e ∙ is
 
 -- a flood that isn't remembered is new where fewer than 256 are, and else has no place
-pub is_new : (floods : Floods) (flood : FloodId) → list_any (λ m. same_flood flood m.0) floods.memories ≡ false → length floods.memories < 256 → heard_reply floods flood ≡ New
+pub is_new : (floods : Floods) (flood : Origin) → list_any (λ m. same_origin flood m.0) floods.memories ≡ false → length floods.memories < 256 → heard_reply floods flood ≡ New
 is_new floods flood unknown room = rw (unknown, lt-ltb (length floods.memories) 256 room)
 
-pub has_no_place : (floods : Floods) (flood : FloodId) → list_any (λ m. same_flood flood m.0) floods.memories ≡ false → 256 ≤ length floods.memories → heard_reply floods flood ≡ NoPlace
+pub has_no_place : (floods : Floods) (flood : Origin) → list_any (λ m. same_origin flood m.0) floods.memories ≡ false → 256 ≤ length floods.memories → heard_reply floods flood ≡ NoPlace
 has_no_place floods flood unknown full = let no : nat_lt (length floods.memories) 256 ≡ false = grind (arith, full) in rw (unknown, no)
 
-pub is_known : (floods : Floods) (flood : FloodId) → list_any (λ m. same_flood flood m.0) floods.memories ≡ true → heard_reply floods flood ≡ Known
+pub is_known : (floods : Floods) (flood : Origin) → list_any (λ m. same_origin flood m.0) floods.memories ≡ true → heard_reply floods flood ≡ Known
 is_known floods flood known = rw known
 
 -- what holds anyhow holds after an error

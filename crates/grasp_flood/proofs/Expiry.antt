@@ -1,5 +1,5 @@
 -- What an expiry leaves.
-use Rattle.std.proofs.Common.{◌≡◌, ℕ, ◌<◌, Bool, true, false, cond, nat_lt, List, [], ◌∷◌, length, filter, Option, Some, None, IfSome, All, refl, sym, ap, ◌∙◌, true≢false, ltb-true}
+use Rattle.std.proofs.Common.{◌≡◌, ℕ, ◌<◌, Bool, true, false, cond, nat_lt, List, [], ◌∷◌, filter, Option, Some, None, IfSome, All, refl, ap, ◌∙◌, ltb-true}
 use Rattle.std.proofs.lemmas.List.Elements.{filter_passes}
 use Rattle.grasp_flood.specs.Floods.{Floods, is_after, after_expiry}
 

@@ -1,16 +1,18 @@
 -- Whatever comes, the entries stay few and under keys that differ, and so do the memories.
-use Rattle.std.proofs.Common.{ltb-true, suc, ◌≡◌, ℕ, ◌+◌, ◌<◌, ◌≤◌, Bool, true, false, cond, not, ◌||◌, nat_lt, ltb, List, [], ◌∷◌, ◌++◌, length, map, filter, fold, Option, refl, sym, ap, ◌∙◌, true≢false, arith}
+use Rattle.std.proofs.Common.{ltb-true, suc, ◌≡◌, ℕ, ◌+◌, ◌<◌, ◌≤◌, Bool, true, false, cond, not, ◌||◌, nat_lt, List, [], ◌∷◌, ◌++◌, length, map, filter, fold, Option, refl, ap, ◌∙◌, true≢false, arith}
 use Rattle.std.specs.List.{list_any}
 use Rattle.std.specs.Cmp.{decided}
 use Rattle.grasp_types.specs.declared.flood.FloodPart.{FloodPart}
-use Rattle.grasp_flood.specs.declared.heard.Heard.{Heard}
+use Rattle.grasp_types.specs.declared.origin.Origin.{Origin}
+use Rattle.grasp_types.specs.Origin.{same_origin}
+use Rattle.grasp_types.specs.OriginLaws.{same_origin_decides}
+use Rattle.grasp_types.specs.Reading.{reading_after}
 use Rattle.grasp_flood.specs.declared.heard.Heard.TheVariants.{Known, NoPlace, New}
-use Rattle.grasp_flood.specs.declared.keys.FloodId.{FloodId}
 use Rattle.grasp_flood.specs.declared.keys.FloodKey.{FloodKey}
 use Rattle.grasp_flood.specs.declared.kept.FloodKept.{FloodKept}
-use Rattle.grasp_flood.specs.Flood.{same_flood, same_key, flood_of}
-use Rattle.grasp_flood.specs.FloodLaws.{same_flood_decides, same_key_decides}
-use Rattle.grasp_flood.specs.Floods.{Floods, no_floods, has_key, put, after_keep, after_renewal, is_made_by, later_end, end_of, entry_of, is_after, remembers, heard_reply, after_heard, after_drop, after_expiry, reading_after, AllDiffer, IsSound}
+use Rattle.grasp_flood.specs.Flood.{same_key}
+use Rattle.grasp_flood.specs.FloodLaws.{same_key_decides}
+use Rattle.grasp_flood.specs.Floods.{Floods, no_floods, has_key, put, after_keep, after_renewal, is_made_by, later_end, end_of, entry_of, is_after, remembers, heard_reply, after_heard, after_drop, after_expiry, AllDiffer, IsSound}
 
 both_false : (s t : Bool) → (s || t) ≡ false → (s ≡ false) × (t ≡ false)
 both_false true t e = absurd (true≢false e)
@@ -43,19 +45,19 @@ few_filter p xs most h = omega (arith, length_filter p xs)
 
 -- a new memory
 
-any_push : (flood : FloodId) (xs : List (FloodId × ℕ)) (new : FloodId × ℕ) → list_any (λ m. same_flood flood m.0) xs ≡ false → same_flood flood new.0 ≡ false
-    → list_any (λ m. same_flood flood m.0) (xs ++ new ∷ []) ≡ false
-any_push flood [] new e d = neither (same_flood flood new.0) false d refl
+any_push : (flood : Origin) (xs : List (Origin × ℕ)) (new : Origin × ℕ) → list_any (λ m. same_origin flood m.0) xs ≡ false → same_origin flood new.0 ≡ false
+    → list_any (λ m. same_origin flood m.0) (xs ++ new ∷ []) ≡ false
+any_push flood [] new e d = neither (same_origin flood new.0) false d refl
 any_push flood (x ∷ xs) new e d =
-    let h = both_false (same_flood flood x.0) (list_any (λ m. same_flood flood m.0) xs) e in
-    neither (same_flood flood x.0) (list_any (λ m. same_flood flood m.0) (xs ++ new ∷ [])) h.0 (any_push flood xs new h.1 d)
+    let h = both_false (same_origin flood x.0) (list_any (λ m. same_origin flood m.0) xs) e in
+    neither (same_origin flood x.0) (list_any (λ m. same_origin flood m.0) (xs ++ new ∷ [])) h.0 (any_push flood xs new h.1 d)
 
-differ_push : (xs : List (FloodId × ℕ)) (new : FloodId × ℕ) → list_any (λ m. same_flood new.0 m.0) xs ≡ false → AllDiffer (λ a b. same_flood a.0 b.0) xs
-    → AllDiffer (λ a b. same_flood a.0 b.0) (xs ++ new ∷ [])
+differ_push : (xs : List (Origin × ℕ)) (new : Origin × ℕ) → list_any (λ m. same_origin new.0 m.0) xs ≡ false → AllDiffer (λ a b. same_origin a.0 b.0) xs
+    → AllDiffer (λ a b. same_origin a.0 b.0) (xs ++ new ∷ [])
 differ_push [] new e d = (refl, d)
 differ_push (x ∷ xs) new e d =
-    let h = both_false (same_flood new.0 x.0) (list_any (λ m. same_flood new.0 m.0) xs) e in
-    let apart : same_flood x.0 new.0 ≡ false = (decided same_flood same_flood_decides).symm x.0 new.0 ∙ h.0 in
+    let h = both_false (same_origin new.0 x.0) (list_any (λ m. same_origin new.0 m.0) xs) e in
+    let apart : same_origin x.0 new.0 ≡ false = (decided same_origin same_origin_decides).symm x.0 new.0 ∙ h.0 in
     (any_push x.0 xs new d.0 apart, differ_push xs new h.1 d.1)
 
 length_push : {X : Type 0} (xs : List X) (x : X) → length (xs ++ x ∷ []) ≡ length xs + 1
@@ -117,18 +119,18 @@ few_keep_all (new ∷ told) xs few = few_keep_all told (after_keep xs new) (few_
 
 -- entries that are renewed
 
-renewal_key : (flood : FloodId) (last : Option ℕ) (entry : FloodKey × FloodKept) → (after_renewal flood last entry).0 ≡ entry.0
+renewal_key : (flood : Origin) (last : Option ℕ) (entry : FloodKey × FloodKept) → (after_renewal flood last entry).0 ≡ entry.0
 renewal_key flood last entry =
     elim (is_made_by flood entry) as (λ b. (cond b (entry.0, record entry.1 { end = later_end entry.1.end last }) entry).0 ≡ entry.0) [ true ↦ refl | false ↦ refl ]
 
-any_renewal : (flood : FloodId) (last : Option ℕ) (test : FloodKey → Bool) (xs : List (FloodKey × FloodKept))
+any_renewal : (flood : Origin) (last : Option ℕ) (test : FloodKey → Bool) (xs : List (FloodKey × FloodKept))
     → list_any (λ e. test e.0) (map (after_renewal flood last) xs) ≡ list_any (λ e. test e.0) xs
 any_renewal flood last test [] = refl
 any_renewal flood last test (x ∷ xs) =
     ap (λ k. test k || list_any (λ e. test e.0) (map (after_renewal flood last) xs)) (renewal_key flood last x)
     ∙ ap (λ b. test x.0 || b) (any_renewal flood last test xs)
 
-differ_renewal : (flood : FloodId) (last : Option ℕ) (xs : List (FloodKey × FloodKept)) → AllDiffer (λ a b. same_key a.0 b.0) xs
+differ_renewal : (flood : Origin) (last : Option ℕ) (xs : List (FloodKey × FloodKept)) → AllDiffer (λ a b. same_key a.0 b.0) xs
     → AllDiffer (λ a b. same_key a.0 b.0) (map (after_renewal flood last) xs)
 differ_renewal flood last [] d = d
 differ_renewal flood last (x ∷ xs) d = (
@@ -145,7 +147,7 @@ length_map f (x ∷ xs) = ap suc (length_map f xs)
 pub sound_none : IsSound no_floods
 sound_none = record { few_entries = omega arith; own_keys = tt; few_memories = omega arith; own_floods = tt }
 
-pub sound_known : (floods : Floods) (flood : FloodId) (last : Option ℕ) → IsSound floods
+pub sound_known : (floods : Floods) (flood : Origin) (last : Option ℕ) → IsSound floods
     → IsSound (record { entries = map (after_renewal flood last) floods.entries; memories = floods.memories })
 sound_known floods flood last s =
     let same = length_map (after_renewal flood last) floods.entries in
@@ -156,7 +158,7 @@ sound_known floods flood last s =
       own_floods = s.own_floods;
     }
 
-pub sound_new : (floods : Floods) (flood : FloodId) (last : ℕ) (told : List (FloodKey × FloodKept)) → remembers floods flood ≡ false → length floods.memories < 256 → IsSound floods
+pub sound_new : (floods : Floods) (flood : Origin) (last : ℕ) (told : List (FloodKey × FloodKept)) → remembers floods flood ≡ false → length floods.memories < 256 → IsSound floods
     → IsSound (record { entries = fold after_keep floods.entries told; memories = floods.memories ++ (flood, last) ∷ [] })
 sound_new floods flood last told unknown room s =
     let one = length_push floods.memories (flood, last) in
@@ -180,10 +182,10 @@ sound_expiry floods now s = record {
   few_entries = few_filter (λ entry. is_after now entry.1.end) floods.entries 128 s.few_entries;
   own_keys = AllDiffer_filter (λ a b. same_key a.0 b.0) (λ entry. is_after now entry.1.end) floods.entries s.own_keys;
   few_memories = few_filter (λ memory. nat_lt now memory.1) floods.memories 256 s.few_memories;
-  own_floods = AllDiffer_filter (λ a b. same_flood a.0 b.0) (λ memory. nat_lt now memory.1) floods.memories s.own_floods;
+  own_floods = AllDiffer_filter (λ a b. same_origin a.0 b.0) (λ memory. nat_lt now memory.1) floods.memories s.own_floods;
 }
 
-pub sound_heard : (floods : Floods) (now : ℕ) (flood : FloodId) (ttl : ℕ) (parts : List FloodPart) → IsSound floods
+pub sound_heard : (floods : Floods) (now : ℕ) (flood : Origin) (ttl : ℕ) (parts : List FloodPart) → IsSound floods
     → IsSound (after_heard floods now flood ttl parts (heard_reply floods flood))
 sound_heard floods now flood ttl parts s = by (remembers floods flood) (nat_lt (length floods.memories) 256) refl refl
   where

@@ -2,32 +2,29 @@
 --
 -- The way of a flood is that of RFC 8990, sections 2.5.6.2 and 2.8.11. This project's own: the numbers 128, 256 and
 -- 120000 ms, that a lifetime of 0 never ends, and that a remembered flood renews what it told.
-use Rattle.std.specs.Prelude.{◌≡◌, ℕ, ◌+◌, ◌-◌, ◌^◌, ◌≤◌, Bool, true, false, ◌==◌, nat_lt, if◌then◌else◌, not, max, min, List, [], ◌∷◌, ◌++◌, length, map, filter, fold, Option, Some, None, bytes_eq}
+use Rattle.std.specs.Prelude.{◌≡◌, ℕ, ◌≤◌, Bool, true, false, ◌==◌, nat_lt, if◌then◌else◌, not, max, List, [], ◌∷◌, ◌++◌, length, map, filter, fold, Option, Some, None, bytes_eq}
 use Rattle.std.specs.Bool.{⊤}
 use Rattle.std.specs.List.{list_any}
-use Rattle.grasp_types.specs.declared.address.Address.{Address}
 use Rattle.grasp_types.specs.declared.flood.FloodPart.{FloodPart}
 use Rattle.grasp_types.specs.declared.flood.FloodRead.{FloodRead}
+use Rattle.grasp_types.specs.declared.origin.Origin.{Origin}
+use Rattle.grasp_types.specs.Origin.{same_origin, origin_of}
+use Rattle.grasp_types.specs.Reading.{reading_after}
 use Rattle.grasp_flood.specs.declared.heard.Heard.{Heard}
 use Rattle.grasp_flood.specs.declared.heard.Heard.TheVariants.{Known, NoPlace, New}
-use Rattle.grasp_flood.specs.declared.keys.FloodId.{FloodId}
 use Rattle.grasp_flood.specs.declared.keys.FloodKey.{FloodKey}
 use Rattle.grasp_flood.specs.declared.kept.FloodKept.{FloodKept}
-use Rattle.grasp_flood.specs.Flood.{same_flood, same_key, flood_of, key_of}
+use Rattle.grasp_flood.specs.Flood.{same_key, key_of}
 
 -- what is kept under each name and initiator, in the order in which these were first kept; and the remembered
 -- floods, in order, each with the reading at which its memory ends
 pub record Floods : Type 0 where
   pub entries : List (FloodKey × FloodKept)
-  pub memories : List (FloodId × ℕ)
+  pub memories : List (Origin × ℕ)
 
 -- nothing is kept, and no flood remembered
 abbrev pub no_floods : Floods
 no_floods = record { entries = []; memories = [] }
-
--- the reading after so many milliseconds, at most the greatest u64
-abbrev pub reading_after : ℕ → ℕ → ℕ
-reading_after now millis = min (now + millis) (2 ^ 64 - 1)
 
 -- when what has this lifetime ends; with a lifetime of 0 it never does
 abbrev pub end_of : ℕ → ℕ → Option ℕ
@@ -45,7 +42,7 @@ is_after now None = true
 is_after now (Some last) = nat_lt now last
 
 -- what is kept of a part of a flood, and its key
-abbrev pub entry_of : FloodId → Option ℕ → FloodPart → FloodKey × FloodKept
+abbrev pub entry_of : Origin → Option ℕ → FloodPart → FloodKey × FloodKept
 entry_of flood last part = (
   key_of part.objective.name flood.initiator,
   record {
@@ -75,20 +72,20 @@ after_keep entries new =
     else entries
 
 -- this flood made the entry
-abbrev pub is_made_by : FloodId → FloodKey × FloodKept → Bool
-is_made_by flood entry = same_flood flood (flood_of entry.1.session entry.0.initiator)
+abbrev pub is_made_by : Origin → FloodKey × FloodKept → Bool
+is_made_by flood entry = same_origin flood (origin_of entry.1.session entry.0.initiator)
 
 -- an entry that this flood made ends at the later of its end and a new one
-abbrev pub after_renewal : FloodId → Option ℕ → FloodKey × FloodKept → FloodKey × FloodKept
+abbrev pub after_renewal : Origin → Option ℕ → FloodKey × FloodKept → FloodKey × FloodKept
 after_renewal flood last entry =
     if is_made_by flood entry then (entry.0, record entry.1 { end = later_end entry.1.end last }) else entry
 
 -- the flood is remembered
-abbrev pub remembers : Floods → FloodId → Bool
-remembers floods flood = list_any (λ memory. same_flood flood memory.0) floods.memories
+abbrev pub remembers : Floods → Origin → Bool
+remembers floods flood = list_any (λ memory. same_origin flood memory.0) floods.memories
 
 -- what a flood is to the node: known where it is remembered, and else new where fewer than 256 floods are
-abbrev pub heard_reply : Floods → FloodId → Heard
+abbrev pub heard_reply : Floods → Origin → Heard
 heard_reply floods flood =
     if remembers floods flood then Known
     else if nat_lt (length floods.memories) 256 then New
@@ -96,7 +93,7 @@ heard_reply floods flood =
 
 -- a known flood renews its entries and no memory; one without a place changes nothing; a new one is remembered for
 -- 120000 ms, and its parts are kept in their order
-abbrev pub after_heard : Floods → ℕ → FloodId → ℕ → List FloodPart → Heard → Floods
+abbrev pub after_heard : Floods → ℕ → Origin → ℕ → List FloodPart → Heard → Floods
 after_heard floods now flood ttl parts Known = record floods { entries = map (after_renewal flood (end_of now ttl)) floods.entries }
 after_heard floods now flood ttl parts NoPlace = floods
 after_heard floods now flood ttl parts New = record {
@@ -141,4 +138,4 @@ pub record IsSound (floods : Floods) : Type 0 where
   pub few_entries : length floods.entries ≤ 128
   pub own_keys : AllDiffer (λ a b. same_key a.0 b.0) floods.entries
   pub few_memories : length floods.memories ≤ 256
-  pub own_floods : AllDiffer (λ a b. same_flood a.0 b.0) floods.memories
+  pub own_floods : AllDiffer (λ a b. same_origin a.0 b.0) floods.memories

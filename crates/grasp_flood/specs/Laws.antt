@@ -1,7 +1,7 @@
 -- Laws of what floods leave.
 use Rattle.std.specs.Prelude.{◌≡◌, ℕ, ◌<◌, List, All, IfSome}
 use Rattle.grasp_types.specs.declared.flood.FloodPart.{FloodPart}
-use Rattle.grasp_flood.specs.declared.keys.FloodId.{FloodId}
+use Rattle.grasp_types.specs.declared.origin.Origin.{Origin}
 use Rattle.grasp_flood.specs.declared.keys.FloodKey.{FloodKey}
 use Rattle.grasp_flood.specs.Floods.{Floods, no_floods, heard_reply, after_heard, after_drop, after_expiry, IsSound}
 
@@ -18,6 +18,6 @@ NothingEndedStays = (floods : Floods) (now : ℕ)
 -- the cache begins sound, and each call leaves it so
 abbrev pub AllStaysSound : Type 0
 AllStaysSound = IsSound no_floods × ((floods : Floods) → IsSound floods →
-    ((now : ℕ) (flood : FloodId) (ttl : ℕ) (parts : List FloodPart) → IsSound (after_heard floods now flood ttl parts (heard_reply floods flood)))
+    ((now : ℕ) (flood : Origin) (ttl : ℕ) (parts : List FloodPart) → IsSound (after_heard floods now flood ttl parts (heard_reply floods flood)))
     × ((key : FloodKey) → IsSound (after_drop floods key))
     × ((now : ℕ) → IsSound (after_expiry floods now)))

@@ -2,14 +2,15 @@
 
 ghost use Rattle.std.specs.Prelude.{◌≡◌, ◌+◌, ◌≤◌, ◌<◌, length, map, fold, IfOk, OnErr};
 ghost use Rattle.indexmap.specs.IndexMap.{spare};
-ghost use Rattle.grasp_flood.specs.Flood.{flood_of, key_of};
+ghost use Rattle.grasp_types.specs.Origin.{origin_of};
+ghost use Rattle.grasp_flood.specs.Flood.{key_of};
 ghost use Rattle.grasp_flood.specs.declared.heard.Heard.TheVariants.{New};
 ghost use Rattle.grasp_flood.specs.Floods.{no_floods, has_key, entry_of, after_keep, after_renewal, heard_reply, after_heard, reads_of, after_drop, after_expiry, IsSound};
 
 use crate::kept::{end_of, entry_of, read_of};
-use crate::{FloodId, FloodKept, FloodKey, Heard};
+use crate::{FloodKept, FloodKey, Heard};
 use grasp_cbor::{Chars, OutOfMemory};
-use grasp_types::{Address, FloodParts, FloodReads};
+use grasp_types::{Address, FloodParts, FloodReads, Origin, reading_after};
 use indexmap::IndexMap;
 use std::alloc::Global;
 use std::marker::Model;
@@ -29,19 +30,19 @@ type Entries = IndexMap<FloodKey, FloodKept>;
 #[derive(Drop)]
 pub struct FloodCache {
     entries: Entries,
-    memories: IndexMap<FloodId, u64>,
+    memories: IndexMap<Origin, u64>,
 }
 
 impl Model for FloodCache {
     ghost use Rattle.std.specs.Coded.{codes};
     ghost use Rattle.grasp_flood.specs.contracts.kept.FloodKept as kept;
-    ghost use Rattle.grasp_flood.specs.contracts.keys.FloodId as flood;
+    ghost use Rattle.grasp_types.specs.contracts.origin.Origin as origin;
     ghost use Rattle.grasp_flood.specs.contracts.keys.FloodKey as key;
     ghost use Rattle.grasp_flood.specs.Floods.{Floods, IsSound};
 
     ghost Value = { Floods };
 
-    ghost coded = { Prim.hlevel (codes, key.the_row.coded, kept.the_row.coded, flood.the_row.coded) };
+    ghost coded = { Prim.hlevel (codes, key.the_row.coded, kept.the_row.coded, origin.the_row.coded) };
 
     ghost view = { λ a. record { entries = a.entries.entries; memories = a.memories.entries } };
 
@@ -74,13 +75,13 @@ impl FloodCache {
         ttl: u32,
         parts: &FloodParts,
     ) -> Result<Heard, OutOfMemory>
-        ensures reply { IfOk result (λ heard. heard ≡ heard_reply self.old (flood_of session initiator)) }
-        ensures after { IfOk result (λ heard. self.new ≡ after_heard self.old now (flood_of session initiator) ttl parts.now heard) }
+        ensures reply { IfOk result (λ heard. heard ≡ heard_reply self.old (origin_of session initiator)) }
+        ensures after { IfOk result (λ heard. self.new ≡ after_heard self.old now (origin_of session initiator) ttl parts.now heard) }
         ensures err { OnErr result (self.new ≡ self.old) }
-        ensures wanted { OnErr result (heard_reply self.old (flood_of session initiator) ≡ New) }
+        ensures wanted { OnErr result (heard_reply self.old (origin_of session initiator) ≡ New) }
         ensures sound { IsSound self.new }
     {
-        let flood = FloodId { session, initiator };
+        let flood = Origin { session, initiator };
         let end = end_of(now, ttl);
         if self.memories.contains_key(&flood) {
             renew_all(&mut self.entries, flood, end);
@@ -91,7 +92,7 @@ impl FloodCache {
         }
         let told = entries_of(*self.entries.allocator(), flood, end, parts)?;
         self.entries.reserve(told.len())?;
-        self.memories.insert(flood, now.saturating_add(MEMORY))?;
+        self.memories.insert(flood, reading_after(now, MEMORY))?;
         keep_all(&mut self.entries, told);
         Ok(Heard::New)
     }
@@ -138,7 +139,7 @@ impl FloodCache {
 /// What is kept of these parts of a flood, with their keys.
 fn entries_of(
     alloc: Global,
-    flood: FloodId,
+    flood: Origin,
     end: Option<u64>,
     parts: &FloodParts,
 ) -> Result<Vec<(FloodKey, FloodKept)>, OutOfMemory>
@@ -179,7 +180,7 @@ fn keep(entries: &mut Entries, key: FloodKey, kept: FloodKept)
 }
 
 /// Renews what this flood made.
-fn renew_all(entries: &mut Entries, flood: FloodId, end: Option<u64>)
+fn renew_all(entries: &mut Entries, flood: Origin, end: Option<u64>)
     ensures { entries.new.entries ≡ map (after_renewal flood end) entries.old.entries }
 {
     for i in 0..entries.len() {

@@ -3,9 +3,9 @@
 ghost use Rattle.std.specs.Prelude.{◌≡◌, IfOk};
 ghost use Rattle.grasp_flood.specs.Floods.{end_of, entry_of, is_after, later_end, after_renewal, read_of};
 
-use crate::{FloodId, FloodKey};
+use crate::FloodKey;
 use grasp_cbor::OutOfMemory;
-use grasp_types::{Flags, FloodPart, FloodRead, Locator, Objective, Value};
+use grasp_types::{Flags, FloodPart, FloodRead, Locator, Objective, Origin, Value, reading_after};
 
 /// What is kept of one part of a flood, beside its key.
 #[derive(Debug, Drop)]
@@ -27,7 +27,7 @@ pub(crate) fn end_of(now: u64, ttl: u32) -> Option<u64>
     if ttl == 0 {
         None
     } else {
-        Some(now.saturating_add(u64::from(ttl)))
+        Some(reading_after(now, u64::from(ttl)))
     }
 }
 
@@ -43,7 +43,7 @@ fn later_end(a: Option<u64>, b: Option<u64>) -> Option<u64>
 
 /// What is kept of this part of a flood, and its key.
 pub(crate) fn entry_of(
-    flood: FloodId,
+    flood: Origin,
     end: Option<u64>,
     part: &FloodPart,
 ) -> Result<(FloodKey, FloodKept), OutOfMemory>
@@ -108,7 +108,7 @@ impl FloodKept {
     }
 
     /// Moves the end to this one, where that is later and this flood made the entry of this key.
-    pub(crate) fn renew(&mut self, key: &FloodKey, flood: FloodId, end: Option<u64>)
+    pub(crate) fn renew(&mut self, key: &FloodKey, flood: Origin, end: Option<u64>)
         ensures { (key.now, self.new) ≡ after_renewal flood end (key.now, self.old) }
     {
         if flood.session == self.session && flood.initiator == key.initiator {

@@ -1,4 +1,4 @@
-//! The keys of the cache: floods, and names with initiators.
+//! The keys of the cache's entries: names with initiators.
 
 ghost use Rattle.std.specs.Prelude.{◌≡◌};
 ghost use Rattle.grasp_flood.specs.Flood.{same_key, key_of};
@@ -6,52 +6,6 @@ ghost use Rattle.grasp_flood.specs.Flood.{same_key, key_of};
 use grasp_cbor::Chars;
 use grasp_types::Address;
 use std::hash::{Hash, Hasher};
-
-/// One flood: the session number that its initiator drew, and the initiator's address (RFC 8990, section 2.7).
-#[derive(Clone, Copy, Debug)]
-pub struct FloodId {
-    pub session: u32,
-    pub initiator: Address,
-}
-
-impl PartialEq for FloodId {
-    ghost use Rattle.std.specs.Cmp.{partial_equiv_from_equiv, decided};
-    ghost use Rattle.grasp_flood.specs.Flood.{same_flood};
-    ghost use Rattle.grasp_flood.specs.FloodLaws.{same_flood_decides};
-
-    ghost eq = { same_flood };
-
-    ghost laws = { partial_equiv_from_equiv (decided same_flood same_flood_decides) };
-
-    fn eq(&self, other: &FloodId) -> bool {
-        self.session == other.session && self.initiator == other.initiator
-    }
-}
-
-impl Eq for FloodId {
-    ghost use Rattle.std.specs.Cmp.{decided};
-    ghost use Rattle.grasp_flood.specs.Flood.{same_flood};
-    ghost use Rattle.grasp_flood.specs.FloodLaws.{same_flood_decides};
-
-    ghost laws = { decided same_flood same_flood_decides };
-}
-
-impl Hash for FloodId {
-    ghost use Rattle.grasp_flood.specs.Flood.{flood_input};
-    ghost use Rattle.grasp_flood.specs.FloodLaws.{one_flood_input};
-
-    ghost hash_input = { flood_input };
-
-    ghost respects_eq = { one_flood_input };
-
-    fn hash<H: Hasher>(&self, state: &mut H) {
-        state.write_u32(self.session);
-        match self.initiator {
-            Address::V4(n) => state.write_u32(n),
-            Address::V6(n) => state.write_u128(n),
-        }
-    }
-}
 
 /// What an objective of a flood is kept under.
 #[derive(Debug, Drop)]

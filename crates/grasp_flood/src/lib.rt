@@ -15,5 +15,5 @@ mod tests;
 pub use cache::FloodCache;
 pub use heard::Heard;
 pub use kept::FloodKept;
-pub use keys::{FloodId, FloodKey};
+pub use keys::FloodKey;
 pub use laws::{all_stays_sound, expiry_twice_is_once, nothing_ended_stays};

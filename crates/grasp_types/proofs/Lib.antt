@@ -1,4 +1,4 @@
 pub mod BigEndian
 pub mod Depths
+pub mod FromItems
 pub mod Multiples
-pub mod Reading

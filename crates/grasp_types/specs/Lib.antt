@@ -2,5 +2,8 @@ pub mod Address
 pub mod Flood
 pub mod Message
 pub mod Objective
+pub mod Origin
+pub mod OriginLaws
 pub mod Prefix
+pub mod Reading
 pub mod Refusal

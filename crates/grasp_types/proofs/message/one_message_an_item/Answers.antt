@@ -1,4 +1,4 @@
-use Rattle.grasp_types.proofs.Reading.{no_two_messages}
+use Rattle.grasp_types.proofs.FromItems.{no_two_messages}
 use Rattle.grasp_types.proofs.message.one_message_an_item.Goals as goal
 
 pub returns : goal.returns

@@ -1,6 +1,5 @@
-use Rattle.std.proofs.Common.{◌≡◌, ◌<◌, false, length, sym, ◌∙◌, arith}
-use Rattle.std.specs.List.{list_any}
-use Rattle.grasp_flood.specs.Flood.{same_flood, flood_of}
+use Rattle.std.proofs.Common.{◌<◌, length, sym, ◌∙◌, arith}
+use Rattle.grasp_types.specs.Origin.{origin_of}
 use Rattle.grasp_flood.specs.Floods.{Floods}
 use Rattle.grasp_flood.proofs.Entries.{insert_entry_new, remembered_is, is_known, is_new, has_no_place, OnErr_anyhow}
 use Rattle.grasp_flood.proofs.Soundness.{sound_known, sound_new}
@@ -14,22 +13,22 @@ seen a = record { entries = a.entries.entries; memories = a.memories.entries }
 
 pub invariant_of-self : goal.invariant_of-self
 invariant_of-self c =
-    rw c.renew_all.ensures (sound_known (seen c.self.inside) (flood_of c.args.session c.args.initiator) c.end_of-end.result c.self.invariant)
+    rw c.renew_all.ensures (sound_known (seen c.self.inside) (origin_of c.args.session c.args.initiator) c.end_of-end.result c.self.invariant)
 
 pub returns-then-contains_key-clause-reply : goal.returns-then-contains_key-clause-reply
 returns-then-contains_key-clause-reply c =
-    let flood = flood_of c.args.session c.args.initiator in
+    let flood = origin_of c.args.session c.args.initiator in
     rw (← c.self.view_is) (sym (is_known (seen c.self.inside) flood (remembered_is flood c.self.inside.memories.entries _ _ c.contains_key.ensures c.if-contains_key.true)))
 
 pub returns-then-contains_key-clause-sound : goal.returns-then-contains_key-clause-sound
 returns-then-contains_key-clause-sound c =
-    rw c.renew_all.ensures (sound_known (seen c.self.inside) (flood_of c.args.session c.args.initiator) c.end_of-end.result c.self.invariant)
+    rw c.renew_all.ensures (sound_known (seen c.self.inside) (origin_of c.args.session c.args.initiator) c.end_of-end.result c.self.invariant)
 
 -- one without a place
 
 pub returns-then-len-ge-MOST_MEMORIES-clause-reply : goal.returns-then-len-ge-MOST_MEMORIES-clause-reply
 returns-then-len-ge-MOST_MEMORIES-clause-reply c =
-    let flood = flood_of c.args.session c.args.initiator in
+    let flood = origin_of c.args.session c.args.initiator in
     let unknown = remembered_is flood c.self.inside.memories.entries _ _ c.contains_key.ensures c.if-contains_key.false in
     rw (← c.self.view_is) (sym (has_no_place (seen c.self.inside) flood unknown (omega (arith, c.len.ensures.len))))
 
@@ -37,19 +36,19 @@ returns-then-len-ge-MOST_MEMORIES-clause-reply c =
 
 pub returns-in_err-told-clause-wanted : goal.returns-in_err-told-clause-wanted
 returns-in_err-told-clause-wanted c =
-    let flood = flood_of c.args.session c.args.initiator in
+    let flood = origin_of c.args.session c.args.initiator in
     let unknown = remembered_is flood c.self.inside.memories.entries _ _ c.contains_key.ensures c.if-contains_key.false in
     rw (← c.self.view_is) (OnErr_anyhow c.from_residual.result (is_new (seen c.self.inside) flood unknown (omega (arith, c.len.ensures.len))))
 
 pub returns-in_err-reserve-clause-wanted : goal.returns-in_err-reserve-clause-wanted
 returns-in_err-reserve-clause-wanted c =
-    let flood = flood_of c.args.session c.args.initiator in
+    let flood = origin_of c.args.session c.args.initiator in
     let unknown = remembered_is flood c.self.inside.memories.entries _ _ c.contains_key.ensures c.if-contains_key.false in
     rw (← c.self.view_is) (OnErr_anyhow c.from_residual-in_err-reserve.result (is_new (seen c.self.inside) flood unknown (omega (arith, c.len.ensures.len))))
 
 pub returns-in_err-insert-clause-wanted : goal.returns-in_err-insert-clause-wanted
 returns-in_err-insert-clause-wanted c =
-    let flood = flood_of c.args.session c.args.initiator in
+    let flood = origin_of c.args.session c.args.initiator in
     let unknown = remembered_is flood c.self.inside.memories.entries _ _ c.contains_key.ensures c.if-contains_key.false in
     rw (← c.self.view_is) (OnErr_anyhow c.from_residual-in_err-insert.result (is_new (seen c.self.inside) flood unknown (omega (arith, c.len.ensures.len))))
 
@@ -57,29 +56,29 @@ returns-in_err-insert-clause-wanted c =
 
 pub invariant_of-self-2 : goal.invariant_of-self-2
 invariant_of-self-2 c =
-    let flood = flood_of c.args.session c.args.initiator in
+    let flood = origin_of c.args.session c.args.initiator in
     let unknown = remembered_is flood c.self.inside.memories.entries _ _ c.contains_key.ensures c.if-contains_key.false in
-    let last = c.in_ok-insert.ensures.entries ∙ insert_entry_new flood c.saturating_add.result c.self.inside.memories.entries unknown in
+    let last = c.in_ok-insert.ensures.entries ∙ insert_entry_new flood c.reading_after.result c.self.inside.memories.entries unknown in
     let room : length c.self.inside.memories.entries < 256 = omega (arith, c.len.ensures.len) in
-    rw (c.keep_all.ensures, last, c.reserve.ensures.entries) (sound_new (seen c.self.inside) flood c.saturating_add.result c.in_ok-told.told.items unknown room c.self.invariant)
+    rw (c.keep_all.ensures, last, c.reserve.ensures.entries) (sound_new (seen c.self.inside) flood c.reading_after.result c.in_ok-told.told.items unknown room c.self.invariant)
 
 pub returns-clause-reply : goal.returns-clause-reply
 returns-clause-reply c =
-    let flood = flood_of c.args.session c.args.initiator in
+    let flood = origin_of c.args.session c.args.initiator in
     let unknown = remembered_is flood c.self.inside.memories.entries _ _ c.contains_key.ensures c.if-contains_key.false in
     rw (← c.self.view_is) (sym (is_new (seen c.self.inside) flood unknown (omega (arith, c.len.ensures.len))))
 
 pub returns-clause-after : goal.returns-clause-after
 returns-clause-after c =
-    let flood = flood_of c.args.session c.args.initiator in
+    let flood = origin_of c.args.session c.args.initiator in
     let unknown = remembered_is flood c.self.inside.memories.entries _ _ c.contains_key.ensures c.if-contains_key.false in
-    let last = c.in_ok-insert.ensures.entries ∙ insert_entry_new flood c.saturating_add.result c.self.inside.memories.entries unknown in
-    rw (c.keep_all.ensures, last, c.reserve.ensures.entries, c.in_ok-told.ensures, c.end_of-end.ensures, c.saturating_add.ensures, ← c.self.view_is)
+    let last = c.in_ok-insert.ensures.entries ∙ insert_entry_new flood c.reading_after.result c.self.inside.memories.entries unknown in
+    rw (c.keep_all.ensures, last, c.reserve.ensures.entries, c.in_ok-told.ensures, c.end_of-end.ensures, c.reading_after.ensures, ← c.self.view_is)
 
 pub returns-clause-sound : goal.returns-clause-sound
 returns-clause-sound c =
-    let flood = flood_of c.args.session c.args.initiator in
+    let flood = origin_of c.args.session c.args.initiator in
     let unknown = remembered_is flood c.self.inside.memories.entries _ _ c.contains_key.ensures c.if-contains_key.false in
-    let last = c.in_ok-insert.ensures.entries ∙ insert_entry_new flood c.saturating_add.result c.self.inside.memories.entries unknown in
+    let last = c.in_ok-insert.ensures.entries ∙ insert_entry_new flood c.reading_after.result c.self.inside.memories.entries unknown in
     let room : length c.self.inside.memories.entries < 256 = omega (arith, c.len.ensures.len) in
-    rw (c.keep_all.ensures, last, c.reserve.ensures.entries) (sound_new (seen c.self.inside) flood c.saturating_add.result c.in_ok-told.told.items unknown room c.self.invariant)
+    rw (c.keep_all.ensures, last, c.reserve.ensures.entries) (sound_new (seen c.self.inside) flood c.reading_after.result c.in_ok-told.told.items unknown room c.self.invariant)
