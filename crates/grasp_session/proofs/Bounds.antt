@@ -22,7 +22,7 @@ pub record Falls (loops : ℕ) (c : List Said) : Type 0 where
   pub sum : steps c + (newest_offer c).loops ≤ loops
   pub some : (steps c ≡ 0) ⊎ (1 ≤ (newest_offer c).loops)
 
-falls_bounded : (loops : ℕ) (c : List Said) → Falls loops c → IsBounded loops c
+pub falls_bounded : (loops : ℕ) (c : List Said) → Falls loops c → IsBounded loops c
 falls_bounded loops c h = record { below = λ p. omega (arith, h.sum, h.some, p); none = λ e. omega (arith, h.sum, h.some, e) }
 
 falls_same : (loops : ℕ) (c d : List Said) → steps d ≡ steps c → newest_offer d ≡ newest_offer c → Falls loops c → Falls loops d
@@ -31,7 +31,7 @@ falls_same loops c d e f h = let g : (newest_offer d).loops ≡ (newest_offer c)
 falls_step : (loops : ℕ) (c : List Said) (s : Side) (n : ℕ) (o : Objective) → 0 < o.loops → o.loops < (newest_offer c).loops → Falls loops c → Falls loops (says s (Negotiate n o) ∷ c)
 falls_step loops c s n o p q h = record { sum = omega (arith, h.sum, p, q); some = inr p }
 
-falls_said : (loops : ℕ) (v : Transcript) (now : ℕ) (s : Saying) → refusal v (act_of s) ≡ None → Falls loops (known v) → Falls loops (known (with_sent v now (message_of v s)))
+pub falls_said : (loops : ℕ) (v : Transcript) (now : ℕ) (s : Saying) → refusal v (act_of s) ≡ None → Falls loops (known v) → Falls loops (known (with_sent v now (message_of v s)))
 falls_said loops v now (SayStep value) e h =
     let p = fine_turn (is_going v && is_mine v) (cond (nat_lt 1 (newest_offer (known v)).loops) None (Some LoopsSpent)) e in
     let l : 1 < (newest_offer (known v)).loops = ltb-true 1 (newest_offer (known v)).loops (fine_loops (nat_lt 1 (newest_offer (known v)).loops) p.1) in
@@ -48,11 +48,11 @@ kept_test : (b : Bool) → cond b Kept Bad ≡ Kept → b ≡ true
 kept_test true e = refl
 kept_test false e = absurd (cc)
 
-going_test : (b : Bool) (r : Received) → cond b r Ignored ≡ Kept → r ≡ Kept
+pub going_test : (b : Bool) (r : Received) → cond b r Ignored ≡ Kept → r ≡ Kept
 going_test true r e = e
 going_test false r e = absurd (cc)
 
-falls_kept : (loops : ℕ) (v : Transcript) (now : ℕ) (m : Message) → receive_going v m ≡ Kept → Falls loops (known v) → Falls loops (known (with_kept v now m))
+pub falls_kept : (loops : ℕ) (v : Transcript) (now : ℕ) (m : Message) → receive_going v m ≡ Kept → Falls loops (known v) → Falls loops (known (with_kept v now m))
 falls_kept loops v now (ReqNeg n o) e h = absurd (cc)
 falls_kept loops v now (Negotiate n o) e h =
     let a = bytes_eq o.name (requested (known v)).name in
@@ -90,7 +90,7 @@ falls_deeds : (loops : ℕ) (v : Transcript) (ds : List Deed) → Falls loops (k
 falls_deeds loops v [] h = h
 falls_deeds loops v (d ∷ ds) h = falls_deeds loops (after_deed v d) ds (falls_deed loops v d h)
 
-falls_opening : (kind : Kind) (role : Side) (timeout now session : ℕ) (o : Objective) → Falls o.loops (known (opening kind role timeout now session o))
+pub falls_opening : (kind : Kind) (role : Side) (timeout now session : ℕ) (o : Objective) → Falls o.loops (known (opening kind role timeout now session o))
 falls_opening Negotiation role timeout now session o = record { sum = omega arith; some = inl refl }
 falls_opening Synchronization role timeout now session o = record { sum = omega arith; some = inl refl }
 

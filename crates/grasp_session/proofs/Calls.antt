@@ -1,12 +1,11 @@
 -- What each call does to the sessions that a table keeps.
-use Rattle.std.proofs.Common.{◌≡◌, ◌≢◌, ℕ, ◌+◌, ◌-◌, ◌^◌, ◌<◌, ◌≤◌, Bool, true, false, cond, not, ◌&&◌, ◌||◌, List, [], ◌∷◌, length, ◌⊎◌, inl, inr, Option, Some, None, Result, Ok, Err, is_some, is_none, IsSome, IfOk, OnErr, IfSome, Bor, count_by, slice_index_or, slice_set, nat_lt, nat_le, nat_eq, ◌==◌, bytes_eq, if◌then◌else◌, refl, sym, ap, ◌∙◌, subst, arith}
-use Rattle.std.proofs.lemmas.Bool.{false≢true, true≢false, and_parts, cond-true, cond-false, le-leb, leb-false, eq-eqb, eqb-true}
+use Rattle.std.proofs.Common.{◌≡◌, ◌≢◌, ℕ, ◌+◌, ◌-◌, ◌^◌, ◌<◌, Bool, true, false, cond, not, ◌&&◌, ◌||◌, List, Option, Some, None, Result, Ok, Err, is_some, is_none, IfOk, OnErr, IfSome, Bor, count_by, slice_index_or, slice_set, nat_lt, nat_le, ◌==◌, bytes_eq, if◌then◌else◌, refl, sym, ap, ◌∙◌, subst, arith}
+use Rattle.std.proofs.lemmas.Bool.{false≢true, true≢false, and_parts, cond-true, cond-false, eq-eqb, eqb-true}
 use Rattle.std.proofs.lemmas.List.{length-set}
 use Rattle.grasp_types.specs.declared.message.Message.{Message}
 use Rattle.grasp_types.specs.declared.objective.Objective.{Objective}
 use Rattle.grasp_types.specs.declared.session.Handle.{Handle}
 use Rattle.grasp_types.specs.declared.session.Outcome.{Outcome}
-use Rattle.grasp_types.specs.declared.session.Progress.{Progress}
 use Rattle.grasp_types.specs.declared.session.Progress.TheVariants.{NotYet, Turn, Ended}
 use Rattle.grasp_session.specs.declared.answer.Act.{Act}
 use Rattle.grasp_session.specs.declared.answer.Act.TheVariants as act
@@ -17,13 +16,12 @@ use Rattle.grasp_session.specs.declared.answer.SessionRefused.TheVariants.{NoSes
 use Rattle.grasp_session.specs.declared.begin.Begin.{Begin}
 use Rattle.grasp_session.specs.declared.session.Session.{Session}
 use Rattle.grasp_session.specs.declared.table.Table.{Table}
-use Rattle.grasp_session.specs.declared.wanted.Wanted.{Wanted}
 use Rattle.grasp_session.specs.declared.wanted.Wanted.TheVariants.{OnStream, Due, Untaken}
-use Rattle.grasp_session.specs.Transcript.{Mark, Expired, Transcript, Saying, message_of, having_said, receive, after_received, with_mark, is_going, is_mine, outcome_of, peer_offer, last_offer, session_of, request_of}
+use Rattle.grasp_session.specs.Transcript.{Mark, Expired, Saying, message_of, having_said, receive, after_received, with_mark, is_going, is_mine, outcome_of, peer_offer, last_offer, session_of}
 use Rattle.grasp_session.specs.Keeps.{Keeps, refusal_in, leaves_in, offer_in, ended_with}
-use Rattle.grasp_session.specs.Sessions.{SessionState, Sessions, with_transcript, with_owner, begun_state, if_owner, if_refused, session_at, session_owned, found, on_stream, due, stream_of, with_place, left, changed, live_count, is_full, Starts, MayStart, after_start, say_reply, after_say, receive_reply, after_receive, keep_at, progress_of, poll_reply, IsTurn, MayPoll, after_poll, leave_at, mark_at, after_mark, expire_reply, after_expire, state_reply, stream_reply, going_at, session_reply, last_reply, adopt_reply, after_adopt, after_remove}
-use Rattle.grasp_session.specs.Stands.{Stands, StandsAt, kept_at, kept_owned, answer_in, check_answer, oldest_in, fits_in, fits_at, full_in, settled, IsUntaken, owner_in}
-use Rattle.grasp_session.proofs.Tables.{slot, zip_slot, zip_count, zip_set, places_long, Found, find, find_none, oldest_stands, put_back, put_stands, back_stands, left_stands, settled_stands, reply_at, say_stands, Seated, seated}
+use Rattle.grasp_session.specs.Sessions.{SessionState, Sessions, with_transcript, with_owner, begun_state, if_owner, if_refused, session_at, session_owned, on_stream, due, stream_of, with_place, left, changed, live_count, is_full, MayStart, after_start, say_reply, after_say, receive_reply, after_receive, poll_reply, IsTurn, MayPoll, after_poll, mark_at, after_mark, expire_reply, after_expire, state_reply, stream_reply, session_reply, last_reply, adopt_reply, after_adopt, after_remove}
+use Rattle.grasp_session.specs.Stands.{Stands, StandsAt, kept_at, kept_owned, answer_in, check_answer, state_at, state_answer, oldest_in, fits_at, full_in, settled, IsUntaken, owner_in}
+use Rattle.grasp_session.proofs.Tables.{slot, zip_slot, zip_count, zip_set, Found, find, oldest_stands, put_back, put_stands, back_stands, left_stands, settled_stands, reply_at, say_stands}
 
 -- what has an answer in every case
 pub if_ok_map : {A E : Type 0} (P Q : A → Type 0) (r : Result A E) → ((a : A) → P a → Q a) → IfOk r P → IfOk r Q
@@ -236,6 +234,14 @@ pub state_some : (t : Table) (z : Sessions) (stream : ℕ) (h : Handle) (s : Ses
 state_some t z stream h s st e f = by_found (find t z h s st (sym f)) where
   by_found : Found z h s → Some (s.session, is_some s.ending) ≡ state_reply z stream
   by_found q = rw (stream_found t z stream (Some h) st e, q.is, q.keeps.session, some_not_none s.ending, q.keeps.going) refl
+
+pub answer_none : (t : Table) (stream : ℕ) → None ≡ oldest_in (OnStream stream) t.places → None ≡ state_answer t stream
+answer_none t stream e = ap (state_at t.places) e
+
+pub answer_some : (t : Table) (stream : ℕ) (h : Handle) (s : Session) → Some h ≡ oldest_in (OnStream stream) t.places → Some s ≡ kept_at t.places h → Some (s.session, is_some s.ending) ≡ state_answer t stream
+answer_some t stream h s e f = at_handle ∙ ap (state_at t.places) e where
+  at_handle : Some (s.session, is_some s.ending) ≡ state_at t.places (Some h)
+  at_handle = rw (sym f) refl
 
 -- how many there are
 pub live_is : (t : Table) (z : Sessions) (n : ℕ) → Stands t z → n ≡ count_by is_some t.places → n ≡ live_count z

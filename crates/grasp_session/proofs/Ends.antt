@@ -2,7 +2,7 @@
 use Rattle.std.proofs.Common.{◌≡◌, List, inr, subst}
 use Rattle.grasp_session.specs.Messages.{Side, Near, Far}
 use Rattle.grasp_types.specs.declared.message.Message.{Message}
-use Rattle.grasp_session.specs.Conversation.{Said, strip}
+use Rattle.grasp_session.specs.Conversation.{Said, strip, number}
 use Rattle.grasp_session.specs.Transcript.{Transcript, known}
 use Rattle.grasp_session.specs.Talk.{Stage, Absent, Refused, Present, quiet, party, Move, run}
 use Rattle.grasp_session.specs.Laws.{RunsAreLegal, RunsAreBounded, ViewsTrail, IsSilent, SilentUnseen, NoneIsBad, BothAgree, OffersStand}
@@ -18,7 +18,7 @@ pub sound : (ms : List Move) → SoundTalk (run quiet ms)
 sound ms = run_sound quiet ms quiet_sound
 
 pub legal : RunsAreLegal
-legal ms = record { legal = (sound ms).legal; last = (sound ms).last }
+legal ms = record { legal = (sound ms).legal; last = (sound ms).last.last; session = number (strip (run quiet ms).said); numbered = (sound ms).last.numbered }
 
 pub bounded : RunsAreBounded
 bounded ms = counts_bounded (strip (run quiet ms).said) (legal_counts (strip (run quiet ms).said) (sound ms).legal)

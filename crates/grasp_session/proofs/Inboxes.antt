@@ -20,10 +20,16 @@ use Rattle.grasp_session.proofs.Sound.{SoundTalk, SoundStage, SoundView, sound_p
 use Rattle.grasp_session.proofs.Moves.{is_kept, moved_sound, quiet_sound}
 use Rattle.grasp_types.specs.declared.session.Kind.TheVariants.{Negotiation}
 
+-- it kept the first of what it took, and all where it goes on
+record KeptFirst (v : Transcript) (taken : List Message) : Type 0 where
+  ignored : List Message
+  first : taken ≡ ignored ++ kept_of v.entries
+  none : is_going v ≡ true → ignored ≡ []
+
 abbrev KeptAll : Stage → List Message → Type 0
 KeptAll Absent taken = taken ≡ []
 KeptAll Refused taken = Unit {0}
-KeptAll (Present v) taken = is_going v ≡ true → kept_of v.entries ≡ taken
+KeptAll (Present v) taken = KeptFirst v taken
 
 record Inbox (side : Side) (said : List Said) (p : Party) : Type 0 where
   given : spoken (other side) said ≡ reverse p.inbox ++ p.taken
@@ -79,13 +85,13 @@ took_inboxes t side m left stage i e k =
 
 -- each move
 requests_inboxes : (t : Talk) (now timeout session : ℕ) (o : Objective) (stage : Stage) → Inboxes t → KeptAll stage t.near.taken → Inboxes (requests t now timeout session o stage)
-requests_inboxes t now timeout session o Absent i k = spoke_inboxes t Near (ReqNeg session o) (Present (opening Negotiation Near timeout now session o)) i (λ _. sym k)
+requests_inboxes t now timeout session o Absent i k = spoke_inboxes t Near (ReqNeg session o) (Present (opening Negotiation Near timeout now session o)) i (record { ignored = []; first = k; none = λ _. refl })
 requests_inboxes t now timeout session o Refused i k = i
 requests_inboxes t now timeout session o (Present v) i k = i
 
 opens_at_inboxes : (t : Talk) (now timeout : ℕ) (inbox : List Message) → Inboxes t → t.far.inbox ≡ inbox → t.far.taken ≡ [] → Inboxes (opens_at t now timeout inbox)
 opens_at_inboxes t now timeout [] i e k = i
-opens_at_inboxes t now timeout (ReqNeg session o ∷ left) i e k = took_inboxes t Far (ReqNeg session o) left (Present (opening Negotiation Far timeout now session o)) i e (λ _. ap (λ (l : List Message). ReqNeg session o ∷ l) (sym k))
+opens_at_inboxes t now timeout (ReqNeg session o ∷ left) i e k = took_inboxes t Far (ReqNeg session o) left (Present (opening Negotiation Far timeout now session o)) i e (record { ignored = []; first = ap (λ (l : List Message). ReqNeg session o ∷ l) k; none = λ _. refl })
 opens_at_inboxes t now timeout (Negotiate n o ∷ left) i e k = i
 opens_at_inboxes t now timeout (Wait n millis ∷ left) i e k = i
 opens_at_inboxes t now timeout (End n v ∷ left) i e k = i
@@ -112,8 +118,8 @@ refuses_inboxes t reason Absent i = refuses_at_inboxes t reason t.far.inbox i re
 refuses_inboxes t reason Refused i = i
 refuses_inboxes t reason (Present v) i = i
 
-says_checked_inboxes : (t : Talk) (side : Side) (now : ℕ) (sg : Saying) (v : Transcript) (c : Option SessionRefused) → Inboxes t → (is_going v ≡ true → kept_of v.entries ≡ (party t side).taken) → (c ≡ None → is_going v ≡ true) → Inboxes (says_checked t side now sg v c)
-says_checked_inboxes t side now sg v None i k g = spoke_inboxes t side (message_of v sg) (Present (with_sent v now (message_of v sg))) i (λ _. k (g refl))
+says_checked_inboxes : (t : Talk) (side : Side) (now : ℕ) (sg : Saying) (v : Transcript) (c : Option SessionRefused) → Inboxes t → KeptFirst v (party t side).taken → (c ≡ None → is_going v ≡ true) → Inboxes (says_checked t side now sg v c)
+says_checked_inboxes t side now sg v None i k g = spoke_inboxes t side (message_of v sg) (Present (with_sent v now (message_of v sg))) i (record { ignored = k.ignored; first = k.first; none = λ _. k.none (g refl) })
 says_checked_inboxes t side now sg v (Some refused) i k g = i
 
 says_at_inboxes : (t : Talk) (side : Side) (now : ℕ) (sg : Saying) (stage : Stage) → SoundStage side (party t side).inbox t.said stage → Inboxes t → KeptAll stage (party t side).taken → Inboxes (says_at t side now sg stage)
@@ -122,13 +128,15 @@ says_at_inboxes t side now sg Refused s i k = i
 says_at_inboxes t side now sg (Present v) s i k = says_checked_inboxes t side now sg v (refusal v (act_of sg)) i k (λ e. (checked v sg s.has_begun e).0)
 
 heard_kept : (side : Side) (left : List Message) (t : Talk) (v : Transcript) (now : ℕ) (m : Message) (taken : List Message) → SoundTalk t → SoundView side (m ∷ left) t.said v
-    → (is_going v ≡ true → kept_of v.entries ≡ taken) → (b : Bool) → is_going v ≡ b → is_going (after_heard v now m (receive v m)) ≡ true → kept_of (after_heard v now m (receive v m)).entries ≡ m ∷ taken
+    → KeptFirst v taken → (b : Bool) → is_going v ≡ b → KeptFirst (after_heard v now m (receive v m)) (m ∷ taken)
 heard_kept side left t v now m taken s n k true g =
     let r : receive v m ≡ Kept = is_kept side left t.said v m s.legal n g in
-    λ h. subst (λ x. kept_of (after_heard v now m x).entries ≡ m ∷ taken) (sym r) (ap (λ (l : List Message). m ∷ l) (k g))
+    let all : taken ≡ kept_of v.entries = k.first ∙ ap (λ (l : List Message). l ++ kept_of v.entries) (k.none g) in
+    subst (λ x. KeptFirst (after_heard v now m x) (m ∷ taken)) (sym r) (record { ignored = []; first = ap (λ (l : List Message). m ∷ l) all; none = λ _. refl })
 heard_kept side left t v now m taken s n k false g =
     let r : receive v m ≡ Ignored = cond-false (is_going v) (receive_going v m) Ignored g in
-    λ h. absurd (true≢false (sym (subst (λ x. is_going (after_heard v now m x) ≡ true) r h) ∙ g))
+    subst (λ x. KeptFirst (after_heard v now m x) (m ∷ taken)) (sym r)
+    (record { ignored = m ∷ k.ignored; first = ap (λ (l : List Message). m ∷ l) k.first; none = λ h. absurd (true≢false (sym h ∙ g)) })
 
 hears_inboxes : (t : Talk) (side : Side) (now : ℕ) (stage : Stage) (inbox : List Message) → SoundTalk t → SoundStage side inbox t.said stage → Inboxes t → (party t side).inbox ≡ inbox → KeptAll stage (party t side).taken → Inboxes (hears_next t side now stage inbox)
 hears_inboxes t side now stage [] s n i e k = i
@@ -142,10 +150,10 @@ marks_inboxes t side cause Absent i k = i
 marks_inboxes t side cause Refused i k = i
 marks_inboxes t side cause (Present v) i k =
     inboxes_of side t.said (in_stage (party t side) (Present (marked v (mark_of cause)))) (party t (other side))
-    (record { given = (inbox_at t side i).given; kept = by_test (is_going v) refl }) (inbox_at t (other side) i) where
-      by_test : (b : Bool) → is_going v ≡ b → is_going (cond b (with_mark v (mark_of cause)) v) ≡ true → kept_of (cond b (with_mark v (mark_of cause)) v).entries ≡ (party t side).taken
-      by_test true e h = absurd (false≢true h)
-      by_test false e h = k h
+    (record { given = (inbox_at t side i).given; kept = by_test (is_going v) }) (inbox_at t (other side) i) where
+      by_test : (b : Bool) → KeptFirst (cond b (with_mark v (mark_of cause)) v) (party t side).taken
+      by_test true = record { ignored = k.ignored; first = k.first; none = λ h. absurd (false≢true h) }
+      by_test false = k
 
 moved_inboxes : (t : Talk) (m : Move) → SoundTalk t → Inboxes t → Inboxes (moved t m)
 moved_inboxes t (Requests now timeout session o) s i = requests_inboxes t now timeout session o t.near.stage i i.near.kept
@@ -160,7 +168,13 @@ run_inboxes t [] s i = i
 run_inboxes t (m ∷ ms) s i = run_inboxes (moved t m) ms (moved_sound t m s) (moved_inboxes t m s i)
 
 has_taken : (side : Side) (said : List Said) (p : Party) → Inbox side said p → HasTaken side said p
-has_taken side said p i = record { given = i.given; kept = λ v e. subst (λ s. KeptAll s p.taken) e i.kept }
+has_taken side said p i = record {
+  given = i.given;
+  first = λ v e. let k = kept_at v e in (k.ignored, k.first);
+  kept = λ v e g. let k = kept_at v e in sym (k.first ∙ ap (λ (l : List Message). l ++ kept_of v.entries) (k.none g));
+} where
+  kept_at : (v : Transcript) → p.stage ≡ Present v → KeptFirst v p.taken
+  kept_at v e = subst (λ s. KeptAll s p.taken) e i.kept
 
 pub run_taken : (ms : List Move) (side : Side) → HasTaken side (run quiet ms).said (party (run quiet ms) side)
 run_taken ms side = has_taken side (run quiet ms).said (party (run quiet ms) side)

@@ -21,3 +21,7 @@ pub mod Tables
 pub mod Oldest
 pub mod Calls
 pub mod Means
+pub mod Lasts
+pub mod Numbers
+pub mod Runs
+pub mod Streams

@@ -1,15 +1,20 @@
 -- What each accepting answer of a table means, for the crates above.
-use Rattle.std.proofs.Common.{◌≡◌, ℕ, ◌==◌, Bool, true, false, cond, List, [], ◌∷◌, Option, Some, None, Result, Ok, Err, nat_lt, refl, sym, ap, ◌∙◌, subst}
-use Rattle.std.proofs.lemmas.Bool.{cond-true}
+use Rattle.std.proofs.Common.{◌≡◌, ℕ, ◌==◌, Bool, true, false, cond, Option, Some, None, Result, Ok, Err, refl, sym, ◌∙◌}
 use Rattle.grasp_types.specs.declared.session.Handle.{Handle}
 use Rattle.grasp_types.specs.declared.message.Message.{Message}
 use Rattle.grasp_session.specs.declared.answer.Act.{Act}
 use Rattle.grasp_session.specs.declared.answer.Received.{Received}
-use Rattle.grasp_session.specs.declared.answer.Received.TheVariants.{Kept, Ignored, Bad}
+use Rattle.grasp_session.specs.declared.answer.Received.TheVariants.{Kept, Ignored}
 use Rattle.grasp_session.specs.declared.answer.SessionRefused.{SessionRefused}
 use Rattle.grasp_session.specs.declared.answer.SessionRefused.TheVariants.{NoSession}
-use Rattle.grasp_session.specs.Transcript.{Saying, act_of, refusal, message_of, having_said, receive, after_received}
-use Rattle.grasp_session.specs.Sessions.{SessionState, Sessions, with_transcript, if_owner, if_refused, session_at, session_owned, found, on_stream, changed, check_reply, say_reply, after_say, receive_reply, after_receive}
+use Rattle.grasp_session.specs.Transcript.{Saying, refusal, message_of, having_said, receive, after_received}
+use Rattle.grasp_session.specs.declared.session.Session.{Session}
+use Rattle.grasp_session.specs.declared.table.Table.{Table}
+use Rattle.grasp_session.specs.declared.wanted.Wanted.TheVariants.{OnStream}
+use Rattle.grasp_session.specs.Stands.{Stands, kept_at, oldest_in, state_answer}
+use Rattle.grasp_session.proofs.Calls.{state_none, state_some, answer_none, answer_some}
+use Rattle.grasp_session.proofs.Tables.{oldest_stands, find_none}
+use Rattle.grasp_session.specs.Sessions.{SessionState, Sessions, with_transcript, if_owner, if_refused, session_at, session_owned, found, on_stream, changed, check_reply, say_reply, after_say, receive_reply, after_receive, state_reply}
 
 -- a check that answers Ok: the session is there, this owner's, and nothing refuses the act
 pub record Checked (z : Sessions) (owner : ℕ) (h : Handle) (act : Act) : Type 0 where
@@ -69,3 +74,16 @@ kept_means z now stream m e = by_handle (on_stream z stream) refl e where
   by_handle : (o : Option Handle) → on_stream z stream ≡ o → kind_of m (found z o) ≡ Kept → IsKept z now stream m
   by_handle None f g = absurd (cc)
   by_handle (Some h) f g = by_state h f (session_at z h) refl g
+
+-- what `state` answers of a table, by its sessions
+pub state_same : (t : Table) (z : Sessions) (stream : ℕ) → Stands t z → state_answer t stream ≡ state_reply z stream
+state_same t z stream st = by_handle (oldest_in (OnStream stream) t.places) refl where
+  by_kept : (h : Handle) → Some h ≡ oldest_in (OnStream stream) t.places → (o : Option Session) → o ≡ kept_at t.places h → state_answer t stream ≡ state_reply z stream
+  by_kept h e None f =
+      let on : on_stream z stream ≡ Some h = sym (e ∙ oldest_stands (OnStream stream) t z st) in
+      rw (on, find_none t z h st (sym f), sym e, sym f) refl
+  by_kept h e (Some s) f = sym (answer_some t stream h s e f) ∙ state_some t z stream h s st e f
+
+  by_handle : (o : Option Handle) → o ≡ oldest_in (OnStream stream) t.places → state_answer t stream ≡ state_reply z stream
+  by_handle None e = sym (answer_none t stream e) ∙ state_none t z stream st e
+  by_handle (Some h) e = by_kept h e (kept_at t.places h) refl

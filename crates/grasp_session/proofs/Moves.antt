@@ -6,7 +6,7 @@ use Rattle.grasp_types.specs.declared.objective.Objective.{Objective}
 use Rattle.grasp_types.specs.declared.message.Verdict.TheVariants.{Decline}
 use Rattle.grasp_types.specs.declared.message.Message.{Message}
 use Rattle.grasp_types.specs.declared.message.Message.TheVariants.{ReqNeg, Negotiate, Wait, End, Invalid}
-use Rattle.grasp_session.specs.Conversation.{HasNumber, Said, says, strip, begun, MayFollow, IsLegal, Trails, gave_up, spoken}
+use Rattle.grasp_session.specs.Conversation.{Said, says, strip, begun, MayFollow, IsLegal, Trails, gave_up, spoken}
 use Rattle.grasp_session.specs.Transcript.{SayStep, SayWait, SayEnd, SayInvalid, Transcript, known, is_over, is_going, Faulty, marked, with_mark, opening, Saying, refusal, act_of, message_of, with_sent, receive, receive_going, with_kept, after_heard}
 use Rattle.grasp_session.specs.Talk.{Cause, Expires, Closes, Starves, mark_of, Stage, Absent, Refused, Present, Party, Talk, quiet, party, in_stage, handed, spoke, having_taken, Move, Requests, OpensFar, RefusesFar, Says, Hears, Marks, requests, opens_at, opens, refuses_at, refuses, says_checked, says_at, hears_next, marks_at, moved, run}
 use Rattle.grasp_session.specs.declared.answer.SessionRefused.{SessionRefused}
@@ -15,7 +15,8 @@ use Rattle.grasp_session.proofs.Follows.{other_other}
 use Rattle.grasp_session.proofs.Trailing.{IsStill, trails_eq, still_whole}
 use Rattle.grasp_session.proofs.Catching.{put_follows, put_trails, put_more, put_still}
 use Rattle.grasp_session.proofs.Views.{same_side, own_not_other, going_parts, known_sent, known_kept, Allowed, checked, kept}
-use Rattle.grasp_session.proofs.Requests.{trails_request}
+use Rattle.grasp_session.proofs.Requests.{trails_begun, trails_request}
+use Rattle.grasp_session.proofs.Numbers.{AtInvalid, said_numbered}
 use Rattle.grasp_session.proofs.Sound.{Untaken, SoundView, SoundAbsent, SoundStage, SoundParty, SoundTalk, sound_party, sound_talk_of}
 use Rattle.grasp_types.specs.declared.session.Kind.TheVariants.{Negotiation}
 
@@ -194,10 +195,10 @@ marked_sound side inbox said v cause s = by_test (is_going v) where
   by_test false = s
 
 -- a side says a message, and the talk goes on
-spoke_sound : (t : Talk) (side : Side) (m : Message) (stage : Stage) → SoundTalk t → IsLegal (strip (says side m ∷ t.said)) → gave_up side t.said ≡ false → HasNumber t.said m
+spoke_sound : (t : Talk) (side : Side) (m : Message) (stage : Stage) → SoundTalk t → IsLegal (strip (says side m ∷ t.said)) → gave_up side t.said ≡ false → AtInvalid t.said m
     → SoundStage side (party t side).inbox (says side m ∷ t.said) stage → SoundTalk (spoke t side m stage)
 spoke_sound t side m stage s l c o n =
-    sound_talk_of side (says side m ∷ t.said) (in_stage (party t side) stage) (handed (party t (other side)) m) l (c, o, s.last) n
+    sound_talk_of side (says side m ∷ t.said) (in_stage (party t side) stage) (handed (party t (other side)) m) l (said_numbered side m t.said s.last c l o) n
     (other_said side t.said m (party t (other side)) (sound_party t (other side) s))
 
 requests_sound : (t : Talk) (now timeout session : ℕ) (o : Objective) (stage : Stage) → SoundTalk t → SoundStage Near t.near.inbox t.said stage → SoundTalk (requests t now timeout session o stage)
@@ -251,9 +252,10 @@ refuses_at_sound t reason (ReqNeg session o ∷ left) s a =
     let st : IsStill Far (says Near (ReqNeg session o) ∷ []) = inl refl in
     let w : says Near (ReqNeg session o) ∷ [] ≡ strip t.said = untaken_whole Far left t.said (says Near (ReqNeg session o) ∷ []) s.legal u st in
     let m : Message = End session (Decline reason) in
-    sound_talk_of Far (says Far (End session (Decline reason)) ∷ t.said) (having_taken t.far (ReqNeg session o) left Refused) (handed t.near (End session (Decline reason)))
-    (own_legal Far t.said (says Near (ReqNeg session o) ∷ []) (End session (Decline reason)) s.legal w refl (record { has_begun = refl; no_end = refl; in_turn = refl; same_number = refl }))
-    (a.untaken.calm, tt, s.last)
+    let l : IsLegal (strip (says Far (End session (Decline reason)) ∷ t.said)) =
+    own_legal Far t.said (says Near (ReqNeg session o) ∷ []) (End session (Decline reason)) s.legal w refl (record { has_begun = refl; no_end = refl; in_turn = refl; same_number = refl }) in
+    sound_talk_of Far (says Far (End session (Decline reason)) ∷ t.said) (having_taken t.far (ReqNeg session o) left Refused) (handed t.near (End session (Decline reason))) l
+    (said_numbered Far (End session (Decline reason)) t.said s.last a.untaken.calm l tt)
     (record { session = session; reason = reason; own = ap (λ (ms : List Message). End session (Decline reason) ∷ ms) a.own })
     (other_said Far t.said (End session (Decline reason)) t.near s.near)
 refuses_at_sound t reason (Negotiate n o ∷ left) s a = s
@@ -269,7 +271,7 @@ refuses_sound t reason (Present v) s a = s
 
 -- an end says what it may
 says_fine_sound : (t : Talk) (side : Side) (now : ℕ) (m : Message) (v : Transcript) → SoundTalk t → SoundView side (party t side).inbox t.said v → is_going v ≡ true
-    → HasNumber t.said m → (is_invalid m ≡ true) ⊎ Allowed v m → SoundTalk (spoke t side m (Present (with_sent v now m)))
+    → AtInvalid t.said m → (is_invalid m ≡ true) ⊎ Allowed v m → SoundTalk (spoke t side m (Present (with_sent v now m)))
 says_fine_sound t side now m v s n g o (inl e) =
     spoke_sound t side m (Present (with_sent v now m)) s (subst IsLegal (sym (invalid_strip side t.said m e)) s.legal) (n.untaken g).calm o
     (gave_up_sound side (party t side).inbox t.said v now m n e)
@@ -279,11 +281,11 @@ says_fine_sound t side now m v s n g o (inr a) =
     spoke_sound t side m (Present (with_sent v now m)) s (own_legal side t.said (known v) m s.legal w a.plain f) (n.untaken g).calm o
     (sent_sound side (party t side).inbox t.said v now m s.legal n g a)
 
-said_number : (t : Talk) (side : Side) (v : Transcript) (sg : Saying) → SoundTalk t → SoundView side (party t side).inbox t.said v → HasNumber t.said (message_of v sg)
+said_number : (t : Talk) (side : Side) (v : Transcript) (sg : Saying) → SoundTalk t → SoundView side (party t side).inbox t.said v → AtInvalid t.said (message_of v sg)
 said_number t side v (SayStep value) s n = tt
 said_number t side v (SayWait millis) s n = tt
 said_number t side v (SayEnd verdict) s n = tt
-said_number t side v (SayInvalid detail) s n = (trails_request side (known v) (strip t.said) s.legal n.trails n.has_begun).0
+said_number t side v (SayInvalid detail) s n = (trails_begun side (known v) (strip t.said) n.trails n.has_begun, (trails_request side (known v) (strip t.said) s.legal n.trails n.has_begun).0)
 
 says_checked_sound : (t : Talk) (side : Side) (now : ℕ) (sg : Saying) (v : Transcript) (c : Option SessionRefused) → SoundTalk t → SoundView side (party t side).inbox t.said v → refusal v (act_of sg) ≡ c → SoundTalk (says_checked t side now sg v c)
 says_checked_sound t side now sg v None s n e =
@@ -323,7 +325,7 @@ moved_sound t (Marks side cause) s = marks_at_sound t side cause (party t side).
 pub quiet_sound : SoundTalk quiet
 quiet_sound = record {
   legal = tt;
-  last = tt;
+  last = record { last = tt; opened = refl; numbered = tt };
   near = record { untaken = record { ahead = refl; calm = refl }; own = refl };
   far = record { untaken = record { ahead = refl; calm = refl }; own = refl };
 }

@@ -1,7 +1,7 @@
 -- Of the places from one on, the oldest session that is wanted.
-use Rattle.std.proofs.Common.{◌≡◌, ℕ, ◌+◌, ◌<◌, ◌≤◌, Bool, true, false, cond, ◌&&◌, List, [], ◌∷◌, length, drop, take, Option, Some, None, is_some, IsSome, IfSome, option_copied, Bor, count_by, slice_index_or, nat_lt, nat_le, ◌==◌, refl, sym, ap, ◌∙◌, subst, arith}
+use Rattle.std.proofs.Common.{◌≡◌, ℕ, ◌+◌, ◌<◌, ◌≤◌, Bool, true, false, cond, ◌&&◌, List, length, drop, take, Option, Some, None, is_some, IsSome, IfSome, option_copied, Bor, count_by, slice_index_or, nat_lt, nat_le, ◌==◌, refl, sym, ap, ◌∙◌, subst, arith}
 use Rattle.std.proofs.lemmas.Bool.{false≢true, and_parts, cond-true, lt-ltb, eq-eqb}
-use Rattle.std.proofs.lemmas.List.{take_all, drop_all, drop_more, get_or_past}
+use Rattle.std.proofs.lemmas.List.{take_all, drop_all, drop_more}
 use Rattle.std.proofs.lemmas.List.Sums.{count_by_more_yes}
 use Rattle.grasp_types.specs.declared.session.Handle.{Handle}
 use Rattle.grasp_session.specs.declared.session.Session.{Session}

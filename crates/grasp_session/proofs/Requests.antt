@@ -6,7 +6,7 @@ use Rattle.grasp_types.specs.declared.message.Message.{Message}
 use Rattle.grasp_types.specs.declared.message.Message.TheVariants.{ReqNeg, Negotiate, Wait, End, Invalid}
 use Rattle.grasp_session.specs.Conversation.{Said, says, begun, number, requested, MayFollow, IsLegal, Trails}
 
-trails_begun : (side : Side) (v c : List Said) → Trails side v c → begun v ≡ true → begun c ≡ true
+pub trails_begun : (side : Side) (v c : List Said) → Trails side v c → begun v ≡ true → begun c ≡ true
 trails_begun side v [] t b = sym (ap begun t) ∙ b
 trails_begun side v (x ∷ c) t b = refl
 

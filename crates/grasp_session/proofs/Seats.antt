@@ -1,11 +1,11 @@
 -- Places over the keys of a slab.
-use Rattle.std.proofs.Common.{◌≡◌, ◌≢◌, ℕ, zero, suc, ◌+◌, ◌==◌, ◌<◌, ◌≤◌, Bool, true, false, cond, List, [], ◌∷◌, map, length, set, ◌⊎◌, inl, inr, Option, Some, None, is_some, IsSome, count_by, slice_index_or, slice_set, replicate, refl, sym, ap, ◌∙◌, subst, arith}
-use Rattle.std.proofs.lemmas.Bool.{false≢true, true≢false}
+use Rattle.std.proofs.Common.{◌≡◌, ◌≢◌, ℕ, zero, suc, ◌+◌, ◌==◌, ◌<◌, ◌≤◌, true, false, cond, List, [], ◌∷◌, length, ◌⊎◌, inl, inr, Option, Some, None, is_some, IsSome, count_by, slice_index_or, slice_set, replicate, refl, sym, ap, ◌∙◌, subst, arith}
+use Rattle.std.proofs.lemmas.Bool.{false≢true}
 use Rattle.std.proofs.lemmas.Bool.Decides.{eqb_tells}
 use Rattle.std.proofs.lemmas.List.{map-set, set-get_or, get_or-set_same, get_or-set_other, length-set}
 use Rattle.std.proofs.lemmas.List.Sums.{sum_by-set, sum_by-cons, count_by-le-length}
 use Rattle.std.proofs.Math.ListN as lists
-use Rattle.slab.specs.Slab.{Slab, get, slab_len, Updates, HasRoomFor}
+use Rattle.slab.specs.Slab.{Slab, get, slab_len, HasRoomFor}
 use Rattle.grasp_session.specs.declared.session.Session.{Session}
 use Rattle.grasp_session.specs.Places.{at_key, held, AreSound}
 

@@ -5,7 +5,7 @@ use Rattle.grasp_types.specs.declared.message.Verdict.TheVariants.{Decline}
 use Rattle.grasp_types.specs.declared.session.Kind.TheVariants.{Negotiation}
 use Rattle.grasp_types.specs.declared.message.Message.{Message}
 use Rattle.grasp_types.specs.declared.message.Message.TheVariants.{End}
-use Rattle.grasp_session.specs.Conversation.{Said, strip, begun, IsLegal, Trails, gave_up, InvalidsLast, spoken}
+use Rattle.grasp_session.specs.Conversation.{Said, strip, begun, number, IsLegal, Trails, gave_up, InvalidsLast, HaveNumber, spoken}
 use Rattle.grasp_session.specs.Transcript.{Transcript, known, sent_of, is_going, Faulty}
 use Rattle.grasp_session.specs.Talk.{Stage, Absent, Refused, Present, Party, Talk, party, talk_of}
 use Rattle.grasp_session.proofs.Catching.{put}
@@ -41,9 +41,15 @@ SoundStage side inbox said (Present v) = SoundView side inbox said v
 abbrev pub SoundParty : Side → List Said → Party → Type 0
 SoundParty side said p = SoundStage side p.inbox said p.stage
 
+-- each invalid message is the last of its side, what was said begins with a request, and all of it has the request's number
+pub record IsNumbered (said : List Said) : Type 0 where
+  pub last : InvalidsLast said
+  pub opened : begun said ≡ begun (strip said)
+  pub numbered : HaveNumber (number (strip said)) said
+
 pub record SoundTalk (t : Talk) : Type 0 where
   pub legal : IsLegal (strip t.said)
-  pub last : InvalidsLast t.said
+  pub last : IsNumbered t.said
   pub near : SoundParty Near t.said t.near
   pub far : SoundParty Far t.said t.far
 
@@ -51,6 +57,6 @@ pub sound_party : (t : Talk) (side : Side) → SoundTalk t → SoundParty side t
 sound_party t Near s = s.near
 sound_party t Far s = s.far
 
-pub sound_talk_of : (side : Side) (said : List Said) (mine theirs : Party) → IsLegal (strip said) → InvalidsLast said → SoundParty side said mine → SoundParty (other side) said theirs → SoundTalk (talk_of side said mine theirs)
+pub sound_talk_of : (side : Side) (said : List Said) (mine theirs : Party) → IsLegal (strip said) → IsNumbered said → SoundParty side said mine → SoundParty (other side) said theirs → SoundTalk (talk_of side said mine theirs)
 sound_talk_of Near said mine theirs l i m h = record { legal = l; last = i; near = m; far = h }
 sound_talk_of Far said mine theirs l i m h = record { legal = l; last = i; near = h; far = m }

@@ -1,7 +1,7 @@
 -- What a table keeps of its sessions, place by place.
-use Rattle.std.proofs.Common.{◌≡◌, ◌≢◌, ℕ, zero, suc, ◌+◌, ◌<◌, ◌≤◌, Bool, true, false, cond, not, ◌&&◌, List, [], ◌∷◌, length, ◌⊎◌, inl, inr, Option, Some, None, Result, Ok, Err, is_some, is_none, IsSome, count_by, slice_index_or, slice_set, nat_lt, nat_le, ◌==◌, bytes_eq, if◌then◌else◌, refl, sym, ap, ◌∙◌, subst, arith}
-use Rattle.std.proofs.lemmas.Bool.{false≢true, true≢false, and_parts, cond-true, cond-false, ltb-true, ltb-false, lt-ltb, eqb-true}
-use Rattle.std.proofs.lemmas.List.{set-get_or, get_or-set_same, length-set, get_or_past}
+use Rattle.std.proofs.Common.{◌≡◌, ℕ, zero, suc, ◌+◌, ◌<◌, ◌≤◌, Bool, true, false, cond, ◌&&◌, List, [], ◌∷◌, length, Option, Some, None, Result, Err, is_some, count_by, slice_index_or, slice_set, nat_lt, nat_le, ◌==◌, bytes_eq, refl, sym, ap, ◌∙◌, subst, arith}
+use Rattle.std.proofs.lemmas.Bool.{cond-true, cond-false, ltb-true, ltb-false}
+use Rattle.std.proofs.lemmas.List.{set-get_or, length-set, get_or_past}
 use Rattle.std.proofs.lemmas.List.Sums.{sum_by-cons}
 use Rattle.std.specs.List.{AllZip}
 use Rattle.grasp_types.specs.declared.session.Handle.{Handle}
@@ -15,10 +15,10 @@ use Rattle.grasp_session.specs.declared.table.Table.{Table}
 use Rattle.grasp_session.specs.declared.wanted.Wanted.{Wanted}
 use Rattle.grasp_session.specs.declared.wanted.Wanted.TheVariants.{OnStream, Due, Untaken, OwnedBy, Requested}
 use Rattle.grasp_session.specs.Messages.{Near, is_side}
-use Rattle.grasp_session.specs.Transcript.{Saying, message_of, having_said, Transcript, refusal, is_going, deadline_of, request_of, session_of}
-use Rattle.grasp_session.specs.Keeps.{Keeps, refusal_in, leaves_in, offer_in}
-use Rattle.grasp_session.specs.Sessions.{SessionState, Sessions, if_number, if_owner, older, oldest_from, oldest, session_at, session_owned, found, if_refused, check_reply, is_leaving, with_place, left, changed, live_count, with_transcript, say_reply, after_say}
-use Rattle.grasp_session.specs.Stands.{Stands, StandsAt, kept_at, kept_owned, answer_in, check_answer, fits_in, oldest_in, settled, IsLive, owner_in}
+use Rattle.grasp_session.specs.Transcript.{Saying, message_of, having_said, refusal, is_going, deadline_of, request_of, session_of}
+use Rattle.grasp_session.specs.Keeps.{Keeps, refusal_in, leaves_in}
+use Rattle.grasp_session.specs.Sessions.{SessionState, Sessions, if_number, if_owner, older, oldest_from, oldest, session_at, if_refused, check_reply, is_leaving, with_place, left, changed, with_transcript, say_reply, after_say}
+use Rattle.grasp_session.specs.Stands.{Stands, StandsAt, kept_at, answer_in, check_answer, fits_in, oldest_in, settled}
 
 abbrev pub slot : {A : Type 0} → List (Option A) → ℕ → Option A
 slot l p = slice_index_or l p None

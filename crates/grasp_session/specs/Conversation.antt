@@ -146,20 +146,32 @@ abbrev pub gave_up : Side → List Said → Bool
 gave_up side [] = false
 gave_up side (x ∷ c) = (is_side side x.side && is_invalid x.message) || gave_up side c
 
--- an invalid message has the request's session number
-abbrev pub HasNumber : List Said → Message → Type 0
-HasNumber c (Invalid n d) = n ≡ number (strip c)
-HasNumber c _ = Unit {0}
-
--- an invalid message is the last one of its side, under the request's session number
+-- each invalid message is the last message of its side
 abbrev pub InvalidsLast : List Said → Type 0
 InvalidsLast [] = Unit {0}
-InvalidsLast (x ∷ c) = (gave_up x.side c ≡ false) × HasNumber c x.message × InvalidsLast c
+InvalidsLast (x ∷ c) = (gave_up x.side c ≡ false) × InvalidsLast c
 
--- the order of the messages of one negotiation (RFC 8990, sections 2.5.5 and 2.8.12)
+-- a message with this session number
+abbrev pub HasNumber : ℕ → Message → Type 0
+HasNumber n (ReqNeg k o) = k ≡ n
+HasNumber n (ReqSyn k o) = k ≡ n
+HasNumber n (Negotiate k o) = k ≡ n
+HasNumber n (Wait k m) = k ≡ n
+HasNumber n (End k v) = k ≡ n
+HasNumber n (Invalid k d) = k ≡ n
+HasNumber n _ = ⊥
+
+-- all messages have this session number
+abbrev pub HaveNumber : ℕ → List Said → Type 0
+HaveNumber n [] = Unit {0}
+HaveNumber n (x ∷ c) = HasNumber n x.message × HaveNumber n c
+
+-- the order of the messages of one negotiation, which all have one session number, the request's (RFC 8990, sections 2.5.5, 2.7 and 2.8.12)
 pub record IsLegalConversation (said : List Said) : Type 0 where
   pub legal : IsLegal (strip said)
   pub last : InvalidsLast said
+  pub session : ℕ
+  pub numbered : HaveNumber session said
 
 -- v is an earlier part of c, and what came since is all of the other side than this one
 abbrev pub Trails : Side → List Said → List Said → Type 0

@@ -1,10 +1,10 @@
 -- The same conversation as a grammar, oldest first (RFC 8990, section 2.5.5).
-use Rattle.std.specs.Prelude.{◌≡◌, ℕ, ◌+◌, ◌≤◌, List, [], ◌∷◌, ◌++◌, length, map}
+use Rattle.std.specs.Prelude.{◌≡◌, ℕ, ◌+◌, ◌≤◌, List, [], ◌∷◌, ◌++◌, length, map, reverse, true}
 use Rattle.grasp_types.specs.declared.objective.Objective.{Objective}
 use Rattle.grasp_types.specs.declared.message.Verdict.{Verdict}
 use Rattle.grasp_types.specs.declared.message.Message.TheVariants.{ReqNeg, Negotiate, Wait, End}
-use Rattle.grasp_session.specs.Messages.{Side, Near, Far, other}
-use Rattle.grasp_session.specs.Conversation.{Said, says}
+use Rattle.grasp_session.specs.Messages.{Side, Near, Far, other, is_invalid}
+use Rattle.grasp_session.specs.Conversation.{Said, says, strip, spoken, HaveNumber}
 
 -- how a turn closes
 pub data Close : Type 0 where
@@ -35,7 +35,7 @@ abbrev pub AreTurns : Objective → ℕ → List Turn → Type 0
 AreTurns request loops [] = Unit {0}
 AreTurns request loops (t ∷ ts) = (length t.waited ≤ 4) × Closes request loops ts (λ k. AreTurns request k ts) t.close
 
--- a whole negotiation: near's request, then turns, the first far's
+-- a negotiation of whole turns, which need not have ended: near's request, and then turns, of which far has the first
 pub record IsWord (w : List Said) : Type 0 where
   pub session : ℕ
   pub request : Objective
@@ -43,6 +43,16 @@ pub record IsWord (w : List Said) : Type 0 where
   pub are_turns : AreTurns request request.loops turns
   pub spelled : w ≡ says Near (ReqNeg session request) ∷ turns_said Far session turns
 
--- w is the beginning of a whole negotiation
+-- w is the beginning of such a negotiation, and may stop within a turn
 abbrev pub IsPrefixOfWord : List Said → Type 0
 IsPrefixOfWord w = (rest : List Said) × IsWord (w ++ rest)
+
+-- a conversation, newest first, by this grammar
+pub record FollowsGrammar (said : List Said) : Type 0 where
+  -- without its invalid messages it is the beginning of a negotiation of whole turns
+  pub word : IsPrefixOfWord (reverse (strip said))
+  -- a side that says an invalid message says nothing later
+  pub last : (later earlier : List Said) (x : Said) → said ≡ later ++ (x ∷ earlier) → is_invalid x.message ≡ true → spoken x.side later ≡ []
+  -- all messages have one session number, the request's
+  pub session : ℕ
+  pub numbered : HaveNumber session said

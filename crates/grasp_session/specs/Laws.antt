@@ -1,4 +1,4 @@
--- What is proved of negotiations, whatever the two ends and the outside do.
+-- Laws of conversations, of one end whatever its peer sends, and of two ends that keep to the protocol whatever comes from outside.
 use Rattle.std.specs.Prelude.{◌≡◌, ◌≢◌, ℕ, ◌<◌, true, false, List, [], ◌∷◌, ◌++◌, Option, Some, None, ◌⊎◌, ◌↔◌, reverse}
 use Rattle.grasp_types.specs.declared.objective.Objective.{Objective}
 use Rattle.grasp_types.specs.declared.session.Kind.{Kind}
@@ -13,13 +13,17 @@ use Rattle.grasp_session.specs.declared.answer.Act.TheVariants as act
 use Rattle.grasp_session.specs.declared.answer.Received.TheVariants.{Kept}
 use Rattle.grasp_session.specs.Messages.{Side, Near, other}
 use Rattle.grasp_session.specs.Conversation.{Said, strip, turn, ended, accepted_by, IsLegal, IsLegalConversation, Trails, steps, number, requested, MayFollow, newest_offer_by, answered, spoken}
-use Rattle.grasp_session.specs.Grammar.{IsPrefixOfWord}
+use Rattle.grasp_session.specs.Grammar.{IsPrefixOfWord, FollowsGrammar}
 use Rattle.grasp_session.specs.Transcript.{Transcript, opening, known, sent_of, kept_of, is_going, outcome_of, Faulty, Deed, after_deed, after_deeds, SayEnd, refusal, having_said, receive}
 use Rattle.grasp_session.specs.Talk.{Stage, Absent, Refused, Present, Party, Talk, quiet, party, Move, moved, run}
 
--- a conversation is legal exactly where it is the beginning of a whole negotiation (RFC 8990, section 2.5.5)
+-- without invalid messages: a conversation is legal exactly where it is the beginning of a negotiation of whole turns (RFC 8990, section 2.5.5)
 abbrev pub LegalIsGrammar : Type 0
 LegalIsGrammar = (c : List Said) → IsLegal c ↔ IsPrefixOfWord (reverse c)
+
+-- with them (RFC 8990, section 2.8.12)
+abbrev pub ConversationIsGrammar : Type 0
+ConversationIsGrammar = (said : List Said) → IsLegalConversation said ↔ FollowsGrammar said
 
 -- fewer steps than this loop count, and none where it is 0
 pub record IsBounded (loops : ℕ) (c : List Said) : Type 0 where
@@ -64,9 +68,10 @@ IsSilent side said (Present v) = Unit {0}
 abbrev pub SilentUnseen : Type 0
 SilentUnseen = (ms : List Move) (side : Side) → IsSilent side (after ms).said (party (after ms) side).stage
 
--- what an end took and what it hasn't taken are the other side's messages. Until its outcome it kept all that it took
+-- what an end took and what it hasn't taken are the other side's messages. It kept the first of what it took: all until its outcome, and none since
 pub record HasTaken (side : Side) (said : List Said) (p : Party) : Type 0 where
   pub given : spoken (other side) said ≡ reverse p.inbox ++ p.taken
+  pub first : (v : Transcript) → p.stage ≡ Present v → (ignored : List Message) × (p.taken ≡ ignored ++ kept_of v.entries)
   pub kept : (v : Transcript) → p.stage ≡ Present v → is_going v ≡ true → kept_of v.entries ≡ p.taken
 
 abbrev pub TakenInOrder : Type 0

@@ -9,3 +9,4 @@ pub mod Places
 pub mod Stands
 pub mod Laws
 pub mod Sample
+pub mod Runs

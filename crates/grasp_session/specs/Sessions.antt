@@ -1,7 +1,8 @@
 -- The sessions of a node by what each of its ends saw, and what each call answers and does (RFC 8990, section 2.5).
-use Rattle.std.specs.Prelude.{◌≡◌, ℕ, ◌+◌, ◌-◌, ◌^◌, ◌<◌, Bool, true, false, cond, not, ◌&&◌, ◌||◌, List, [], ◌∷◌, Option, Some, None, is_some, is_none, Result, Ok, Err, replicate, count_by, slice_index_or, slice_set, nat_lt, nat_le, ◌==◌, if◌then◌else◌, bytes_eq}
+use Rattle.std.specs.Prelude.{◌≡◌, ℕ, ◌+◌, ◌-◌, ◌^◌, ◌<◌, Bool, true, false, not, ◌&&◌, ◌||◌, List, [], ◌∷◌, Option, Some, None, is_some, Result, Ok, Err, replicate, count_by, slice_index_or, slice_set, nat_le, ◌==◌, if◌then◌else◌, bytes_eq}
 use Rattle.grasp_types.specs.declared.session.Handle.{Handle}
 use Rattle.grasp_types.specs.declared.objective.Objective.{Objective}
+use Rattle.grasp_types.specs.declared.session.Kind.TheVariants.{Synchronization}
 use Rattle.grasp_types.specs.declared.session.Outcome.{Outcome}
 use Rattle.grasp_types.specs.declared.session.Progress.{Progress}
 use Rattle.grasp_types.specs.declared.session.Progress.TheVariants.{NotYet, Turn, Ended}
@@ -29,6 +30,10 @@ with_transcript x v = record { number = x.number; owner = x.owner; stream = x.st
 abbrev pub with_owner : SessionState → ℕ → SessionState
 with_owner x owner = record { number = x.number; owner = owner; stream = x.stream; view = x.view }
 
+abbrev pub owner_of : Option SessionState → Option ℕ
+owner_of None = None
+owner_of (Some x) = Some x.owner
+
 -- how many sessions were made, the 64 places, each empty or with a live session, and the sessions that are no longer live, newest first
 pub record Sessions : Type 0 where
   pub made : ℕ
@@ -38,15 +43,16 @@ pub record Sessions : Type 0 where
 abbrev pub no_sessions : Sessions
 no_sessions = record { made = 0; places = replicate 64 None; gone = [] }
 
--- a session that begins with its request at this reading
+-- the requester is near, the listener is far
 abbrev pub role_of : Bool → Side
 role_of true = Near
 role_of false = Far
 
+-- a session that begins with its request at this reading
 abbrev pub begun_state : ℕ → ℕ → Begin → SessionState
 begun_state now number b = record { number = number; owner = b.owner; stream = b.stream; view = opening b.kind (role_of b.requester) b.timeout now b.session b.objective }
 
--- the session at a place that has this number
+-- what lies at a place, if it has this number
 abbrev pub if_number : {A : Type 0} → (A → ℕ) → ℕ → Option A → Option A
 if_number number n None = None
 if_number number n (Some x) = if number x == n then Some x else None
@@ -55,6 +61,7 @@ if_number number n (Some x) = if number x == n then Some x else None
 abbrev pub session_at : Sessions → Handle → Option SessionState
 session_at z h = if_number (λ x. x.number) h.number (slice_index_or z.places h.place None)
 
+-- the same, if it has this owner
 abbrev pub if_owner : {A : Type 0} → (A → ℕ) → ℕ → Option A → Option A
 if_owner owner n None = None
 if_owner owner n (Some x) = if owner x == n then Some x else None
@@ -63,7 +70,7 @@ if_owner owner n (Some x) = if owner x == n then Some x else None
 abbrev pub session_owned : Sessions → ℕ → Handle → Option SessionState
 session_owned z owner h = if_owner (λ x. x.owner) owner (session_at z h)
 
--- of the session at this place, if it passes, and the handle of an older one, the handle with the least number
+-- the handle of the session at this place, if that passes and its number is not above the number of the handle that is given; else the handle that is given
 abbrev pub older : {A : Type 0} → (A → ℕ) → (A → Bool) → ℕ → Option A → Option Handle → Option Handle
 older number test place None rest = rest
 older number test place (Some x) rest = if test x && is_oldest (number x) rest then Some (record { place = place; number = number x }) else rest where
@@ -71,7 +78,7 @@ older number test place (Some x) rest = if test x && is_oldest (number x) rest t
   is_oldest n None = true
   is_oldest n (Some h) = nat_le n h.number
 
--- the handle of the session with the least number that passes, where the first place is this
+-- the handle of the session with the least number that passes, in these places, of which the first has this index
 abbrev pub oldest_from : {A : Type 0} → (A → ℕ) → (A → Bool) → ℕ → List (Option A) → Option Handle
 oldest_from number test place [] = None
 oldest_from number test place (x ∷ xs) = older number test place x (oldest_from number test (place + 1) xs)
@@ -110,7 +117,13 @@ is_leaving x = (x.owner == 0) && not (is_going x.view)
 abbrev pub changed : Sessions → Handle → SessionState → Sessions
 changed z h x = if is_leaving x then left z h x else with_place z h.place (Some x)
 
--- start: the place is any empty one
+-- what may begin: a synchronization is a requester's, `taken` is false exactly where the owner is 0, and the owner is 0 for a listener's session alone
+pub record IsProper (b : Begin) : Type 0 where
+  pub synchronization : b.kind ≡ Synchronization → b.requester ≡ true
+  pub taken : b.taken ≡ not (b.owner == 0)
+  pub untaken : b.owner ≡ 0 → b.requester ≡ false
+
+-- start: there is room, the place is any empty one, and the number is the next
 pub record Starts (z : Sessions) (h : Handle) : Type 0 where
   pub not_full : is_full z ≡ false
   pub place : h.place < 64

@@ -1,5 +1,5 @@
 -- What the code keeps of the sessions of a node.
-use Rattle.std.specs.Prelude.{◌≡◌, ℕ, ◌-◌, ◌^◌, Bool, false, ◌&&◌, ◌||◌, List, Option, Some, None, is_some, is_none, IsSome, count_by, Result, Ok, Err, length, nat_lt, nat_le, ◌==◌, bytes_eq, slice_index_or, slice_set, if◌then◌else◌}
+use Rattle.std.specs.Prelude.{◌≡◌, ℕ, ◌-◌, ◌^◌, Bool, false, ◌&&◌, ◌||◌, List, Option, Some, None, is_some, is_none, IsSome, count_by, Result, Err, length, nat_lt, nat_le, ◌==◌, bytes_eq, slice_index_or, slice_set, if◌then◌else◌}
 use Rattle.std.specs.List.{AllZip}
 use Rattle.grasp_types.specs.declared.session.Handle.{Handle}
 use Rattle.grasp_session.specs.declared.answer.Act.{Act}
@@ -39,15 +39,26 @@ abbrev pub fits_at : Wanted → Option Session → Bool
 fits_at wanted None = false
 fits_at wanted (Some s) = fits_in wanted s
 
+abbrev pub oldest_in : Wanted → List (Option Session) → Option Handle
+oldest_in wanted places = oldest_from (λ x. x.number) (fits_in wanted) 0 places
+
+abbrev pub state_at : List (Option Session) → Option Handle → Option (ℕ × Bool)
+state_at places None = None
+state_at places (Some h) = by_session (kept_at places h) where
+  by_session : Option Session → Option (ℕ × Bool)
+  by_session None = None
+  by_session (Some s) = Some (s.session, is_some s.ending)
+
+-- what `state` answers
+abbrev pub state_answer : Table → ℕ → Option (ℕ × Bool)
+state_answer t stream = state_at t.places (oldest_in (OnStream stream) t.places)
+
 -- 64 sessions are live, or no number is left
 abbrev pub full_in : Table → Bool
 full_in t = nat_le 64 (count_by is_some t.places) || (t.made == 2 ^ 64 - 1)
 
 abbrev pub older_in : Wanted → ℕ → Session → Option Handle → Option Handle
 older_in wanted place s best = older (λ x. x.number) (fits_in wanted) place (Some s) best
-
-abbrev pub oldest_in : Wanted → List (Option Session) → Option Handle
-oldest_in wanted places = oldest_from (λ x. x.number) (fits_in wanted) 0 places
 
 -- the places after a session is back, unless it leaves
 abbrev pub settled : List (Option Session) → ℕ → Session → List (Option Session)

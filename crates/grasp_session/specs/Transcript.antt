@@ -1,6 +1,7 @@
 -- What one end of a session sent and kept, newest first, and what it knows from that (RFC 8990, sections 2.5.5 and 2.5.6).
-use Rattle.std.specs.Prelude.{ℕ, ◌+◌, ◌-◌, ◌^◌, min, max, Bool, true, false, cond, not, ◌&&◌, List, [], ◌∷◌, Option, Some, None, is_none, nat_lt, ◌==◌, if◌then◌else◌, bytes_eq}
+use Rattle.std.specs.Prelude.{ℕ, ◌-◌, max, Bool, true, false, cond, not, ◌&&◌, List, [], ◌∷◌, Option, Some, None, is_none, nat_lt, ◌==◌, if◌then◌else◌, bytes_eq}
 use Rattle.grasp_cbor.specs.DataItem.{DataItem}
+use Rattle.grasp_types.specs.Reading.{reading_after}
 use Rattle.grasp_types.specs.declared.objective.Objective.{Objective}
 use Rattle.grasp_types.specs.declared.session.Kind.{Kind}
 use Rattle.grasp_types.specs.declared.session.Kind.TheVariants.{Negotiation, Synchronization}
@@ -105,17 +106,13 @@ is_over (e ∷ es) = is_last e.message
 abbrev pub is_going : Transcript → Bool
 is_going v = is_none v.mark && not (is_over v.entries)
 
--- the reading that is so many milliseconds later. It stops at the greatest reading
-abbrev pub later : ℕ → ℕ → ℕ
-later at millis = min (at + millis) (2 ^ 64 - 1)
-
 -- the largest of the last other message's reading with the timeout, and of each later wait's reading with its waiting time (RFC 8990, section 2.8.9)
 abbrev pub deadline_from : ℕ → List Entry → ℕ
 deadline_from timeout [] = 0
 deadline_from timeout (e ∷ es) = after e.message (deadline_from timeout es) where
   after : Message → ℕ → ℕ
-  after (Wait n m) d = max d (later e.at m)
-  after _ d = later e.at timeout
+  after (Wait n m) d = max d (reading_after e.at m)
+  after _ d = reading_after e.at timeout
 
 -- the reading at which the session times out
 abbrev pub deadline_of : Transcript → ℕ

@@ -27,11 +27,11 @@ pub enum Received {
 /// Why a call on a session is refused.
 #[derive(Clone, Copy, Debug, PartialEq, Eq)]
 pub enum SessionRefused {
-    /// 64 sessions are live.
+    /// 64 sessions are live, or 2^64 - 1 were made.
     SessionsFull,
     /// No live session of this owner has this handle.
     NoSession,
-    /// The session has an outcome, or it is the peer's turn.
+    /// The session has an outcome, or, for an act other than `Invalid`, it is the peer's turn.
     NotYourTurn,
     /// The last loop count is at most 1.
     LoopsSpent,

@@ -6,19 +6,24 @@ ghost use Rattle.grasp_types.specs.declared.session.By.TheVariants.{Mine, Theirs
 ghost use Rattle.grasp_types.specs.declared.session.Outcome.TheVariants.{Agreed};
 ghost use Rattle.grasp_session.specs.Conversation.{steps};
 ghost use Rattle.grasp_session.specs.Sample.{sample, outcome_at};
-ghost use Rattle.grasp_session.specs.Laws.{LegalIsGrammar, StepsBounded, RunsAreLegal, RunsAreBounded, ViewsTrail, SilentUnseen, TakenInOrder, NoneIsBad, BothAgree, OffersStand, OutcomesSay, OutcomesStay, AcceptsTheLast, PeerIsPresent, MovesFollow, FirstIsRequest};
+ghost use Rattle.grasp_session.specs.Laws.{LegalIsGrammar, ConversationIsGrammar, StepsBounded, RunsAreLegal, RunsAreBounded, ViewsTrail, SilentUnseen, TakenInOrder, NoneIsBad, BothAgree, OffersStand, OutcomesSay, OutcomesStay, AcceptsTheLast, PeerIsPresent, MovesFollow, FirstIsRequest};
+ghost use Rattle.grasp_session.specs.Runs.{CallsAreInOrder, NumbersAreNew};
 
-/// A conversation is legal exactly where it is the beginning of a whole negotiation.
+/// A conversation is legal exactly where it is the beginning of a negotiation of whole turns, also where invalid
+/// messages count.
 pub fn legal_is_grammar()
-    ensures { LegalIsGrammar }
+    ensures plain { LegalIsGrammar }
+    ensures whole { ConversationIsGrammar }
 {}
 
-/// Whatever the peer sends, the steps that an end sends and keeps are below the request's loop count.
+/// Whatever the peer sends, the steps that an end sends and keeps are fewer than the request's loop count, and none
+/// where that is 0.
 pub fn steps_bounded()
     ensures { StepsBounded }
 {}
 
-/// The conversation of any run is legal, and its steps are below the request's loop count.
+/// The conversation of any run is legal, and its steps are fewer than the request's loop count, and none where that
+/// is 0.
 pub fn runs_are_legal()
     ensures legal { RunsAreLegal }
     ensures bounded { RunsAreBounded }
@@ -30,7 +35,7 @@ pub fn views_trail()
     ensures unseen { SilentUnseen }
 {}
 
-/// Messages are taken in order, and until the outcome each one is kept.
+/// Messages are taken in order. Until its outcome an end keeps each one, and since then none.
 pub fn taken_in_order()
     ensures taken { TakenInOrder }
     ensures kept { NoneIsBad }
@@ -63,9 +68,16 @@ pub fn moves_follow()
     ensures { MovesFollow }
 {}
 
-/// The first message of a negotiation is a request, also where invalid ones count.
+/// The first message that near says is its request, also where invalid messages count.
 pub fn first_is_request()
     ensures { FirstIsRequest }
+{}
+
+/// After any calls of a table the steps of each session are fewer than its request's loop count, and none where that
+/// is 0; no number is used twice, and no two live sessions have one stream.
+pub fn calls_are_in_order()
+    ensures order { CallsAreInOrder }
+    ensures new { NumbersAreNew }
 {}
 
 /// A negotiation that ends in agreement, and in which the third offer is the last.

@@ -2,7 +2,8 @@
 
 ghost use Rattle.std.specs.Prelude.{◌≡◌, ℕ, true, bytes_eq, is_none, ◌+◌, ◌<◌, max, Some, None, IfOk, OnErr};
 ghost use Rattle.grasp_types.specs.declared.message.Message.TheVariants.{End};
-ghost use Rattle.grasp_session.specs.Transcript.{SayStep, SayWait, SayEnd, SayInvalid, later, receive, after_received, message_of, having_said, is_negotiation, with_mark};
+ghost use Rattle.grasp_types.specs.Reading.{reading_after};
+ghost use Rattle.grasp_session.specs.Transcript.{SayStep, SayWait, SayEnd, SayInvalid, receive, after_received, message_of, having_said, is_negotiation, with_mark};
 ghost use Rattle.grasp_session.specs.declared.answer.Received.TheVariants.{Bad};
 ghost use Rattle.grasp_session.specs.Sessions.{SessionState, with_transcript, begun_state};
 ghost use Rattle.grasp_session.specs.Keeps.{Keeps, refusal_in, offer_in, awaits_in, steps_in, mark_of, leaves_in, ended_with, outcome_with};
@@ -10,7 +11,7 @@ ghost use Rattle.grasp_session.specs.Keeps.{Keeps, refusal_in, offer_in, awaits_
 use crate::answer::{Act, Received, SessionRefused};
 use crate::begin::Begin;
 use grasp_cbor::{Chars, OutOfMemory};
-use grasp_types::{By, Kind, Message, Objective, Outcome, Value, Verdict};
+use grasp_types::{By, Kind, Message, Objective, Outcome, Value, Verdict, reading_after};
 
 /// What came of a session, without the objective that was agreed on.
 #[derive(Drop)]
@@ -90,7 +91,7 @@ impl Session {
             offer: None,
             my_turn: !begin.requester,
             waits: 0,
-            deadline: now.saturating_add(begin.timeout as u64),
+            deadline: reading_after(now, u64::from(begin.timeout)),
             ending: None,
         }
     }
@@ -323,29 +324,29 @@ impl Session {
 
     /// A step passes the turn.
     fn offered(&mut self, now: u64, objective: Objective, my_turn: bool)
-        ensures { self.new ≡ record self.old { offer = Some objective; my_turn = my_turn; waits = 0; deadline = later now self.old.timeout } }
+        ensures { self.new ≡ record self.old { offer = Some objective; my_turn = my_turn; waits = 0; deadline = reading_after now self.old.timeout } }
     {
         self.offer = Some(objective);
         self.my_turn = my_turn;
         self.waits = 0;
-        self.deadline = now.saturating_add(self.timeout as u64);
+        self.deadline = reading_after(now, u64::from(self.timeout));
     }
 
     /// A wait moves the deadline.
     fn allow(&mut self, now: u64, millis: u32)
         requires { self.old.waits < 4 }
-        ensures { self.new ≡ record self.old { waits = self.old.waits + 1; deadline = max self.old.deadline (later now millis) } }
+        ensures { self.new ≡ record self.old { waits = self.old.waits + 1; deadline = max self.old.deadline (reading_after now millis) } }
     {
         self.waits += 1;
-        self.deadline = self.deadline.max(now.saturating_add(millis as u64));
+        self.deadline = self.deadline.max(reading_after(now, u64::from(millis)));
     }
 
     /// The session ends by a message.
     fn finish(&mut self, now: u64, ending: Ending)
-        ensures { self.new ≡ record self.old { ending = Some ending; deadline = later now self.old.timeout } }
+        ensures { self.new ≡ record self.old { ending = Some ending; deadline = reading_after now self.old.timeout } }
     {
         self.ending = Some(ending);
-        self.deadline = now.saturating_add(self.timeout as u64);
+        self.deadline = reading_after(now, u64::from(self.timeout));
     }
 }
 

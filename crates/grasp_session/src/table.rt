@@ -1,9 +1,9 @@
 //! The sessions of a node (RFC 8990, section 2.5).
 
-ghost use Rattle.std.specs.Prelude.{◌≡◌, ℕ, ◌<◌, true, Some, None, Ok, is_some, count_by, slice_index_or, slice_set, option_copied, IfOk, IfSome, IfNone, OnErr, IsSome};
+ghost use Rattle.std.specs.Prelude.{◌≡◌, ℕ, ◌<◌, ◌==◌, true, false, not, Some, None, Ok, is_some, count_by, slice_index_or, slice_set, option_copied, IfOk, IfSome, IfNone, OnErr, IsSome};
 ghost use Rattle.grasp_session.specs.Transcript.{SayStep, SayWait, SayEnd, SayInvalid, Closed, Starved, Faulty};
 ghost use Rattle.grasp_session.specs.Sessions.{Sessions, no_sessions, MayStart, after_start, check_reply, say_reply, after_say, receive_reply, after_receive, MayPoll, after_poll, after_mark, expire_reply, after_expire, state_reply, stream_reply, session_reply, last_reply, is_full, live_count, is_used, untaken_reply, owner_reply, adopt_reply, after_adopt, after_remove};
-ghost use Rattle.grasp_session.specs.Stands.{Stands, kept_at, kept_owned, check_answer, oldest_in, older_in, fits_at, full_in, settled, IsLive, IsUntaken};
+ghost use Rattle.grasp_session.specs.Stands.{Stands, kept_at, kept_owned, check_answer, state_answer, oldest_in, older_in, fits_at, full_in, settled, IsLive, IsUntaken};
 ghost use Rattle.grasp_session.specs.Keeps.{mark_of};
 
 use crate::answer::{Act, Received, SessionRefused};
@@ -12,7 +12,7 @@ use crate::places::Places;
 use crate::session::{Cause, Session};
 use crate::wanted::Wanted;
 use grasp_cbor::{Chars, OutOfMemory};
-use grasp_types::{Handle, Message, Objective, Progress, Value, Verdict};
+use grasp_types::{Handle, Kind, Message, Objective, Progress, Value, Verdict};
 use std::alloc::Global;
 
 /// The sessions of a node, of which at most 64 are live.
@@ -33,10 +33,15 @@ impl Table {
         })
     }
 
-    /// Begins a session with its request.
+    /// Begins a session with its request, on a stream that has no live session, as `state` tells. A synchronization is
+    /// a requester's; `taken` is false exactly where the owner is 0, and that is so for a listener's session alone.
     ///
     /// `SessionsFull` comes exactly where the table is full. No other refusal comes, and no memory is taken.
     pub fn start(&mut self, now: u64, begin: Begin) -> Result<Handle, SessionRefused>
+        requires stream { state_answer self.old begin.stream ≡ None }
+        requires kind { begin.kind ≡ Kind.Synchronization → begin.requester ≡ true }
+        requires taken { begin.taken ≡ not (begin.owner == 0) }
+        requires owner { begin.owner ≡ 0 → begin.requester ≡ false }
         ensures starts { (z : Sessions) → Stands self.old z → MayStart z result × Stands self.new (after_start z now begin result) }
     {
         if self.is_full() {
@@ -174,8 +179,8 @@ impl Table {
         }
     }
 
-    /// Ends the session of the least number whose deadline this reading has reached, and answers its stream.
-    /// It takes no memory.
+    /// Of the sessions that have no outcome and whose deadline this reading has reached, the one of the least number
+    /// times out, and its stream is the answer. `None` comes exactly where there is no such session. It takes no memory.
     pub fn expire_one(&mut self, now: u64) -> Option<u64>
         ensures expires { (z : Sessions) → Stands self.old z → (result ≡ expire_reply z now) × Stands self.new (after_expire z now) }
     {
@@ -212,7 +217,8 @@ impl Table {
 
     /// The session number of the live session on a stream, and whether it has an outcome.
     pub fn state(&self, stream: u64) -> Option<(u32, bool)>
-        ensures { (z : Sessions) → Stands self.now z → result ≡ state_reply z stream }
+        ensures reply { (z : Sessions) → Stands self.now z → result ≡ state_reply z stream }
+        ensures answer { result ≡ state_answer self.now stream }
     {
         let handle = self.oldest(Wanted::OnStream(stream))?;
         let session = self.at(handle)?;

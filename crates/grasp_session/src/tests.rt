@@ -55,30 +55,68 @@ fn objective(alloc: Global, loops: u8, number: u64) -> Result<Objective, Fail> {
     })
 }
 
-fn request(alloc: Global, stream: u64, loops: u8, timeout: u32) -> Result<Begin, Fail> {
-    Ok(Begin {
-        owner: AGENT,
-        kind: Kind::Negotiation,
-        requester: true,
-        session: 7,
-        stream,
-        timeout,
-        objective: objective(alloc, loops, 1)?,
-        taken: true,
-    })
+/// What the agent asks for.
+#[derive(Clone, Copy)]
+struct Asked {
+    now: u64,
+    kind: Kind,
+    stream: u64,
+    loops: u8,
+    timeout: u32,
 }
 
-fn listener(alloc: Global, stream: u64, loops: u8) -> Result<Begin, Fail> {
-    Ok(Begin {
+/// A negotiation at the first reading.
+fn negotiation(stream: u64, loops: u8, timeout: u32) -> Asked {
+    Asked {
+        now: 0,
+        kind: Kind::Negotiation,
+        stream,
+        loops,
+        timeout,
+    }
+}
+
+/// The agent asks on a stream without a session.
+fn ask(
+    alloc: Global,
+    table: &mut Table,
+    asked: Asked,
+) -> Result<Result<Handle, SessionRefused>, Fail> {
+    let objective = objective(alloc, asked.loops, 1)?;
+    let begin = Begin {
+        owner: AGENT,
+        kind: asked.kind,
+        requester: true,
+        session: 7,
+        stream: asked.stream,
+        timeout: asked.timeout,
+        objective,
+        taken: true,
+    };
+    match table.state(asked.stream) {
+        Some(_) => Err(Fail::from("a session")),
+        None => Ok(table.start(asked.now, begin)),
+    }
+}
+
+/// A request comes on a stream without a session.
+fn listen(alloc: Global, table: &mut Table, stream: u64, loops: u8) -> Result<(), Fail> {
+    let objective = objective(alloc, loops, 1)?;
+    let begin = Begin {
         owner: 0,
         kind: Kind::Negotiation,
         requester: false,
         session: 7,
         stream,
         timeout: 60000,
-        objective: objective(alloc, loops, 1)?,
+        objective,
         taken: false,
-    })
+    };
+    if table.state(stream).is_some() {
+        return Err(Fail::from("a session"));
+    }
+    table.start(0, begin)?;
+    Ok(())
 }
 
 /// The loop count and the number of an objective.
@@ -196,8 +234,8 @@ fn play_all(
 fn pair(rt: &impl Abort, alloc: Global, loops: u8, timeout: u32) -> Result<Ends, Fail> {
     let mut near = Table::new(alloc)?;
     let mut far = Table::new(alloc)?;
-    let asking = near.start(0, request(alloc, STREAM, loops, timeout)?)?;
-    far.start(0, listener(alloc, STREAM, loops)?)?;
+    let asking = ask(alloc, &mut near, negotiation(STREAM, loops, timeout))??;
+    listen(alloc, &mut far, STREAM, loops)?;
     let name = Chars::of(alloc, "x")?;
     let Some(asked) = far.untaken(&name) else {
         return Err(Fail::from("untaken"));
@@ -317,7 +355,9 @@ fn broken_and_timed_out(rt: HostRuntime) -> Result<(), Fail> {
 fn readings_at_the_top(rt: HostRuntime) -> Result<(), Fail> {
     let top = u64::MAX;
     let mut table = Table::new(rt.alloc())?;
-    let handle = table.start(top - 10, request(rt.alloc(), STREAM, 6, 1000)?)?;
+    let mut late = negotiation(STREAM, 6, 1000);
+    late.now = top - 10;
+    let handle = ask(rt.alloc(), &mut table, late)??;
     let wait = Message::Wait {
         session: 7,
         millis: u32::MAX,
@@ -334,12 +374,12 @@ fn sixty_four_sessions_and_one_more(rt: HostRuntime) -> Result<(), Fail> {
     let mut table = Table::new(rt.alloc())?;
     for number in 1..65 {
         assert!(rt; !table.full());
-        let handle = table.start(0, request(rt.alloc(), number, 6, 1000)?)?;
+        let handle = ask(rt.alloc(), &mut table, negotiation(number, 6, 1000))??;
         assert_eq!(rt; (handle.number, table.live()), (number, number));
         assert_eq!(rt; table.stream(handle), Some(number));
     }
     assert!(rt; table.full());
-    let refused = table.start(0, request(rt.alloc(), 65, 6, 1000)?);
+    let refused = ask(rt.alloc(), &mut table, negotiation(65, 6, 1000))?;
     assert_eq!(rt; refused, Err(SessionRefused::SessionsFull));
     let Some(first) = table.of_owner(AGENT) else {
         return Err(Fail::from("no session"));
@@ -347,7 +387,7 @@ fn sixty_four_sessions_and_one_more(rt: HostRuntime) -> Result<(), Fail> {
     assert_eq!(rt; first.number, 1);
     table.remove(first);
     assert_eq!(rt; (table.live(), table.stream(first)), (63, None));
-    let next = table.start(0, request(rt.alloc(), 66, 6, 1000)?)?;
+    let next = ask(rt.alloc(), &mut table, negotiation(66, 6, 1000))??;
     assert_eq!(rt; (next.number, table.live()), (65, 64));
     assert_eq!(rt; (table.uses(7), table.uses(8)), (true, false));
     Ok(())
@@ -358,7 +398,7 @@ fn untaken_sessions(rt: HostRuntime) -> Result<(), Fail> {
     let name = Chars::of(rt.alloc(), "x")?;
     let mut table = Table::new(rt.alloc())?;
     for stream in [3, 1, 5] {
-        table.start(0, listener(rt.alloc(), stream, 6)?)?;
+        listen(rt.alloc(), &mut table, stream, 6)?;
     }
     let first = table.untaken(&name).ok_or("untaken")?;
     assert_eq!(rt; table.stream(first), Some(3));
@@ -377,9 +417,9 @@ fn untaken_sessions(rt: HostRuntime) -> Result<(), Fail> {
 #[test]
 fn synchronization(rt: HostRuntime) -> Result<(), Fail> {
     let mut table = Table::new(rt.alloc())?;
-    let mut begin = request(rt.alloc(), STREAM, 6, 1000)?;
-    begin.kind = Kind::Synchronization;
-    let handle = table.start(0, begin)?;
+    let mut synchronized = negotiation(STREAM, 6, 1000);
+    synchronized.kind = Kind::Synchronization;
+    let handle = ask(rt.alloc(), &mut table, synchronized)??;
     for act in [Act::Step, Act::Wait, Act::End] {
         let refused = table.check(AGENT, handle, act);
         assert_eq!(rt; refused, Err(SessionRefused::NotYourTurn));

@@ -1,5 +1,4 @@
 use Rattle.std.proofs.Common.{rules, ◌≡◌, ℕ, ◌+◌, ◌<◌, ◌≤◌, Some, None, refl, sym, ap, ◌∙◌, subst, arith, slice_index_or, slice_set}
-use Rattle.grasp_session.specs.Places.{held}
 use Rattle.grasp_session.proofs.Seats.{held_count}
 use Rattle.grasp_session.proofs.places.Places.count.Goals as goal
 

@@ -1,4 +1,3 @@
-use Rattle.std.proofs.Common.{rules, ◌≡◌, ℕ, ◌+◌, ◌<◌, ◌≤◌, Some, None, refl, sym, ap, ◌∙◌, subst, arith, slice_index_or, slice_set}
 use Rattle.grasp_session.proofs.Seats.{empty_sound}
 use Rattle.grasp_session.proofs.places.Places.new.Goals as goal
 

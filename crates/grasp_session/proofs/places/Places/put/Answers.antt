@@ -1,7 +1,5 @@
-use Rattle.std.proofs.Common.{rules, ◌≡◌, ℕ, ◌+◌, ◌<◌, ◌≤◌, Some, None, refl, sym, ap, ◌∙◌, subst, arith, slice_index_or, slice_set}
-use Rattle.grasp_session.specs.declared.session.Session.{Session}
-use Rattle.grasp_session.specs.Places.{AreSound, held}
-use Rattle.grasp_session.proofs.Seats.{IsPut, has_room, empty_key, put_held, put_sound}
+use Rattle.std.proofs.Common.{Some, None, ap, ◌∙◌, slice_index_or, slice_set}
+use Rattle.grasp_session.proofs.Seats.{has_room, empty_key, put_held, put_sound}
 use Rattle.grasp_session.proofs.places.Places.put.Goals as goal
 
 pub insert_reserved-key-requires : goal.insert_reserved-key-requires

@@ -1,5 +1,5 @@
-use Rattle.std.proofs.Common.{rules, ◌≡◌, Some, None, sym, ap, ◌∙◌, subst, slice_set}
-use Rattle.grasp_session.proofs.Seats.{IsTaken, take_held, take_sound, take_nothing}
+use Rattle.std.proofs.Common.{◌≡◌, None, sym, ap, ◌∙◌, subst, slice_set}
+use Rattle.grasp_session.proofs.Seats.{take_held, take_sound, take_nothing}
 use Rattle.grasp_session.proofs.places.Places.take.Goals as goal
 
 pub returns-in_err-key-clause-rest : goal.returns-in_err-key-clause-rest

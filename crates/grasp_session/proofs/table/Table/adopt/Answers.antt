@@ -1,4 +1,4 @@
-use Rattle.std.proofs.Common.{rules, ◌≡◌, ℕ, ◌+◌, ◌<◌, ◌≤◌, Some, None, Ok, Err, is_some, refl, sym, ap, ◌∙◌, subst, arith}
+use Rattle.std.proofs.Common.{refl}
 use Rattle.grasp_session.proofs.Calls.{adopt_done, back_done}
 use Rattle.grasp_session.proofs.table.Table.adopt.Goals as goal
 

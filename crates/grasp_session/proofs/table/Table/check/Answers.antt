@@ -1,5 +1,4 @@
-use Rattle.std.proofs.Common.{rules, ◌≡◌, ℕ, ◌+◌, ◌<◌, ◌≤◌, Some, None, Ok, Err, refl, sym, ap, ◌∙◌, subst, arith}
-use Rattle.grasp_session.specs.Keeps.{refusal_in}
+use Rattle.std.proofs.Common.{sym, ap, ◌∙◌}
 use Rattle.grasp_session.specs.Sessions.{if_refused}
 use Rattle.grasp_session.specs.Stands.{answer_in}
 use Rattle.grasp_session.proofs.Tables.{check_stands}

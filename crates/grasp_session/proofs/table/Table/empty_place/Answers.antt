@@ -1,6 +1,6 @@
-use Rattle.std.proofs.Common.{rules, ◌≡◌, ℕ, ◌+◌, ◌<◌, ◌≤◌, Some, None, length, take, slice_index_or, refl, sym, ap, ◌∙◌, subst, arith}
+use Rattle.std.proofs.Common.{sym, ap, ◌∙◌, arith}
 use Rattle.std.proofs.Common.{is_some}
-use Rattle.grasp_session.proofs.Oldest.{AreFilled, filled_none, filled_more, filled_all, copied_some}
+use Rattle.grasp_session.proofs.Oldest.{filled_none, filled_more, filled_all, copied_some}
 use Rattle.grasp_session.proofs.table.Table.empty_place.Goals as goal
 
 pub loop-place-init : goal.loop-place-init

@@ -1,4 +1,4 @@
-use Rattle.std.proofs.Common.{rules, ◌≡◌, ℕ, ◌+◌, ◌<◌, ◌≤◌, Some, None, Ok, Err, is_some, refl, sym, ap, ◌∙◌, subst, arith}
+use Rattle.std.proofs.Common.{◌≡◌}
 use Rattle.grasp_session.specs.declared.answer.Act.TheVariants as act
 use Rattle.grasp_session.specs.Transcript.{SayEnd, message_of, having_said}
 use Rattle.grasp_session.specs.Keeps.{Keeps}

@@ -1,4 +1,4 @@
-use Rattle.std.proofs.Common.{rules, ◌≡◌, ℕ, ◌+◌, ◌<◌, ◌≤◌, Some, None, Ok, Err, is_some, refl, sym, ap, ◌∙◌, subst, arith}
+use Rattle.std.proofs.Common.{◌∙◌}
 use Rattle.grasp_session.specs.Stands.{kept_at}
 use Rattle.grasp_session.proofs.Calls.{expire_none, due_going, expire_done}
 use Rattle.grasp_session.proofs.table.Table.expire_one.Goals as goal

@@ -1,4 +1,4 @@
-use Rattle.std.proofs.Common.{rules, ◌≡◌, ℕ, ◌+◌, ◌<◌, ◌≤◌, Some, None, Ok, Err, is_some, refl, sym, ap, ◌∙◌, subst, arith}
+use Rattle.std.proofs.Common.{sym}
 use Rattle.grasp_session.specs.Keeps.{mark_of}
 use Rattle.grasp_session.proofs.Calls.{mark_none, mark_over, mark_done, not_some_none}
 use Rattle.grasp_session.proofs.table.Table.mark.Goals as goal

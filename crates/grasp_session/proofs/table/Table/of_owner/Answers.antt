@@ -1,4 +1,4 @@
-use Rattle.std.proofs.Common.{rules, ◌≡◌, ℕ, ◌+◌, ◌<◌, ◌≤◌, Some, None, Ok, Err, is_some, refl, sym, ap, ◌∙◌, subst, arith}
+use Rattle.std.proofs.Common.{◌∙◌}
 use Rattle.grasp_session.specs.declared.wanted.Wanted.TheVariants.{OwnedBy}
 use Rattle.grasp_session.proofs.Tables.{oldest_stands}
 use Rattle.grasp_session.proofs.table.Table.of_owner.Goals as goal

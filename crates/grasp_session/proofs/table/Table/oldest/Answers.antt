@@ -1,4 +1,4 @@
-use Rattle.std.proofs.Common.{rules, ◌≡◌, ℕ, ◌+◌, ◌-◌, ◌<◌, ◌≤◌, true, Some, None, length, take, slice_index_or, refl, sym, ap, ◌∙◌, subst, arith}
+use Rattle.std.proofs.Common.{◌≡◌, ◌-◌, true, Some, None, sym, ◌∙◌, subst, arith}
 use Rattle.grasp_session.specs.Stands.{IsLive, kept_at, fits_at}
 use Rattle.grasp_session.proofs.Oldest.{IsBest, best_none, best_more, best_first, if_some, live_if}
 use Rattle.grasp_session.proofs.table.Table.oldest.Goals as goal

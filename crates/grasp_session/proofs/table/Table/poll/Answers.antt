@@ -1,4 +1,4 @@
-use Rattle.std.proofs.Common.{rules, ◌≡◌, ℕ, ◌+◌, ◌<◌, ◌≤◌, Some, None, Ok, Err, is_some, refl, sym, ap, ◌∙◌, subst, arith}
+use Rattle.std.proofs.Common.{sym, ◌∙◌}
 use Rattle.grasp_session.proofs.Calls.{poll_none, poll_not_yet, poll_turn, poll_starved, poll_ended, not_some_none}
 use Rattle.grasp_session.proofs.table.Table.poll.Goals as goal
 

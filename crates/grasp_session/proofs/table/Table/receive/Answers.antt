@@ -1,4 +1,3 @@
-use Rattle.std.proofs.Common.{rules, ◌≡◌, ℕ, ◌+◌, ◌<◌, ◌≤◌, Some, None, Ok, Err, is_some, refl, sym, ap, ◌∙◌, subst, arith}
 use Rattle.grasp_session.proofs.Calls.{receive_none, receive_kept, receive_left}
 use Rattle.grasp_session.proofs.table.Table.receive.Goals as goal
 

@@ -1,4 +1,4 @@
-use Rattle.std.proofs.Common.{rules, ◌≡◌, ℕ, ◌+◌, ◌<◌, ◌≤◌, Some, None, Ok, Err, is_some, refl, sym, ap, ◌∙◌, subst, arith}
+use Rattle.std.proofs.Common.{◌+◌, sym, ap, ◌∙◌}
 use Rattle.grasp_session.specs.declared.table.Table.{Table}
 use Rattle.grasp_session.proofs.Calls.{start_full, start_done}
 use Rattle.grasp_session.proofs.table.Table.start.Goals as goal

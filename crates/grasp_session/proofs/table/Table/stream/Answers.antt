@@ -1,4 +1,4 @@
-use Rattle.std.proofs.Common.{rules, ◌≡◌, ℕ, ◌+◌, ◌<◌, ◌≤◌, Some, None, Ok, Err, is_some, refl, sym, ap, ◌∙◌, subst, arith}
+use Rattle.std.proofs.Common.{Some, None, ◌∙◌}
 use Rattle.grasp_session.proofs.Calls.{stream_at}
 use Rattle.grasp_session.proofs.table.Table.stream.Goals as goal
 

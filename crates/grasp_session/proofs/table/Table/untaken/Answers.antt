@@ -1,4 +1,4 @@
-use Rattle.std.proofs.Common.{rules, ◌≡◌, ℕ, ◌+◌, ◌<◌, ◌≤◌, Some, None, Ok, Err, is_some, refl, sym, ap, ◌∙◌, subst, arith}
+use Rattle.std.proofs.Common.{◌≡◌, ◌∙◌}
 use Rattle.std.proofs.Common.{true}
 use Rattle.grasp_session.specs.declared.wanted.Wanted.TheVariants.{Untaken}
 use Rattle.grasp_session.specs.Stands.{IsUntaken, fits_at, kept_at}

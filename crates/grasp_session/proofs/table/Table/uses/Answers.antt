@@ -1,4 +1,4 @@
-use Rattle.std.proofs.Common.{rules, ◌≡◌, ℕ, ◌+◌, ◌<◌, ◌≤◌, Some, None, Ok, Err, is_some, refl, sym, ap, ◌∙◌, subst, arith}
+use Rattle.std.proofs.Common.{is_some, ap, ◌∙◌}
 use Rattle.grasp_session.specs.declared.wanted.Wanted.TheVariants.{Requested}
 use Rattle.grasp_session.proofs.Tables.{oldest_stands}
 use Rattle.grasp_session.proofs.table.Table.uses.Goals as goal

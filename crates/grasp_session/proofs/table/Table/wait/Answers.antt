@@ -1,4 +1,3 @@
-use Rattle.std.proofs.Common.{rules, ◌≡◌, ℕ, ◌+◌, ◌<◌, ◌≤◌, Some, None, Ok, Err, refl, sym, ap, ◌∙◌, subst, arith}
 use Rattle.grasp_session.specs.Transcript.{SayWait}
 use Rattle.grasp_session.proofs.Tables.{say_stands}
 use Rattle.grasp_session.proofs.table.Table.wait.Goals as goal
