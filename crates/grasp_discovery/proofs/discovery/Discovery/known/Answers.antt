@@ -1,0 +1,19 @@
+use Rattle.std.proofs.Common.{Some, None, option_map, sym, ap, ◌∙◌}
+use Rattle.grasp_discovery.specs.Discoveries.{least_left, live}
+use Rattle.grasp_discovery.specs.Topic.{topic_of}
+use Rattle.grasp_discovery.proofs.Cache.{under_found}
+use Rattle.grasp_discovery.proofs.discovery.Discovery.known.Goals as goal
+
+pub returns-in_default-clause-known : goal.returns-in_default-clause-known
+returns-in_default-clause-known c =
+    rw (← c.self.view_is, under_found (topic_of c.args.name.now c.args.kind) c.self.inside.entries.entries None c.in_default.ensures)
+
+pub returns-in-Some-2-clause-known : goal.returns-in-Some-2-clause-known
+returns-in-Some-2-clause-known c =
+    rw (← c.self.view_is, under_found (topic_of c.args.name.now c.args.kind) c.self.inside.entries.entries (Some c.in-Some.cached.now) c.in-Some.ensures, c.least_left.ensures.least)
+    (ap (option_map (λ locators. (locators, least_left c.args.now (live c.args.now c.in-Some.cached.now)))) (sym c.in-Some-2.is ∙ c.in_ok-locators.ensures))
+
+pub returns-in-None-clause-known : goal.returns-in-None-clause-known
+returns-in-None-clause-known c =
+    rw (← c.self.view_is, under_found (topic_of c.args.name.now c.args.kind) c.self.inside.entries.entries (Some c.in-Some.cached.now) c.in-Some.ensures)
+    (ap (option_map (λ locators. (locators, least_left c.args.now (live c.args.now c.in-Some.cached.now)))) (sym c.in-None.is ∙ c.in_ok-locators.ensures))

@@ -1,0 +1,24 @@
+use Rattle.std.proofs.Common.{◌≡◌, ◌≤◌, Some, length, slice_get, sym, ap, ◌∙◌, arith}
+use Rattle.grasp_discovery.specs.Discoveries.{live_entry}
+use Rattle.grasp_discovery.proofs.Lists.{first_through, length_first_through, first_through_none, first_through_more, first_through_all}
+use Rattle.grasp_discovery.proofs.entries.expire_all.Goals as goal
+
+pub loop-i-init : goal.loop-i-init
+loop-i-init c = sym (first_through_none (live_entry c.args.now) c.args.entries.now.entries)
+
+pub pair_mut-cached-requires : goal.pair_mut-cached-requires
+pair_mut-cached-requires c =
+    let long = ap length c.loop-i.invariant ∙ length_first_through (live_entry c.args.now) c.loop-i.i c.args.entries.now.entries in
+    omega (arith, long, c.len-i-end.ensures.len)
+
+pub loop-i-preserved : goal.loop-i-preserved
+loop-i-preserved c =
+    let f = live_entry c.args.now in
+    let at : slice_get (first_through f c.loop-i.i c.args.entries.now.entries) c.loop-i.i ≡ Some (c.pair_mut-cached.result.0.now, c.pair_mut-cached.result.1.now) =
+    rw (← c.loop-i.invariant) c.pair_mut-cached.ensures.value in
+    rw c.loop-i.invariant (first_through_more f c.loop-i.i c.args.entries.now.entries _ _ _ at (ap (λ v. (c.pair_mut-cached.result.0.now, v)) c.expire.ensures))
+
+pub returns : goal.returns
+returns c =
+    let whole : length c.args.entries.now.entries ≤ c.loop-i.i = omega (arith, c.len-i-end.ensures.len) in
+    c.loop-i.invariant ∙ first_through_all (live_entry c.args.now) c.loop-i.i c.args.entries.now.entries whole

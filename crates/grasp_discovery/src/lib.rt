@@ -1,0 +1,21 @@
+//! Where objectives can be reached: the searches of a node, the locators that responses told it, and the discoveries
+//! that it must not send on again (RFC 8990, section 2.5.4).
+//!
+//! A discovery is known by its session number and its initiator. Locators are cached under a name and a use, each until
+//! its end. Readings of the clock, timeouts and lifetimes are in milliseconds.
+#![tactic(auto)]
+
+mod answers;
+mod cached;
+mod discovery;
+mod entries;
+mod laws;
+mod memory;
+mod search;
+#[cfg(test)]
+mod tests;
+mod topic;
+
+pub use answers::{Answered, BeginRefused, Cause, Find, Heard};
+pub use discovery::Discovery;
+pub use laws::{all_stays_sound, expiry_twice_is_once, known_is_found, nothing_ended_stays};
