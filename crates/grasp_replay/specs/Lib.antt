@@ -1,3 +1,7 @@
 pub mod Ending
-pub mod Line
+pub mod Laws
+pub mod Lines
+pub mod Pack
 pub mod Show
+pub mod Step
+pub mod Task

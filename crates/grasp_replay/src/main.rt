@@ -1,11 +1,14 @@
-//! A tool for GRASP (RFC 8990): `show` writes a line for each message of a stream.
+//! A tool for GRASP (RFC 8990): `show` writes a line for each message of a stream, `pack` a message for each line.
 #![tactic(auto)]
 
 mod exit;
-mod line;
+mod laws;
+mod made;
+mod pack;
 mod replay;
 mod show;
 mod start;
+mod task;
 #[cfg(test)]
 mod tests;
 

@@ -1,66 +1,102 @@
 // `show`: the lines of the messages of a stream.
-ghost use Rattle.std.specs.Prelude.{◌≡◌, ◌≢◌, ◌<◌, ◌≤◌, ℕ, List, Some, length, IfOk, IfSome, IfNone};
-ghost use Rattle.grasp_io.specs.Faults.{Rose};
-ghost use Rattle.grasp_replay.specs.Ending.{IsAfterInput};
-ghost use Rattle.grasp_replay.specs.Line.{lines_of};
-ghost use Rattle.grasp_replay.specs.Show.{IsStream, ShowsAll, Shows, BeginsToShow, IsReadToEnd};
+ghost use Rattle.std.specs.Prelude.{◌≡◌, ◌<◌, ◌==◌, if◌then◌else◌, ◌∷◌, ◌++◌, [], Some, None, length, option_map, IfOk, OnOk};
+ghost use Rattle.grasp_text.specs.Line.{line_of};
+ghost use Rattle.grasp_wire.specs.Cutter.{Past, lasting};
+ghost use Rattle.grasp_wire.specs.Stands.{Stands, cut_limit};
+ghost use Rattle.grasp_replay.specs.Show.{Shows};
+ghost use Rattle.grasp_replay.specs.Step.{Steps};
+ghost use Rattle.grasp_replay.specs.declared.exit.Finding.TheVariants.{Cut, Truncated};
 
-use crate::exit::Status;
-use crate::line::push_line;
+use crate::exit::Finding;
+use crate::made::Made;
 use grasp_cbor::OutOfMemory;
-use grasp_io::{ReadError, Sink, Source, read_all, write_all};
-use grasp_wire::plain_message;
+use grasp_text::line_of;
+use grasp_types::Message;
+use grasp_wire::{CutFault, Cutter};
 use std::alloc::Global;
 
-/// The most bytes that the input may have.
-pub const INPUT_LIMIT: u64 = 16_777_216;
+/// What the next step of `show` came to.
+enum Step {
+    /// A message's line was appended.
+    Line,
+    /// No message is left, and what is left waits for more.
+    End,
+    /// What is left has a fault.
+    Fault(Finding),
+}
 
-/// The most bytes that a message may have.
-pub const MESSAGE_LIMIT: u32 = 2048;
-
-/// Writes the lines of the messages that the source gives.
-pub fn show<S: Source, K: Sink>(alloc: Global, source: &mut S, sink: &mut K) -> Status
-    ensures no_usage { result ≢ Status.Usage }
-    ensures read_to_end { IsAfterInput result → IsReadToEnd (S.left source.old) (S.left source.new) }
-    ensures small { IsAfterInput result → IfSome (S.left source.old) (λ input. length input ≤ INPUT_LIMIT) }
-    ensures too_large { result ≡ Status.TooLarge → IfSome (S.left source.old) (λ input. INPUT_LIMIT < length input) }
-    ensures read_fault { result ≡ Status.ReadFault → Rose (S.faults source.old) (S.faults source.new) }
-    ensures write_fault { result ≡ Status.WriteFault → Rose (K.faults sink.old) (K.faults sink.new) }
-    ensures shown { result ≡ Status.Ok → Shows MESSAGE_LIMIT (S.left source.old) (K.written sink.old) (K.written sink.new) }
-    ensures begun { result ≡ Status.WriteFault → BeginsToShow MESSAGE_LIMIT (S.left source.old) (K.written sink.old) (K.written sink.new) }
-    ensures not_built { result ≡ Status.NotBuilt → IfSome (S.left source.old) (λ input. IsStream MESSAGE_LIMIT input → ⊥) }
-    ensures untouched { result ≢ Status.Ok → result ≢ Status.WriteFault → sink.new ≡ sink.old }
+/// Makes the lines of the messages of the stream, of which each has at most `limit` bytes.
+pub fn show(alloc: Global, input: &[u8], limit: u32) -> Result<Made, OutOfMemory>
+    requires { 0 < limit }
+    ensures { IfOk result (λ made. Shows limit input.now made.output.items made.finding) }
 {
-    let input = match read_all(alloc, source, INPUT_LIMIT) {
-        Ok(input) => input,
-        Err(ReadError::Fault) => return Status::ReadFault,
-        Err(ReadError::TooLarge) => return Status::TooLarge,
-        Err(ReadError::OutOfMemory) => return Status::OutOfMemory,
-    };
-    match lines_of_stream(alloc, &input) {
-        Ok(Some(lines)) => match write_all(sink, &lines) {
-            Ok(()) => Status::Ok,
-            Err(_) => Status::WriteFault,
+    let mut cutter = Cutter::new(alloc, limit);
+    cutter.feed(input)?;
+    let mut output = Vec::new(alloc);
+    for _shown in 0..input.len() + 1 {
+        match show_next(alloc, &mut cutter, &mut output)? {
+            Step::Line => {}
+            Step::End => {
+                let finding = truncated(cutter.rest(), input.len() as u64);
+                return Ok(Made { output, finding });
+            }
+            Step::Fault(finding) => {
+                return Ok(Made {
+                    output,
+                    finding: Some(finding),
+                });
+            }
+        }
+    }
+    unreachable!()
+}
+
+/// Appends the line of the next message.
+fn show_next(alloc: Global, cutter: &mut Cutter, text: &mut Vec<u8>) -> Result<Step, OutOfMemory>
+    ensures step { (past : Past) → Stands cutter.old past → past.fault ≡ None
+        → Steps (cut_limit cutter.old) past cutter.new text.old.items text.new.items result }
+    ensures limit { cut_limit cutter.new ≡ cut_limit cutter.old }
+{
+    match cutter.next() {
+        Ok(Some(message)) => {
+            push_line(alloc, text, &message)?;
+            Ok(Step::Line)
+        }
+        Ok(None) => Ok(Step::End),
+        Err(fault) => match finding_of(fault) {
+            Some(finding) => Ok(Step::Fault(finding)),
+            None => Err(OutOfMemory),
         },
-        Ok(None) => Status::NotBuilt,
-        Err(_) => Status::OutOfMemory,
     }
 }
 
-/// The lines of the messages whose wire forms the input is, or `None` where it isn't those of noops and waits alone.
-fn lines_of_stream(alloc: Global, input: &[u8]) -> Result<Option<Vec<u8>>, OutOfMemory>
-    ensures shown { IfOk result (λ found. IfSome found (λ lines. ShowsAll MESSAGE_LIMIT input.now lines.items)) }
-    ensures not_built { IfOk result (λ found. IfNone found (IsStream MESSAGE_LIMIT input.now → ⊥)) }
+/// Appends the message's line and a line feed.
+fn push_line(alloc: Global, text: &mut Vec<u8>, message: &Message) -> Result<(), OutOfMemory>
+    ensures { OnOk result (text.new.items ≡ text.old.items ++ line_of message.now ++ 10 ∷ []) }
 {
-    let mut lines = Vec::new(alloc);
-    let mut rest = input;
-    while !rest.is_empty() {
-        let Some((message, used)) = plain_message(alloc, rest, MESSAGE_LIMIT)? else {
-            return Ok(None);
-        };
-        push_line(&mut lines, &message)?;
-        let (_, after) = rest.split_at(used as usize);
-        rest = after;
+    let line = line_of(alloc, message)?;
+    text.extend_from_slice(line.bytes())?;
+    text.push(b'\n')?;
+    Ok(())
+}
+
+/// The finding at the end of a stream of so many bytes, of which so many wait for more.
+fn truncated(rest: u64, len: u64) -> Option<Finding>
+    ensures { result ≡ (if rest == 0 then None else Some (Truncated len)) }
+{
+    if rest == 0 {
+        None
+    } else {
+        Some(Finding::Truncated { at: len })
     }
-    Ok(Some(lines))
+}
+
+/// The finding of a fault, or `None` for want of memory.
+fn finding_of(fault: CutFault) -> Option<Finding>
+    ensures { result ≡ option_map Cut (lasting fault) }
+{
+    match fault {
+        CutFault::OutOfMemory => None,
+        _ => Some(Finding::Cut(fault)),
+    }
 }

@@ -6,11 +6,18 @@ use std::rt::Env;
 
 const HELP: &str = "\
 Usage: grasp_replay show < STREAM
+       grasp_replay pack < LINES
 
-Writes a line for each GRASP message (RFC 8990) of the stream on standard input.
+  show       writes a line for each GRASP message (RFC 8990) of the stream
+  pack       writes the message of each line, in its shortest encoding
 
   --help     prints this text
   --version  prints the version
+
+The exit status is 0 where all went well, and 1 where the input is wrong at one
+place: a line on standard error names it, and all that comes before it is
+written. It is 2 for other words, 4 and 5 for a failed read or write, 6 for want
+of memory, and 7 for an input of more than 16,777,216 bytes.
 ";
 
 const VERSION: &str = "grasp_replay 0.1.0\n";

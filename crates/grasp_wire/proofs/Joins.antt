@@ -1,53 +1,17 @@
 -- Wire forms, one after the other.
-use Rattle.std.proofs.Common.{◌≡◌, ◌<◌, ◌≤◌, ℕ, List, [], ◌∷◌, ◌++◌, take, drop, take-append-drop, append-nil, append_assoc, subst, length, true, rules, sym, refl, ◌∙◌, ap, arith}
-use Rattle.std.proofs.lemmas.List.{length-take-le, length-take, append_cancel_left}
+use Rattle.std.proofs.Common.{◌≡◌, ◌+◌, ◌<◌, ◌≤◌, ℕ, List, [], ◌∷◌, ◌++◌, take, drop, take-append-drop, append-nil, append_assoc, subst, length, sym, refl, ◌∙◌, ap, arith}
+use Rattle.std.proofs.lemmas.List.{length-take-le, length-take, length-append, append_cancel_left, take_at}
+use Rattle.grasp_cbor.specs.Bytes.{AllBytes}
 use Rattle.grasp_cbor.specs.DataItem.{DataItem, unsigned}
 use Rattle.grasp_cbor.specs.Encodes.{Encodes}
 use Rattle.grasp_cbor.specs.Head.{direct}
-use Rattle.grasp_cbor.specs.Ending.{Ending, whole, partial, too_long, faulty, IsWhole, IsEnding}
-use Rattle.grasp_cbor.specs.declared.walker.FaultName.{FaultName}
 use Rattle.grasp_cbor.proofs.Whole.{one_encodes}
+use Rattle.grasp_types.proofs.FromItems.{no_two_messages}
 use Rattle.grasp_types.specs.Message.{item_of, IsMessage}
 use Rattle.grasp_types.specs.declared.message.Message.{Message}
 use Rattle.grasp_wire.specs.Wire.{IsWireForm, AreWireForms}
-use Rattle.grasp_wire.specs.Plain.{HasNoItem, IsPlainMessage}
-
--- how long the item is with which reading ends
-abbrev used_in : Ending → ℕ
-used_in (whole item used) = used
-used_in partial = 0
-used_in too_long = 0
-used_in (faulty name place) = 0
-
--- reading within a greater limit ends so, and so does every other such ending
-abbrev pub EndsSo : List ℕ → ℕ → Ending → Type 0
-EndsSo bytes most e = (ending : Ending) → IsEnding bytes most ending → e ≡ ending
-
-wider : (bytes : List ℕ) (limit most : ℕ) (item : DataItem) (used : ℕ) → limit ≤ most → IsWhole bytes limit item used → IsEnding bytes most (whole item used)
-wider bytes limit most item used le w = record { encodes = w.encodes; inside = w.inside; within = omega (arith, w.within, le) }
-
--- where reading ends with no item, none begins the bytes
-pub no_item_partial : (bytes : List ℕ) (limit most : ℕ) → limit ≤ most → EndsSo bytes most partial → HasNoItem bytes limit
-no_item_partial bytes limit most le only item used w = let e = only (whole item used) (wider bytes limit most item used le w) in cc
-
-pub no_item_long : (bytes : List ℕ) (limit most : ℕ) → limit ≤ most → EndsSo bytes most too_long → HasNoItem bytes limit
-no_item_long bytes limit most le only item used w = let e = only (whole item used) (wider bytes limit most item used le w) in cc
-
-pub no_item_faulty : (bytes : List ℕ) (limit most : ℕ) (name : FaultName) (at : ℕ) → limit ≤ most → EndsSo bytes most (faulty name at) → HasNoItem bytes limit
-no_item_faulty bytes limit most name at le only item used w = let e = only (whole item used) (wider bytes limit most item used le w) in cc
-
--- where it ends with one that is longer than the limit, none within the limit begins them
-pub no_item_longer : (bytes : List ℕ) (limit most : ℕ) (t : DataItem) (k : ℕ) → limit ≤ most → limit < k → EndsSo bytes most (whole t k) → HasNoItem bytes limit
-no_item_longer bytes limit most t k le long only item used w =
-    let e = ap used_in (only (whole item used) (wider bytes limit most item used le w)) in
-    absurd (omega (arith, e, long, w.within))
-
--- two fronts of one text that encode items are one
-pub one_front : (t u : DataItem) (k n : ℕ) (s : List ℕ) → Encodes t (take k s) → Encodes u (take n s) → (t ≡ u) × (take k s ≡ take n s)
-one_front t u k n s a b = one_encodes t u (take k s) (take n s) (drop k s) (drop n s) a b (take-append-drop k s ∙ sym (take-append-drop n s))
-
-pub front_within : (n : ℕ) (s : List ℕ) (limit : ℕ) → n ≤ length s → length (take n s) ≤ limit → n ≤ limit
-front_within n s limit within fits = omega (arith, length-take-le n s within)
+use Rattle.grasp_wire.specs.Stream.{BeginsNoMessage, Splits, Divides, RestKind, IsRest}
+use Rattle.grasp_wire.proofs.Rests.{no_message}
 
 -- an encoding has bytes: that of 0 would follow no bytes
 pub no_bytes : (t : DataItem) (s : List ℕ) → Encodes t s → 0 < length s
@@ -57,25 +21,72 @@ no_bytes t [] p =
     absurd (cc same.1)
 no_bytes t (b ∷ s) p = omega arith
 
+-- two wire forms at the front of one text are one
+pub record AreOne (a b : Message) (s t more other : List ℕ) : Type 0 where
+  pub message : a ≡ b
+  pub form : s ≡ t
+  pub rest : more ≡ other
+
+pub one_form : (a b : Message) (s t more other : List ℕ) (limit : ℕ) → IsWireForm a s limit → IsWireForm b t limit → s ++ more ≡ t ++ other → AreOne a b s t more other
+one_form a b s t more other limit f g e =
+    let same = one_encodes (item_of a) (item_of b) s t more other f.encodes g.encodes e in
+    record {
+      message = no_two_messages a b f.is_message g.is_message same.0;
+      form = same.1;
+      rest = append_cancel_left t more other (ap (λ x. x ++ more) (sym same.1) ∙ e);
+    }
+
 -- one more
 pub joined_more : (limit : ℕ) (ms : List Message) (m : Message) (s front : List ℕ) → AreWireForms ms s limit → IsWireForm m front limit → AreWireForms (ms ++ m ∷ []) (s ++ front) limit
 joined_more limit [] m s front joined form = (front, [], form, refl, ap (λ x. x ++ front) joined ∙ sym (append-nil front))
 joined_more limit (n ∷ ms) m s front j form = (j.0, j.1 ++ front, j.2, joined_more limit ms m j.1 front j.3 form, ap (λ x. x ++ front) j.4 ∙ append_assoc j.0 j.1 front)
 
--- no bytes are no wire form
-pub some_bytes : (limit : ℕ) (m : Message) (n : ℕ) (s : List ℕ) → IsWireForm m (take n s) limit → (0 < n) × (0 < length s)
-some_bytes limit m n s form =
-    let some = no_bytes (item_of m) (take n s) form.encodes in
-    (omega (arith, length-take n s), omega (arith, length-take n s))
+-- bytes that begin with a wire form begin with a message
+pub begins : (m : Message) (front rest s : List ℕ) (limit : ℕ) → IsWireForm m front limit → s ≡ front ++ rest → BeginsNoMessage s limit → ⊥
+begins m front rest s limit form e none =
+    let at : take (length front) s ≡ front = ap (take (length front)) e ∙ take_at front rest (length front) refl in
+    none m (length front) (omega (arith, ap length e, length-append front rest)) (subst (λ x. IsWireForm m x limit) (sym at) form)
 
--- the rest after two fronts that are one
-same_rest : (n : ℕ) (s front rest : List ℕ) → s ≡ front ++ rest → take n s ≡ front → rest ≡ drop n s
-same_rest n s front rest e f = sym (append_cancel_left front (drop n s) rest (ap (λ x. x ++ drop n s) (sym f) ∙ take-append-drop n s ∙ e))
+-- two joins at the front of one text, where the first rest begins with no message: the second is a beginning of the first
+pub record IsJoin (ms bs : List Message) (rest : List ℕ) (other : List ℕ) (limit : ℕ) : Type 0 where
+  pub more : List Message
+  pub middle : List ℕ
+  pub all : bs ≡ ms ++ more
+  pub forms : AreWireForms more middle limit
+  pub parts : rest ≡ middle ++ other
 
--- the first of them has the bytes of any wire form at the front
-pub joined_rest : (limit : ℕ) (ms : List Message) (m : Message) (n : ℕ) (s : List ℕ) → AreWireForms ms s limit → IsWireForm m (take n s) limit
-    → (first : Message) × (others : List Message) × (ms ≡ first ∷ others) × AreWireForms others (drop n s) limit
-joined_rest limit [] m n s joined form = absurd (omega (arith, (some_bytes limit m n s form).1, ap length joined))
-joined_rest limit (first ∷ others) m n s j form =
-    let same = one_encodes (item_of m) (item_of first) (take n s) j.0 (drop n s) j.1 form.encodes j.2.encodes (take-append-drop n s ∙ j.4) in
-    (first, others, refl, subst (λ (x : List ℕ). AreWireForms others x limit) (same_rest n s j.0 j.1 j.4 same.1) j.3)
+-- where the text behind the second begins with no message, the first come first in the second
+pub joined_first : (ms bs : List Message) (s t rest other : List ℕ) (limit : ℕ) → AreWireForms ms s limit → AreWireForms bs t limit → s ++ rest ≡ t ++ other → BeginsNoMessage other limit → IsJoin ms bs rest other limit
+joined_first [] bs s t rest other limit f g e none =
+    record { more = bs; middle = t; all = refl; forms = g; parts = ap (λ x. x ++ rest) (sym f) ∙ e }
+joined_first (m ∷ ms) [] s t rest other limit f g e none =
+    absurd (begins m f.0 (f.1 ++ rest) other limit f.2 (sym (ap (λ x. x ++ other) g) ∙ sym e ∙ ap (λ x. x ++ rest) f.4 ∙ append_assoc f.0 f.1 rest) none)
+joined_first (m ∷ ms) (b ∷ bs) s t rest other limit f g e none =
+    let parts : f.0 ++ (f.1 ++ rest) ≡ g.0 ++ (g.1 ++ other) = sym (append_assoc f.0 f.1 rest) ∙ ap (λ x. x ++ rest) (sym f.4) ∙ e ∙ ap (λ x. x ++ other) g.4 ∙ append_assoc g.0 g.1 other in
+    let same = one_form m b f.0 g.0 (f.1 ++ rest) (g.1 ++ other) limit f.2 g.2 parts in
+    let next = joined_first ms bs f.1 g.1 rest other limit f.3 g.3 same.rest none in
+    record {
+      more = next.more;
+      middle = next.middle;
+      all = λ i. (sym same.message i) ∷ next.all i;
+      forms = next.forms;
+      parts = next.parts;
+    }
+
+-- one more at the front
+pub divides_more : (limit : ℕ) (m : Message) (form s : List ℕ) (ms : List Message) (rest : List ℕ) (kind : RestKind) → IsWireForm m form limit → Divides s limit ms rest kind → Divides (form ++ s) limit (m ∷ ms) rest kind
+divides_more limit m form s ms rest kind f d =
+    let p = d.splits in
+    record {
+      splits = record {
+        front = form ++ p.front;
+        forms = (form, p.front, f, p.forms, refl);
+        parts = ap (λ x. form ++ x) p.parts ∙ sym (append_assoc form p.front rest);
+        no_more = p.no_more;
+      };
+      kind_is = d.kind_is;
+    }
+
+-- a rest alone
+pub divides_alone : (limit : ℕ) (s : List ℕ) (kind : RestKind) → AllBytes s → IsRest s limit kind → Divides s limit [] s kind
+divides_alone limit s kind bytes h = record { splits = record { front = []; forms = refl; parts = refl; no_more = no_message s limit kind bytes h }; kind_is = h }

@@ -1,2 +1,12 @@
-pub mod Plain
+pub mod Cutter
+pub mod Laws
+pub mod One
+pub mod Parts
+pub mod ReadMessages
+pub mod ReadOn
+pub mod ReadParts
+pub mod Reading
+pub mod Reads
+pub mod Stands
+pub mod Stream
 pub mod Wire

@@ -1,0 +1,10 @@
+use Rattle.std.proofs.Common.{rules}
+use Rattle.grasp_replay.proofs.replay.run.Goals as goal
+
+pub returns-clause-begun : goal.returns-clause-begun
+returns-clause-begun g c = λ e. record {
+  output = c.in-Ok-make.made.output.items;
+  finding = c.in-Ok-make.made.finding;
+  makes = search rules;
+  written = search rules;
+}

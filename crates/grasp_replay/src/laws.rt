@@ -1,0 +1,8 @@
+// Laws on what the tasks make. They say nothing at run time.
+ghost use Rattle.grasp_replay.specs.Laws.{TasksAreFunctions, WholeInputsEndWell};
+
+/// A task makes one output of an input, with one finding, and none of a whole input.
+pub fn tasks_are_functions()
+    ensures one { TasksAreFunctions }
+    ensures well { WholeInputsEndWell }
+{}

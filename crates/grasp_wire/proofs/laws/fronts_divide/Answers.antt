@@ -1,0 +1,5 @@
+use Rattle.grasp_wire.proofs.EncodedFirst.{fronts}
+use Rattle.grasp_wire.proofs.laws.fronts_divide.Goals as goal
+
+pub returns : goal.returns
+returns c = fronts

@@ -1,0 +1,202 @@
+//! Cutting messages from a stream of bytes (RFC 8990, section 2.8).
+
+ghost use Rattle.std.specs.Prelude.{◌≡◌, ◌+◌, ◌-◌, ◌<◌, ◌≤◌, ◌^◌, ◌++◌, length, take, drop, vec_len, None, Some, Ok, IsSome, OnOk, OnErr, IfOk, IfSome};
+ghost use Rattle.grasp_cbor.specs.DataItem.{DataItem};
+ghost use Rattle.grasp_cbor.specs.Ending.{IsWhole};
+ghost use Rattle.grasp_wire.specs.ReadOn.{IsReadTo};
+
+use crate::CutFault;
+use crate::read_on::{cut_fault, message_of_bytes, read_rest};
+use grasp_cbor::{ItemReader, OutOfMemory};
+use grasp_types::Message;
+use std::alloc::Global;
+
+/// Cuts messages from a stream that comes in pieces. The end of an item is found by taking each byte once, except after
+/// want of memory, when the item is taken again; the message is then made of the item's bytes.
+#[derive(Drop)]
+pub struct Cutter {
+    alloc: Global,
+    limit: u32,
+    // How many bytes were fed.
+    fed: u64,
+    // The bytes that were fed last. Those from `start` on belong to no message that was given, and those before `seen`
+    // were taken.
+    held: Vec<u8>,
+    start: usize,
+    seen: usize,
+    reader: ItemReader,
+    fault: Option<CutFault>,
+    ghost some: { 0 < limit },
+    ghost ordered: { start ≤ seen },
+    ghost within: { seen ≤ vec_len held },
+    ghost counted: { vec_len held ≤ fed },
+    ghost read: { ∥ IsReadTo fault reader limit (take (seen - start) (drop start held.items)) ∥₁ },
+}
+
+impl Cutter {
+    ghost use Rattle.grasp_wire.specs.Cutter.{Past, no_past, after_feed, after_next, AnswersNext, CountsRest};
+    ghost use Rattle.grasp_wire.specs.Stands.{Stands, IsSame, AnswersFound, AnswersItem, cut_limit, fed_count, rest_of, before_of, fault_in};
+
+    /// Before the first byte of a stream whose messages have at most `limit` bytes. It takes no memory.
+    pub fn new(alloc: Global, limit: u32) -> Cutter
+        requires { 0 < limit }
+        ensures stands { Stands result no_past }
+        ensures limit { cut_limit result ≡ limit }
+        ensures count { fed_count result ≡ 0 }
+    {
+        Cutter {
+            alloc,
+            limit,
+            fed: 0,
+            held: Vec::new(alloc),
+            start: 0,
+            seen: 0,
+            reader: ItemReader::new(limit as u64),
+            fault: None,
+        }
+    }
+
+    /// How many bytes were fed.
+    pub fn fed(&self) -> u64
+        ensures past { (past : Past) → Stands self.now past → result ≡ length past.fed }
+        ensures count { result ≡ fed_count self.now }
+    {
+        self.fed
+    }
+
+    /// Takes the next piece of the stream. After an `Err` the cutter stands as before. After a fault that lasts it
+    /// only counts.
+    pub fn feed(&mut self, piece: &[u8]) -> Result<(), OutOfMemory>
+        requires { fed_count self.old + length piece.now < 2 ^ 64 }
+        ensures ok { (past : Past) → Stands self.old past → OnOk result (Stands self.new (after_feed past piece.now)) }
+        ensures err { (past : Past) → Stands self.old past → OnErr result (Stands self.new past) }
+        ensures counts { (past : Past) → Stands self.old past → IsSome past.fault → result ≡ Ok tt }
+        ensures count { OnOk result (fed_count self.new ≡ fed_count self.old + length piece.now) }
+        ensures same_count { OnErr result (fed_count self.new ≡ fed_count self.old) }
+        ensures limit { cut_limit self.new ≡ cut_limit self.old }
+    {
+        if self.fault.is_some() {
+            self.fed += piece.len() as u64;
+            return Ok(());
+        }
+        self.compact();
+        self.append(piece)
+    }
+
+    /// The next message of the stream, or `None` while it waits for more bytes. It takes memory for a whole item
+    /// alone, and after `OutOfMemory` it can be asked again. Every other fault lasts.
+    pub fn next(&mut self) -> Result<Option<Message>, CutFault>
+        ensures answers { (past : Past) → Stands self.old past → AnswersNext (cut_limit self.old) past past.fault result }
+        ensures then { (past : Past) → Stands self.old past → Stands self.new (after_next past result) }
+        ensures count { fed_count self.new ≡ fed_count self.old }
+        ensures limit { cut_limit self.new ≡ cut_limit self.old }
+    {
+        if let Some(fault) = self.fault {
+            return Err(fault);
+        }
+        match self.find() {
+            Ok(Some(used)) => match self.take_message(used) {
+                Ok(message) => Ok(Some(message)),
+                Err(fault) => Err(fault),
+            },
+            Ok(None) => Ok(None),
+            Err(fault) => Err(fault),
+        }
+    }
+
+    /// How many of the bytes that were fed belong to no message that was given. After a fault that lasts it tells nothing.
+    pub fn rest(&self) -> u64
+        ensures { (past : Past) → Stands self.now past → CountsRest (cut_limit self.now) past past.fault result }
+    {
+        (self.held.len() - self.start) as u64
+    }
+
+    /// How many bytes stand before those that are kept.
+    fn before(&self) -> u64
+        ensures is { result ≡ before_of self.now }
+        ensures fits { result + length (rest_of self.now) < 2 ^ 64 }
+    {
+        self.fed - (self.held.len() - self.start) as u64
+    }
+
+    /// Moves the bytes that are kept to the front, where at least as many others stand before them.
+    fn compact(&mut self)
+        ensures same { IsSame self.old self.new }
+        ensures fault { self.new.fault ≡ self.old.fault }
+    {
+        if self.held.len() - self.start <= self.start {
+            self.held.drain(..self.start);
+            self.seen -= self.start;
+            self.start = 0;
+        }
+    }
+
+    /// Keeps more bytes, which are counted as fed. After an `Err` all is as before.
+    fn append(&mut self, piece: &[u8]) -> Result<(), OutOfMemory>
+        requires { fed_count self.old + length piece.now < 2 ^ 64 }
+        ensures ok { OnOk result (rest_of self.new ≡ rest_of self.old ++ piece.now) }
+        ensures count { OnOk result (fed_count self.new ≡ fed_count self.old + length piece.now) }
+        ensures err { OnErr result (IsSame self.old self.new) }
+        ensures limit { cut_limit self.new ≡ cut_limit self.old }
+        ensures fault { self.new.fault ≡ self.old.fault }
+    {
+        self.held.extend_from_slice(piece)?;
+        self.fed += piece.len() as u64;
+        Ok(())
+    }
+
+    /// Reads on in the bytes that are kept, and answers how many of them the item has that begins them.
+    fn find(&mut self) -> Result<Option<usize>, CutFault>
+        requires { self.old.fault ≡ None }
+        ensures answers { AnswersFound (rest_of self.old) (cut_limit self.old) (before_of self.old) result }
+        ensures same { IsSame self.old self.new }
+        ensures fault { self.new.fault ≡ fault_in result }
+        ensures back { IfOk result (λ found. IfSome found (λ used. self.new.seen ≡ self.new.start)) }
+    {
+        let before = self.before();
+        let read = self.seen - self.start;
+        match read_rest(&mut self.reader, &self.held[self.start..], read) {
+            Ok(Some(used)) => {
+                self.seen = self.start;
+                Ok(Some(used))
+            }
+            Ok(None) => {
+                self.seen = self.held.len();
+                Ok(None)
+            }
+            Err(fault) => {
+                let cut = cut_fault(fault, before);
+                self.fault = Some(cut);
+                Err(cut)
+            }
+        }
+    }
+
+    /// Takes the message that the first so many bytes are.
+    fn take_message(&mut self, used: usize) -> Result<Message, CutFault>
+        requires open { self.old.fault ≡ None }
+        requires back { self.old.seen ≡ self.old.start }
+        requires whole { (item : DataItem) × IsWhole (rest_of self.old) (cut_limit self.old) item used }
+        ensures answers { AnswersItem (rest_of self.old) (cut_limit self.old) (before_of self.old) used result }
+        ensures rest { OnOk result (rest_of self.new ≡ drop used (rest_of self.old)) }
+        ensures err { OnErr result (rest_of self.new ≡ rest_of self.old) }
+        ensures count { fed_count self.new ≡ fed_count self.old }
+        ensures limit { cut_limit self.new ≡ cut_limit self.old }
+        ensures fault { self.new.fault ≡ fault_in result }
+    {
+        let end = self.start + used;
+        match message_of_bytes(self.alloc, &self.held[self.start..end]) {
+            Ok(Some(message)) => {
+                self.start = end;
+                self.seen = end;
+                Ok(message)
+            }
+            Ok(None) => {
+                let fault = CutFault::NotMessage { at: self.before() };
+                self.fault = Some(fault);
+                Err(fault)
+            }
+            Err(OutOfMemory) => Err(CutFault::OutOfMemory),
+        }
+    }
+}
