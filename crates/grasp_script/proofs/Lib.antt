@@ -1,0 +1,8 @@
+pub mod Beginnings
+pub mod EventLaws
+pub mod EventLines
+pub mod HeaderRead
+pub mod LinesRead
+pub mod Pushed
+pub mod Splitting
+pub mod WholeWords

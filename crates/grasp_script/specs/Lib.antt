@@ -1,0 +1,5 @@
+pub mod Event
+pub mod Grammar
+pub mod Laws
+pub mod Report
+pub mod Script

@@ -1,0 +1,69 @@
+//! What happens in a world of two nodes.
+
+use grasp_types::{Value, Verdict};
+
+/// One of the two nodes.
+#[derive(Clone, Copy, Debug, PartialEq, Eq)]
+pub enum End {
+    /// The node that requests, at the stream's near end.
+    Near,
+    /// The node that listens, at its far end.
+    Far,
+}
+
+/// What happens. A handle is named by its number at the node.
+#[derive(Debug, Drop)]
+pub enum Event {
+    /// The clock of a node shows this reading, in milliseconds, or a later one that it has shown.
+    Clock {
+        end: End,
+        millis: u64,
+    },
+    /// The agent of the near node requests a negotiation, with this value and loop count and a timeout of 60000 ms.
+    Request {
+        value: Value,
+        loops: u8,
+    },
+    /// The agent of the far node asks for a request that came.
+    Listen,
+    /// The agent of a node makes an offer.
+    Step {
+        end: End,
+        handle: u64,
+        value: Value,
+    },
+    /// It asks for more time, in milliseconds.
+    Wait {
+        end: End,
+        handle: u64,
+        millis: u32,
+    },
+    /// It accepts the last offer, or declines.
+    Finish {
+        end: End,
+        handle: u64,
+        verdict: Verdict,
+    },
+    /// It calls what came invalid.
+    Invalid {
+        end: End,
+        handle: u64,
+        detail: Value,
+    },
+    /// It asks how its session stands.
+    Poll {
+        end: End,
+        handle: u64,
+    },
+    /// The stream that the near node dialled is opened at the far node.
+    Arrive,
+    /// The next so many bytes, or all that are left, are delivered to this end.
+    Bytes {
+        end: End,
+        count: u64,
+    },
+    /// This end is told that the stream is closed, and gets nothing more.
+    Cut {
+        end: End,
+    },
+}
