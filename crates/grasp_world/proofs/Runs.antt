@@ -16,11 +16,7 @@ use Rattle.grasp_world.specs.declared.event.Event.TheVariants as event
 use Rattle.grasp_world.specs.World.{EndState, WorldState, first_world, end_at, with_end, the_timeout, began, expiry, held, waiting_in, sent_to, whole_in, is_reached, hearing}
 use Rattle.grasp_world.specs.Steps.{Answer, side_of, asked, requests, listens, says, polls, arrives, delivered_to, delivers, closes, step, after_all}
 use Rattle.grasp_world.specs.Laws.{IsSafe}
-
--- a list of moves leads to this talk
-pub record Ran (t : Talk) : Type 0 where
-  pub moves : List Move
-  pub ran : t ≡ run quiet moves
+use Rattle.grasp_world.specs.Stands.{Ran}
 
 -- this lemma belongs to the talks of grasp_session
 pub run_append : (t : Talk) (a b : List Move) → run t (a ++ b) ≡ run (run t a) b
@@ -70,7 +66,7 @@ polls_ran w side number (Some v) e r = rw e (end_ran w side _ w.talk r)
 arrives_ran : (w : WorldState) → Ran w.talk → Ran (arrives w).world.talk
 arrives_ran w r = either_ran _ _ _ r r
 
-delivered_ran : (w : WorldState) (side : Side) (count : ℕ) → Ran w.talk → Ran (delivered_to w side count).talk
+pub delivered_ran : (w : WorldState) (side : Side) (count : ℕ) → Ran w.talk → Ran (delivered_to w side count).talk
 delivered_ran w side count r =
     end_ran w side _ _ (ran_more w.talk (hearing side (end_at w side).reading (length (whole_in count (sent_to side w.talk)) - length (party w.talk side).taken) (party w.talk side).stage) r)
 

@@ -2,3 +2,10 @@ pub mod World
 pub mod Steps
 pub mod Whole
 pub mod Laws
+pub mod Saying
+pub mod Short
+pub mod Seat
+pub mod Node
+pub mod Delivery
+pub mod Stands
+pub mod Begun

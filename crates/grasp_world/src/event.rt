@@ -1,5 +1,8 @@
 //! What happens in a world of two nodes.
 
+ghost use Rattle.std.specs.Prelude.{◌≡◌, IfOk};
+
+use grasp_cbor::OutOfMemory;
 use grasp_types::{Value, Verdict};
 
 /// One of the two nodes.
@@ -66,4 +69,65 @@ pub enum Event {
     Cut {
         end: End,
     },
+}
+
+impl Event {
+    /// Another of the same event.
+    pub fn copy(&self) -> Result<Event, OutOfMemory>
+        ensures { IfOk result (λ r. r ≡ self.now) }
+    {
+        match *self {
+            Event::Clock { end, millis } => Ok(Event::Clock { end, millis }),
+            Event::Request { ref value, loops } => {
+                let value = value.copy()?;
+                Ok(Event::Request { value, loops })
+            }
+            Event::Listen => Ok(Event::Listen),
+            Event::Step {
+                end,
+                handle,
+                ref value,
+            } => {
+                let value = value.copy()?;
+                Ok(Event::Step { end, handle, value })
+            }
+            Event::Wait {
+                end,
+                handle,
+                millis,
+            } => Ok(Event::Wait {
+                end,
+                handle,
+                millis,
+            }),
+            Event::Finish {
+                end,
+                handle,
+                ref verdict,
+            } => {
+                let verdict = verdict.copy()?;
+                Ok(Event::Finish {
+                    end,
+                    handle,
+                    verdict,
+                })
+            }
+            Event::Invalid {
+                end,
+                handle,
+                ref detail,
+            } => {
+                let detail = detail.copy()?;
+                Ok(Event::Invalid {
+                    end,
+                    handle,
+                    detail,
+                })
+            }
+            Event::Poll { end, handle } => Ok(Event::Poll { end, handle }),
+            Event::Arrive => Ok(Event::Arrive),
+            Event::Bytes { end, count } => Ok(Event::Bytes { end, count }),
+            Event::Cut { end } => Ok(Event::Cut { end }),
+        }
+    }
 }

@@ -1,12 +1,19 @@
 //! Two nodes that negotiate over one stream: events, what each of them is answered, and what holds of every run.
 //!
-//! The definitions are whole; the code that runs a world is still to come.
+//! `World` is such a world that runs. Whatever happens in it, its answers and its state are those of the definitions, of
+//! which the laws hold.
 #![tactic(auto)]
 
+mod delivery;
 mod event;
 mod laws;
+mod node;
 mod report;
+mod saying;
+mod seat;
+mod world;
 
 pub use event::{End, Event};
 pub use laws::{cutters_give_whole, every_run_is_safe};
 pub use report::Report;
+pub use world::World;

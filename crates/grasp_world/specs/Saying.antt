@@ -1,0 +1,11 @@
+-- What an agent says in its session, as the session's moves see it.
+use Rattle.std.specs.Prelude.{Some}
+use Rattle.grasp_session.specs.Transcript as transcript
+use Rattle.grasp_world.specs.declared.saying.Saying.{Saying}
+use Rattle.grasp_world.specs.declared.saying.Saying.TheVariants.{Step, Wait, End, Invalid}
+
+abbrev pub saying_of : Saying → transcript.Saying
+saying_of (Step value) = transcript.SayStep value
+saying_of (Wait millis) = transcript.SayWait millis
+saying_of (End verdict) = transcript.SayEnd verdict
+saying_of (Invalid detail) = transcript.SayInvalid (Some detail)
