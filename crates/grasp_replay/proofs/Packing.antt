@@ -1,5 +1,5 @@
 -- Lines as far as they are packed.
-use Rattle.std.proofs.Common.{◌≡◌, ◌≢◌, ◌<◌, ◌≤◌, ◌+◌, ◌-◌, ◌==◌, ℕ, zero, suc, Bool, true, false, List, [], ◌∷◌, ◌++◌, None, Some, length, get_or, take, drop, map, refl, sym, ap, ◌∙◌, append_assoc, append-nil, arith, subst, rules, length-append, if◌then◌else◌}
+use Rattle.std.proofs.Common.{◌≡◌, ◌≢◌, ◌<◌, ◌≤◌, ◌+◌, ◌-◌, ◌==◌, ℕ, zero, suc, Bool, true, false, List, [], ◌∷◌, ◌++◌, None, Some, length, get_or, take, drop, map, refl, sym, ap, ◌∙◌, append_assoc, append-nil, arith, subst, rules, length-append}
 use Rattle.std.proofs.lemmas.List.{length-map}
 use Rattle.std.specs.List.{All}
 use Rattle.std.proofs.lemmas.List.{take_all, length-drop}
@@ -13,6 +13,7 @@ use Rattle.grasp_wire.specs.Laws.{encoded}
 use Rattle.grasp_replay.specs.Lines.{lines_in, onto_first}
 use Rattle.grasp_replay.specs.Pack.{CanPack, IsPacked, IsRefused, Packs}
 use Rattle.grasp_replay.specs.declared.exit.Finding.{Finding}
+use Rattle.grasp_replay.proofs.Counting.{few_lines}
 
 not_true : (b : Bool) → ¬ (b ≡ true) → b ≡ false
 not_true true h = absurd (h refl)
@@ -95,19 +96,6 @@ packed_to limit input rest text others output more count finding h lines p = rec
   output_is = p.0 ∙ h.output_is;
   stops = record { text = text; others = lines_in others; first = lines; refused = subst (λ (n : ℕ). IsRefused limit text (n + 1) finding) h.count_is p.1 };
 }
-
-onto_first-length : (b : ℕ) (ls : List (List ℕ)) → length (onto_first b ls) ≤ length ls + 1
-onto_first-length b [] = omega arith
-onto_first-length b (l ∷ ls) = omega arith
-
-one_more : (c : Bool) (b n : ℕ) (ls : List (List ℕ)) → length ls ≤ n → length (if c then [] ∷ ls else onto_first b ls) ≤ n + 1
-one_more true b n ls h = omega (arith, h)
-one_more false b n ls h = omega (arith, h, onto_first-length b ls)
-
--- there are never more lines than bytes
-few_lines : (s : List ℕ) → length (lines_in s) ≤ length s
-few_lines [] = omega arith
-few_lines (b ∷ s) = omega (arith, one_more (b == 10) b (length s) (lines_in s) (few_lines s))
 
 -- while a line is left, fewer were packed than there are bytes
 pub room_for_one : (limit : ℕ) (input rest output text : List ℕ) (others : List (List ℕ)) (count : ℕ) → HasPacked limit input rest output count → lines_in rest ≡ text ∷ others

@@ -1,5 +1,5 @@
 -- What the tasks make of one input, and of whole inputs.
-use Rattle.std.proofs.Common.{◌≡◌, ◌<◌, ◌+◌, ℕ, List, [], ◌∷◌, ◌++◌, Option, None, Some, Result, Ok, Err, IfOk, length, map, refl, sym, ap, ◌∙◌, append-nil, append_assoc, length-append, arith, subst, ◌⊎◌, inl, inr}
+use Rattle.std.proofs.Common.{◌≡◌, ◌<◌, ◌+◌, ℕ, List, [], ◌∷◌, ◌++◌, Option, None, Some, length, map, refl, sym, ap, ◌∙◌, append-nil, append_assoc, length-append, arith, subst, ◌⊎◌, inl, inr}
 use Rattle.std.specs.List.{All}
 use Rattle.std.proofs.lemmas.List.Elements.{All-head, All-tail}
 use Rattle.grasp_cbor.specs.Bytes.{AllBytes}
@@ -14,25 +14,32 @@ use Rattle.grasp_text.specs.Line.{line_of, IsLineOf, CanBegin}
 use Rattle.grasp_text.specs.Place.{IsPlace, IsUnfit}
 use Rattle.grasp_text.specs.Words.{words_of, joined}
 use Rattle.grasp_text.proofs.Lines.{line_one}
+use Rattle.grasp_script.specs.Report.{header_text}
+use Rattle.grasp_script.proofs.Beginnings.{one_script}
 use Rattle.grasp_wire.specs.Laws.{encoded}
 use Rattle.grasp_cbor.specs.declared.walker.FaultName.{FaultName}
 use Rattle.grasp_cbor.specs.declared.walker.FaultName.TheVariants as name
 use Rattle.grasp_wire.specs.Reads.{named}
 use Rattle.grasp_wire.specs.Stream.{Divides, RestKind, waiting, too_long, not_message, faulty, IsRest}
 use Rattle.grasp_wire.specs.Wire.{AreWireForms}
+use Rattle.grasp_world.specs.World.{first_world}
 use Rattle.grasp_wire.proofs.Dividing.{one_division, one_kind}
 use Rattle.grasp_wire.proofs.Joins.{divides_alone, divides_more}
 use Rattle.grasp_replay.specs.Laws.{AreLines, IsWholeInput, TasksAreFunctions, WholeInputsEndWell}
 use Rattle.grasp_replay.specs.Lines.{lines_of}
 use Rattle.grasp_replay.specs.Pack.{CanPack, IsRefused, StopsAt, Packs}
+use Rattle.grasp_replay.specs.Ending.{status_of}
+use Rattle.grasp_replay.specs.Replay.{reports_from, Replays}
 use Rattle.grasp_replay.specs.Show.{Shows, truncated, rest_finding}
-use Rattle.grasp_replay.specs.Task.{Makes, IsOfInput}
+use Rattle.grasp_replay.specs.Task.{ShowMakes, PackMakes, ReplayMakes, Makes, IsOfInput, IsDone, IsUnmade}
 use Rattle.grasp_replay.specs.declared.exit.Finding.{Finding}
 use Rattle.grasp_replay.specs.declared.exit.Finding.TheVariants.{Cut, Truncated, BadText, TooLong}
-use Rattle.grasp_cbor.specs.declared.memory.OutOfMemory.{OutOfMemory}
-use Rattle.grasp_replay.specs.declared.made.Made.{Made}
+use Rattle.grasp_replay.specs.declared.exit.Status.{Status}
+use Rattle.grasp_replay.specs.declared.exit.Status.TheVariants as status
+use Rattle.grasp_replay.specs.declared.made.Unmade.{Unmade}
+use Rattle.grasp_replay.specs.declared.made.Unmade.TheVariants as unmade
 use Rattle.grasp_replay.specs.declared.task.Task.{Task}
-use Rattle.grasp_replay.specs.declared.task.Task.TheVariants.{Show, Pack}
+use Rattle.grasp_replay.specs.declared.task.Task.TheVariants.{Show, Pack, Replay}
 
 -- a stream divides in one way
 
@@ -177,47 +184,136 @@ packs_one limit input a b f g x y =
 packs_whole : (limit : ℕ) (ms : List Message) (input : List ℕ) → AreLines limit input ms → Packs limit input (encoded ms) None
 packs_whole limit ms input l = record { messages = ms; others = []; lines = l.lines ∙ sym (append-nil (map line_of ms)); can = l.can; output_is = refl; stops = refl }
 
+-- a script is run in one way
+
+replays_one : (input a b : List ℕ) → Replays input a → Replays input b → a ≡ b
+replays_one input a b x y = x.output_is ∙ ap (λ ls. header_text ++ reports_from first_world ls) (one_script input x.lines y.lines x.script y.script) ∙ sym y.output_is
+
+-- the status is that of a finding, or of none, of which P holds
+pub record HasFinding (P : Option Finding → Type 0) (s : Status) : Type 0 where
+  pub finding : Option Finding
+  pub is : s ≡ status_of finding
+  pub holds : P finding
+
+show_finding : (limit : ℕ) (input output : List ℕ) (s : Status) → ShowMakes limit input output s → HasFinding (Shows limit input output) s
+show_finding limit input output status.Ok x = record { finding = None; is = refl; holds = x }
+show_finding limit input output (status.Finding f) x = record { finding = Some f; is = refl; holds = x }
+show_finding limit input output status.Usage x = absurd x
+show_finding limit input output (status.BadScript line) x = absurd x
+show_finding limit input output status.ReadFault x = absurd x
+show_finding limit input output status.WriteFault x = absurd x
+show_finding limit input output status.OutOfMemory x = absurd x
+show_finding limit input output status.TooLarge x = absurd x
+
+pack_finding : (limit : ℕ) (input output : List ℕ) (s : Status) → PackMakes limit input output s → HasFinding (Packs limit input output) s
+pack_finding limit input output status.Ok x = record { finding = None; is = refl; holds = x }
+pack_finding limit input output (status.Finding f) x = record { finding = Some f; is = refl; holds = x }
+pack_finding limit input output status.Usage x = absurd x
+pack_finding limit input output (status.BadScript line) x = absurd x
+pack_finding limit input output status.ReadFault x = absurd x
+pack_finding limit input output status.WriteFault x = absurd x
+pack_finding limit input output status.OutOfMemory x = absurd x
+pack_finding limit input output status.TooLarge x = absurd x
+
+-- `replay` ends well
+replay_ok : (input output : List ℕ) (s : Status) → ReplayMakes input output s → (s ≡ status.Ok) × Replays input output
+replay_ok input output status.Ok x = (refl, x)
+replay_ok input output (status.Finding f) x = absurd x
+replay_ok input output status.Usage x = absurd x
+replay_ok input output (status.BadScript line) x = absurd x
+replay_ok input output status.ReadFault x = absurd x
+replay_ok input output status.WriteFault x = absurd x
+replay_ok input output status.OutOfMemory x = absurd x
+replay_ok input output status.TooLarge x = absurd x
+
+same_status : (s t : Status) (f g : Option Finding) → s ≡ status_of f → t ≡ status_of g → f ≡ g → s ≡ t
+same_status s t f g is_s is_t e = is_s ∙ ap status_of e ∙ sym is_t
+
 pub tasks_are_functions : TasksAreFunctions
-tasks_are_functions Show limit input a b f g some bytes x y = shows_one limit input a b f g bytes x y
-tasks_are_functions Pack limit input a b f g some bytes x y = packs_one limit input a b f g x y
+tasks_are_functions Show limit input a b s t some bytes x y =
+    let p = show_finding limit input a s x in
+    let q = show_finding limit input b t y in
+    let one = shows_one limit input a b p.finding q.finding bytes p.holds q.holds in
+    (one.0, same_status s t p.finding q.finding p.is q.is one.1)
+tasks_are_functions Pack limit input a b s t some bytes x y =
+    let p = pack_finding limit input a s x in
+    let q = pack_finding limit input b t y in
+    let one = packs_one limit input a b p.finding q.finding p.holds q.holds in
+    (one.0, same_status s t p.finding q.finding p.is q.is one.1)
+tasks_are_functions Replay limit input a b s t some bytes x y =
+    let p = replay_ok input a s x in
+    let q = replay_ok input b t y in
+    (replays_one input a b p.1 q.1, p.0 ∙ sym q.0)
 
 pub whole_inputs_end_well : WholeInputsEndWell
-whole_inputs_end_well Show limit input output finding some bytes whole x = (shows_one limit input output (lines_of whole.0) finding None bytes x (shows_whole limit whole.0 input some whole.1)).1
-whole_inputs_end_well Pack limit input output finding some bytes whole x = (packs_one limit input output (encoded whole.0) finding None x (packs_whole limit whole.0 input whole.1)).1
+whole_inputs_end_well Show limit input output ended some bytes whole x =
+    (tasks_are_functions Show limit input output (lines_of whole.0) ended status.Ok some bytes x (shows_whole limit whole.0 input some whole.1)).1
+whole_inputs_end_well Pack limit input output ended some bytes whole x =
+    (tasks_are_functions Pack limit input output (encoded whole.0) ended status.Ok some bytes x (packs_whole limit whole.0 input whole.1)).1
+whole_inputs_end_well Replay limit input output ended some bytes whole x = (replay_ok input output ended x).0
 
 -- no finding of a task is want of memory
 
-truncated_found : (before : ℕ) (rest : List ℕ) (f : Option Finding) → f ≡ truncated before rest → IsOfInput f
+truncated_found : (before : ℕ) (rest : List ℕ) (f : Option Finding) → f ≡ truncated before rest → IsOfInput (status_of f)
 truncated_found before [] f e = rw e tt
 truncated_found before (b ∷ rest) f e = rw e tt
 
-named_found : (fault : FaultName) (place : ℕ) (f : Option Finding) → f ≡ Some (Cut (named fault place)) → IsOfInput f
+named_found : (fault : FaultName) (place : ℕ) (f : Option Finding) → f ≡ Some (Cut (named fault place)) → IsOfInput (status_of f)
 named_found name.Malformed place f e = rw e tt
 named_found name.Indefinite place f e = rw e tt
 named_found name.NotText place f e = rw e tt
 named_found name.TooDeep place f e = rw e tt
 
-rest_found : (before : ℕ) (rest : List ℕ) (kind : RestKind) (f : Option Finding) → f ≡ rest_finding before rest kind → IsOfInput f
+rest_found : (before : ℕ) (rest : List ℕ) (kind : RestKind) (f : Option Finding) → f ≡ rest_finding before rest kind → IsOfInput (status_of f)
 rest_found before rest waiting f e = truncated_found before rest f e
 rest_found before rest too_long f e = rw e tt
 rest_found before rest not_message f e = rw e tt
 rest_found before rest (faulty fault place) f e = named_found fault (before + place) f e
 
-stop_found : (limit k : ℕ) (lines : List (List ℕ)) (f : Option Finding) → StopsAt limit k lines f → IsOfInput f
+stop_found : (limit k : ℕ) (lines : List (List ℕ)) (f : Option Finding) → StopsAt limit k lines f → IsOfInput (status_of f)
 stop_found limit k lines None x = tt
 stop_found limit k lines (Some (BadText line at)) x = tt
 stop_found limit k lines (Some (TooLong line)) x = tt
 stop_found limit k lines (Some (Cut fault)) x = absurd x.refused
 stop_found limit k lines (Some (Truncated at)) x = tt
 
-pub makes_found : (task : Task) (limit : ℕ) (input output : List ℕ) (f : Option Finding) → Makes task limit input output f → IsOfInput f
-makes_found Show limit input output f x = rest_found (length x.front) x.rest x.kind f x.finding_is
-makes_found Pack limit input output f x = stop_found limit (length x.messages) x.others f x.stops
+pub makes_found : (task : Task) (limit : ℕ) (input output : List ℕ) (s : Status) → Makes task limit input output s → IsOfInput s
+makes_found Show limit input output s x =
+    let p = show_finding limit input output s x in
+    subst IsOfInput (sym p.is) (rest_found (length p.holds.front) p.holds.rest p.holds.kind p.finding p.holds.finding_is)
+makes_found Pack limit input output s x =
+    let p = pack_finding limit input output s x in
+    subst IsOfInput (sym p.is) (stop_found limit (length p.holds.messages) p.holds.others p.finding p.holds.stops)
+makes_found Replay limit input output s x = subst IsOfInput (sym (replay_ok input output s x).0) tt
 
--- a whole input has no finding
+-- what a task makes is done once it is written
 
-pub make_whole : (task named : Task) (limit : ℕ) (input : List ℕ) (r : Result Made OutOfMemory) → 0 < limit → AllBytes input → task ≡ named
-    → IfOk r (λ made. Makes named limit input made.output.items made.finding) → IfOk r (λ made. IsWholeInput task limit input → made.finding ≡ None)
-make_whole task named limit input (Ok made) some bytes is makes = λ whole.
-    whole_inputs_end_well named limit input made.output.items made.finding some bytes (subst (λ (t : Task). IsWholeInput t limit input) is whole) makes
-make_whole task named limit input (Err e) some bytes is makes = tt
+finding_done : (f : Option Finding) → IsDone (status_of f)
+finding_done None = tt
+finding_done (Some f) = tt
+
+pub makes_done : (task : Task) (limit : ℕ) (input output : List ℕ) (s : Status) → Makes task limit input output s → IsDone s
+makes_done Show limit input output s x = let p = show_finding limit input output s x in subst IsDone (sym p.is) (finding_done p.finding)
+makes_done Pack limit input output s x = let p = pack_finding limit input output s x in subst IsDone (sym p.is) (finding_done p.finding)
+makes_done Replay limit input output s x = subst IsDone (sym (replay_ok input output s x).0) tt
+
+-- the status of what `show` found
+pub show_made : (limit : ℕ) (input output : List ℕ) (f : Option Finding) (s : Status) → s ≡ status_of f → Shows limit input output f → ShowMakes limit input output s
+show_made limit input output None s is x = rw is x
+show_made limit input output (Some f) s is x = rw is x
+
+-- what is made of a whole input ends well
+
+pub made_whole : (task named : Task) (limit : ℕ) (input output : List ℕ) (s : Status) → 0 < limit → AllBytes input → task ≡ named → Makes named limit input output s
+    → IsWholeInput task limit input → s ≡ status.Ok
+made_whole task named limit input output s some bytes is makes whole = whole_inputs_end_well named limit input output s some bytes (subst (λ (t : Task). IsWholeInput t limit input) is whole) makes
+
+-- a whole input is made something of, unless memory is wanted
+pub whole_made : (task : Task) (limit : ℕ) (input : List ℕ) (u : Unmade) → IsUnmade task input u → IsWholeInput task limit input → u ≡ unmade.OutOfMemory
+whole_made task limit input unmade.OutOfMemory x whole = refl
+whole_made Show limit input unmade.TooLarge x whole = absurd x
+whole_made Pack limit input unmade.TooLarge x whole = absurd x
+whole_made Replay limit input unmade.TooLarge x whole = let few = whole.1.few in absurd (omega (arith, x, few))
+whole_made Show limit input (unmade.BadScript line) x whole = absurd x.0
+whole_made Pack limit input (unmade.BadScript line) x whole = absurd x.0
+whole_made Replay limit input (unmade.BadScript line) x whole = absurd (x.0.1 whole.0 whole.1.script)

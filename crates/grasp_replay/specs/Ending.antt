@@ -1,5 +1,5 @@
 -- How the program ends: the number that it exits with, and the line that it prints on standard error.
-use Rattle.std.specs.Prelude.{ℕ, List, [], ◌∷◌, ◌++◌, codes, decimal}
+use Rattle.std.specs.Prelude.{ℕ, List, [], ◌∷◌, ◌++◌, Option, None, Some, codes, decimal}
 use Rattle.grasp_text.specs.Words.{spaced}
 use Rattle.grasp_wire.specs.declared.fault.CutFault.{CutFault}
 use Rattle.grasp_wire.specs.declared.fault.CutFault.TheVariants as cut
@@ -7,12 +7,13 @@ use Rattle.grasp_replay.specs.declared.exit.Finding.{Finding}
 use Rattle.grasp_replay.specs.declared.exit.Finding.TheVariants as finding
 use Rattle.grasp_replay.specs.declared.exit.Status.{Status}
 use Rattle.grasp_replay.specs.declared.exit.Status.TheVariants as status
-use Rattle.grasp_replay.specs.declared.exit.Status.TheVariants.{Ok, Usage, ReadFault, WriteFault, OutOfMemory, TooLarge}
+use Rattle.grasp_replay.specs.declared.exit.Status.TheVariants.{Ok, Usage, BadScript, ReadFault, WriteFault, OutOfMemory, TooLarge}
 
 abbrev pub number_of : Status → ℕ
 number_of Ok = 0
 number_of (status.Finding f) = 1
 number_of Usage = 2
+number_of (BadScript line) = 3
 number_of ReadFault = 4
 number_of WriteFault = 5
 number_of OutOfMemory = 6
@@ -42,15 +43,22 @@ abbrev pub fault_line_of : Status → List ℕ
 fault_line_of Ok = []
 fault_line_of (status.Finding f) = finding_line f
 fault_line_of Usage = codes "usage: grasp_replay show|pack|replay|gen N"
+fault_line_of (BadScript line) = numbered (codes "bad script in line") line
 fault_line_of ReadFault = codes "read fault"
 fault_line_of WriteFault = codes "write fault"
 fault_line_of OutOfMemory = codes "out of memory"
 fault_line_of TooLarge = codes "too large"
 
+-- the status with this finding, or with none
+abbrev pub status_of : Option Finding → Status
+status_of None = Ok
+status_of (Some f) = status.Finding f
+
 -- the input was surely read whole before the program ended so
 abbrev pub IsAfterInput : Status → Type 0
 IsAfterInput Ok = Unit {0}
 IsAfterInput (status.Finding f) = Unit {0}
+IsAfterInput (BadScript line) = Unit {0}
 IsAfterInput WriteFault = Unit {0}
 IsAfterInput Usage = ⊥
 IsAfterInput ReadFault = ⊥

@@ -2,6 +2,7 @@ pub mod Ending
 pub mod Laws
 pub mod Lines
 pub mod Pack
+pub mod Replay
 pub mod Show
 pub mod Step
 pub mod Task

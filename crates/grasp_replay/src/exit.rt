@@ -1,6 +1,6 @@
 // How the program ends.
 ghost use Rattle.std.specs.Prelude.{◌≡◌, IfOk};
-ghost use Rattle.grasp_replay.specs.Ending.{number_of, fault_line_of, finding_line, cut_line, numbered};
+ghost use Rattle.grasp_replay.specs.Ending.{number_of, fault_line_of, finding_line, cut_line, numbered, status_of};
 
 use grasp_cbor::{Chars, OutOfMemory};
 use grasp_text::push_number;
@@ -29,13 +29,16 @@ pub enum Status {
     Finding(Finding),
     /// The words are no call of the program.
     Usage,
+    /// The input is no script: the number of the first line with which, after the lines before it, no script begins, or
+    /// the number after the last line where a line of the header is missing. Nothing was written.
+    BadScript { line: u64 },
     /// A read failed.
     ReadFault,
     /// A write failed.
     WriteFault,
     /// There was no memory for the call.
     OutOfMemory,
-    /// The input has more than 16,777,216 bytes.
+    /// The input has more than 16,777,216 bytes, or it is to be run as a script and has more than 200,000 lines.
     TooLarge,
 }
 
@@ -48,11 +51,22 @@ impl Status {
             Status::Ok => 0,
             Status::Finding(_) => 1,
             Status::Usage => 2,
+            Status::BadScript { .. } => 3,
             Status::ReadFault => 4,
             Status::WriteFault => 5,
             Status::OutOfMemory => 6,
             Status::TooLarge => 7,
         }
+    }
+}
+
+/// How the program ends with this finding, once all is written.
+pub fn status_of(finding: Option<Finding>) -> Status
+    ensures { result ≡ status_of finding }
+{
+    match finding {
+        Some(finding) => Status::Finding(finding),
+        None => Status::Ok,
     }
 }
 
@@ -64,6 +78,7 @@ pub fn fault_line(alloc: Global, status: &Status) -> Result<Chars, OutOfMemory>
         Status::Ok => Ok(Chars::new(alloc)),
         Status::Finding(finding) => finding_line(alloc, finding),
         Status::Usage => Chars::of(alloc, "usage: grasp_replay show|pack|replay|gen N"),
+        Status::BadScript { line } => numbered(alloc, "bad script in line", *line),
         Status::ReadFault => Chars::of(alloc, "read fault"),
         Status::WriteFault => Chars::of(alloc, "write fault"),
         Status::OutOfMemory => Chars::of(alloc, "out of memory"),

@@ -1,11 +1,16 @@
-//! A tool for GRASP (RFC 8990): `show` writes a line for each message of a stream, `pack` a message for each line.
+//! A tool for GRASP (RFC 8990): `show` writes a line for each message of a stream, `pack` a message for each line, and
+//! `replay` what each event of a script of two nodes comes to.
 #![tactic(auto)]
 
 mod exit;
 mod laws;
+mod lines;
 mod made;
 mod pack;
 mod replay;
+#[cfg(test)]
+mod script_tests;
+mod scripts;
 mod show;
 mod start;
 mod task;

@@ -1,19 +1,19 @@
 // `pack`: the messages of lines.
-ghost use Rattle.std.specs.Prelude.{◌≡◌, ◌≢◌, ◌<◌, ◌∷◌, ◌++◌, [], length, IfOk};
-ghost use Rattle.grasp_replay.specs.Lines.{lines_in};
-ghost use Rattle.grasp_replay.specs.Pack.{Packs, PacksLine};
+ghost use Rattle.std.specs.Prelude.{IfOk};
+ghost use Rattle.grasp_replay.specs.Pack.{PacksLine};
+ghost use Rattle.grasp_replay.specs.Task.{PackMakes};
 
-use crate::exit::Finding;
+use crate::exit::{Finding, Status};
+use crate::lines::split_line;
 use crate::made::Made;
 use grasp_cbor::OutOfMemory;
 use grasp_text::{TextFault, message_of};
 use grasp_wire::{EncodeFault, encode};
-use memchr::memchr;
 use std::alloc::Global;
 
 /// Makes the shortest encodings of the messages whose lines the input is. Each has at most `limit` bytes.
 pub fn pack(alloc: Global, input: &[u8], limit: u32) -> Result<Made, OutOfMemory>
-    ensures { IfOk result (λ made. Packs limit input.now made.output.items made.finding) }
+    ensures { IfOk result (λ made. PackMakes limit input.now made.output.items made.status) }
 {
     let mut output = Vec::new(alloc);
     let mut rest = input;
@@ -24,14 +24,14 @@ pub fn pack(alloc: Global, input: &[u8], limit: u32) -> Result<Made, OutOfMemory
         if let Some(finding) = pack_line(alloc, &mut output, text, line, limit)? {
             return Ok(Made {
                 output,
-                finding: Some(finding),
+                status: Status::Finding(finding),
             });
         }
         rest = after;
     }
     Ok(Made {
         output,
-        finding: None,
+        status: Status::Ok,
     })
 }
 
@@ -53,17 +53,5 @@ fn pack_line(
         },
         Err(TextFault::BadText { at }) => Ok(Some(Finding::BadText { line, at })),
         Err(TextFault::OutOfMemory) => Err(OutOfMemory),
-    }
-}
-
-/// The first line, without its line feed, and what comes behind it.
-fn split_line(text: &[u8]) -> (&[u8], &[u8])
-    requires { text.now ≢ [] }
-    ensures first { lines_in text.now ≡ result.0.now ∷ lines_in result.1.now }
-    ensures less { length result.1.now < length text.now }
-{
-    match memchr(b'\n', text) {
-        Some(end) => (&text[..end], &text[end + 1..]),
-        None => (text, &[]),
     }
 }

@@ -1,17 +1,17 @@
 // The program's one call.
-ghost use Rattle.std.specs.Prelude.{◌≡◌, ◌≢◌, ◌<◌, ◌≤◌, ◌⊎◌, ℕ, List, Some, None, map, length, string_bytes, IfOk, IfSome, IsSome};
+ghost use Rattle.std.specs.Prelude.{◌≡◌, ◌≢◌, ◌⊎◌, ℕ, List, Some, None, map, length, string_bytes, IfOk, IfErr, IfSome, IsSome};
 ghost use Rattle.grasp_io.specs.Faults.{Rose};
 ghost use Rattle.grasp_replay.specs.Ending.{IsAfterInput};
 ghost use Rattle.grasp_replay.specs.Laws.{IsWholeInput};
-ghost use Rattle.grasp_replay.specs.Task.{task_of, Makes, Tells, BeginsToTell, IsReadToEnd, IsDone, IsOfInput, finding_in, IsOutcome, IsOkOrMemory};
+ghost use Rattle.grasp_replay.specs.Task.{task_of, Makes, Tells, BeginsToTell, IsReadToEnd, IsDone, IsOfInput, HasTooManyLines, IsTooLarge, IsBadScript, IsUnmade, IsOutcome, IsOkOrMemory};
 ghost use Rattle.grasp_replay.specs.declared.task.Task.{Task};
 
-use crate::exit::{Finding, Status};
-use crate::made::Made;
+use crate::exit::Status;
+use crate::made::{Made, Unmade};
 use crate::pack::pack;
+use crate::scripts::replay_script;
 use crate::show::show;
 use crate::task::{Task, task_of};
-use grasp_cbor::OutOfMemory;
 use grasp_io::{ReadError, Sink, Source, read_all, write_all};
 use std::alloc::Global;
 
@@ -25,8 +25,9 @@ pub const MESSAGE_LIMIT: u32 = 2048;
 ///
 /// `show` reads the source to its end and writes a line for each message of the stream that it gives. `pack` reads lines
 /// and writes the shortest encoding of the message of each. Where the input is wrong at some place, the status is the
-/// finding, and all that comes before that place was written. `OutOfMemory` may come wherever memory is wanted; then
-/// nothing was written.
+/// finding, and all that comes before that place was written. `replay` reads a script, runs it in a world of two nodes,
+/// and writes the reports of its events. Where the input is no script, the status is `BadScript`, and nothing was
+/// written. `OutOfMemory` may come wherever memory is wanted; then nothing was written.
 pub fn replay_main<S: Source, K: Sink>(
     alloc: Global,
     words: &[String],
@@ -38,16 +39,22 @@ pub fn replay_main<S: Source, K: Sink>(
     ensures no_usage { IsSome (task_of (map string_bytes words.now)) → result ≢ Status.Usage }
     ensures unread { result ≡ Status.Usage → source.new ≡ source.old }
 
-    // Then the input is read to its end, at most 16,777,216 bytes.
+    // Then the input is read to its end, at most 16,777,216 bytes, and for `replay` at most 200,000 lines.
     ensures read_fault { result ≡ Status.ReadFault → Rose (S.faults source.old) (S.faults source.new) }
-    ensures too_large { result ≡ Status.TooLarge → IfSome (S.left source.old) (λ input. INPUT_LIMIT < length input) }
-    ensures small { IsAfterInput result → IfSome (S.left source.old) (λ input. length input ≤ INPUT_LIMIT) }
+    ensures too_large { (task : Task) → task_of (map string_bytes words.now) ≡ Some task → result ≡ Status.TooLarge
+        → IfSome (S.left source.old) (λ input. IsTooLarge task input) }
+    ensures small { (task : Task) → task_of (map string_bytes words.now) ≡ Some task → IsAfterInput result
+        → IfSome (S.left source.old) (λ input. ¬ IsTooLarge task input) }
     ensures read_to_end { IsAfterInput result → IsReadToEnd (S.left source.old) (S.left source.new) }
 
-    // Then what the task makes of it is written: all of it, up to the finding.
+    // Then a script is read, which has no bad line.
+    ensures bad_script { (task : Task) (line : ℕ) → task_of (map string_bytes words.now) ≡ Some task → result ≡ Status.BadScript line
+        → IfSome (S.left source.old) (λ input. IsBadScript task input line) }
+
+    // Then what the task makes of the input is written: all of it, up to the finding.
     ensures done { (task : Task) → task_of (map string_bytes words.now) ≡ Some task → IsDone result
-        → Tells task MESSAGE_LIMIT (S.left source.old) (K.written sink.old) (K.written sink.new) (finding_in result) }
-    ensures of_input { IsOfInput (finding_in result) }
+        → Tells task MESSAGE_LIMIT (S.left source.old) (K.written sink.old) (K.written sink.new) result }
+    ensures of_input { IsOfInput result }
     ensures write_fault { result ≡ Status.WriteFault → Rose (K.faults sink.old) (K.faults sink.new) }
     ensures begun { (task : Task) → task_of (map string_bytes words.now) ≡ Some task → result ≡ Status.WriteFault
         → BeginsToTell task MESSAGE_LIMIT (S.left source.old) (K.written sink.old) (K.written sink.new) }
@@ -56,12 +63,12 @@ pub fn replay_main<S: Source, K: Sink>(
     // Where nothing outside fails, the input alone decides, unless memory is wanted.
     ensures complete { (task : Task) → task_of (map string_bytes words.now) ≡ Some task
         → ¬ Rose (S.faults source.old) (S.faults source.new) → ¬ Rose (K.faults sink.old) (K.faults sink.new)
-        → IfSome (S.left source.old) (λ input. length input ≤ INPUT_LIMIT → IsOutcome task MESSAGE_LIMIT input result) }
+        → IfSome (S.left source.old) (λ input. ¬ IsTooLarge task input → IsOutcome task MESSAGE_LIMIT input result) }
     ensures complete_whole { (task : Task) → task_of (map string_bytes words.now) ≡ Some task
         → ¬ Rose (S.faults source.old) (S.faults source.new) → ¬ Rose (K.faults sink.old) (K.faults sink.new)
-        → IfSome (S.left source.old) (λ input. length input ≤ INPUT_LIMIT → IsWholeInput task MESSAGE_LIMIT input → IsOkOrMemory result) }
-    ensures complete_large { IsSome (task_of (map string_bytes words.now)) → ¬ Rose (S.faults source.old) (S.faults source.new)
-        → IfSome (S.left source.old) (λ input. INPUT_LIMIT < length input → (result ≡ Status.TooLarge) ⊎ (result ≡ Status.OutOfMemory)) }
+        → IfSome (S.left source.old) (λ input. ¬ IsTooLarge task input → IsWholeInput task MESSAGE_LIMIT input → IsOkOrMemory result) }
+    ensures complete_large { (task : Task) → task_of (map string_bytes words.now) ≡ Some task → ¬ Rose (S.faults source.old) (S.faults source.new)
+        → IfSome (S.left source.old) (λ input. IsTooLarge task input → (result ≡ Status.TooLarge) ⊎ (result ≡ Status.OutOfMemory)) }
 {
     match task_of(words) {
         Some(task) => run(alloc, task, source, sink),
@@ -73,15 +80,17 @@ pub fn replay_main<S: Source, K: Sink>(
 fn run<S: Source, K: Sink>(alloc: Global, task: Task, source: &mut S, sink: &mut K) -> Status
     ensures no_usage { result ≢ Status.Usage }
     ensures read_fault { result ≡ Status.ReadFault → Rose (S.faults source.old) (S.faults source.new) }
-    ensures too_large { result ≡ Status.TooLarge → IfSome (S.left source.old) (λ input. INPUT_LIMIT < length input) }
-    ensures small { IsAfterInput result → IfSome (S.left source.old) (λ input. length input ≤ INPUT_LIMIT) }
+    ensures too_large { result ≡ Status.TooLarge → IfSome (S.left source.old) (λ input. IsTooLarge task input) }
+    ensures small { IsAfterInput result → IfSome (S.left source.old) (λ input. ¬ IsTooLarge task input) }
     ensures read_to_end { IsAfterInput result → IsReadToEnd (S.left source.old) (S.left source.new) }
-    ensures done { IsDone result → Tells task MESSAGE_LIMIT (S.left source.old) (K.written sink.old) (K.written sink.new) (finding_in result) }
-    ensures of_input { IsOfInput (finding_in result) }
+    ensures bad_script { (line : ℕ) → result ≡ Status.BadScript line → IfSome (S.left source.old) (λ input. IsBadScript task input line) }
+    ensures done { IsDone result → Tells task MESSAGE_LIMIT (S.left source.old) (K.written sink.old) (K.written sink.new) result }
+    ensures of_input { IsOfInput result }
     ensures write_fault { result ≡ Status.WriteFault → Rose (K.faults sink.old) (K.faults sink.new) }
     ensures begun { result ≡ Status.WriteFault → BeginsToTell task MESSAGE_LIMIT (S.left source.old) (K.written sink.old) (K.written sink.new) }
     ensures unwritten { ¬ IsDone result → result ≢ Status.WriteFault → sink.new ≡ sink.old }
     ensures whole { IsDone result → IfSome (S.left source.old) (λ input. IsWholeInput task MESSAGE_LIMIT input → result ≡ Status.Ok) }
+    ensures good { (line : ℕ) → result ≡ Status.BadScript line → IfSome (S.left source.old) (λ input. ¬ IsWholeInput task MESSAGE_LIMIT input) }
 {
     let input = match read_all(alloc, source, INPUT_LIMIT) {
         Ok(input) => input,
@@ -91,34 +100,29 @@ fn run<S: Source, K: Sink>(alloc: Global, task: Task, source: &mut S, sink: &mut
     };
     let made = match make(alloc, task, &input) {
         Ok(made) => made,
-        Err(OutOfMemory) => return Status::OutOfMemory,
+        Err(Unmade::TooLarge) => return Status::TooLarge,
+        Err(Unmade::BadScript { line }) => return Status::BadScript { line },
+        Err(Unmade::OutOfMemory) => return Status::OutOfMemory,
     };
     match write_all(sink, &made.output) {
-        Ok(()) => status_of(made.finding),
+        Ok(()) => made.status,
         Err(_) => Status::WriteFault,
     }
 }
 
 /// What the task makes of the input.
-fn make(alloc: Global, task: Task, input: &[u8]) -> Result<Made, OutOfMemory>
-    ensures made { IfOk result (λ made. Makes task MESSAGE_LIMIT input.now made.output.items made.finding) }
-    ensures of_input { IfOk result (λ made. IsOfInput made.finding) }
-    ensures whole { IfOk result (λ made. IsWholeInput task MESSAGE_LIMIT input.now → made.finding ≡ None) }
+fn make(alloc: Global, task: Task, input: &[u8]) -> Result<Made, Unmade>
+    ensures made { IfOk result (λ made. Makes task MESSAGE_LIMIT input.now made.output.items made.status) }
+    ensures done { IfOk result (λ made. IsDone made.status) }
+    ensures of_input { IfOk result (λ made. IsOfInput made.status) }
+    ensures whole { IfOk result (λ made. IsWholeInput task MESSAGE_LIMIT input.now → made.status ≡ Status.Ok) }
+    ensures few { IfOk result (λ made. ¬ HasTooManyLines task input.now) }
+    ensures unmade { IfErr result (λ unmade. IsUnmade task input.now unmade) }
+    ensures good { IfErr result (λ unmade. IsWholeInput task MESSAGE_LIMIT input.now → unmade ≡ Unmade.OutOfMemory) }
 {
     match task {
-        Task::Show => show(alloc, input, MESSAGE_LIMIT),
-        Task::Pack => pack(alloc, input, MESSAGE_LIMIT),
-    }
-}
-
-/// How the program ends with this finding, once all is written.
-fn status_of(finding: Option<Finding>) -> Status
-    ensures done { IsDone result }
-    ensures finding { finding_in result ≡ finding }
-    ensures well { finding ≡ None → result ≡ Status.Ok }
-{
-    match finding {
-        Some(finding) => Status::Finding(finding),
-        None => Status::Ok,
+        Task::Show => Ok(show(alloc, input, MESSAGE_LIMIT)?),
+        Task::Pack => Ok(pack(alloc, input, MESSAGE_LIMIT)?),
+        Task::Replay => replay_script(alloc, input),
     }
 }

@@ -3,11 +3,11 @@ ghost use Rattle.std.specs.Prelude.{◌≡◌, ◌<◌, ◌==◌, if◌then◌el
 ghost use Rattle.grasp_text.specs.Line.{line_of};
 ghost use Rattle.grasp_wire.specs.Cutter.{Past, lasting};
 ghost use Rattle.grasp_wire.specs.Stands.{Stands, cut_limit};
-ghost use Rattle.grasp_replay.specs.Show.{Shows};
 ghost use Rattle.grasp_replay.specs.Step.{Steps};
+ghost use Rattle.grasp_replay.specs.Task.{ShowMakes};
 ghost use Rattle.grasp_replay.specs.declared.exit.Finding.TheVariants.{Cut, Truncated};
 
-use crate::exit::Finding;
+use crate::exit::{Finding, Status, status_of};
 use crate::made::Made;
 use grasp_cbor::OutOfMemory;
 use grasp_text::line_of;
@@ -28,7 +28,7 @@ enum Step {
 /// Makes the lines of the messages of the stream, of which each has at most `limit` bytes.
 pub fn show(alloc: Global, input: &[u8], limit: u32) -> Result<Made, OutOfMemory>
     requires { 0 < limit }
-    ensures { IfOk result (λ made. Shows limit input.now made.output.items made.finding) }
+    ensures { IfOk result (λ made. ShowMakes limit input.now made.output.items made.status) }
 {
     let mut cutter = Cutter::new(alloc, limit);
     cutter.feed(input)?;
@@ -38,12 +38,15 @@ pub fn show(alloc: Global, input: &[u8], limit: u32) -> Result<Made, OutOfMemory
             Step::Line => {}
             Step::End => {
                 let finding = truncated(cutter.rest(), input.len() as u64);
-                return Ok(Made { output, finding });
+                return Ok(Made {
+                    output,
+                    status: status_of(finding),
+                });
             }
             Step::Fault(finding) => {
                 return Ok(Made {
                     output,
-                    finding: Some(finding),
+                    status: Status::Finding(finding),
                 });
             }
         }

@@ -9,6 +9,8 @@ pub enum Task {
     Show,
     /// Write the message of each line.
     Pack,
+    /// Run a script, and write what each of its events comes to.
+    Replay,
 }
 
 /// What the words after the program's name ask for.
@@ -28,6 +30,8 @@ fn task_named(word: &str) -> Option<Task>
         Some(Task::Show)
     } else if word == "pack" {
         Some(Task::Pack)
+    } else if word == "replay" {
+        Some(Task::Replay)
     } else {
         None
     }

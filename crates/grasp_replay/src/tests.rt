@@ -7,7 +7,7 @@ use std::alloc::{AllocError, Global};
 use std::process::Abort;
 use std::test::Fail;
 
-fn words_of(alloc: Global, words: &[&str]) -> Result<Vec<String>, AllocError> {
+pub fn words_of(alloc: Global, words: &[&str]) -> Result<Vec<String>, AllocError> {
     let mut owned = Vec::new(alloc);
     for word in words {
         owned.push(String::from_str(alloc, word)?)?;
@@ -16,7 +16,7 @@ fn words_of(alloc: Global, words: &[&str]) -> Result<Vec<String>, AllocError> {
 }
 
 /// The call with this word, on this input, writes this output and ends so: all at once, and one byte at a time.
-fn ends(
+pub fn ends(
     rt: &impl Abort,
     alloc: Global,
     word: &str,
@@ -252,7 +252,7 @@ fn faults_from_outside(rt: HostRuntime) -> Result<(), Fail> {
 fn other_words(rt: HostRuntime) -> Result<(), Fail> {
     let calls: [&[&str]; 5] = [
         &[],
-        &["replay"],
+        &["replays"],
         &["gen", "07"],
         &["show", "show"],
         &["shows"],
@@ -292,6 +292,7 @@ fn numbers_and_fault_lines(rt: HostRuntime) {
             2,
             "usage: grasp_replay show|pack|replay|gen N",
         ),
+        (Status::BadScript { line: 10 }, 3, "bad script in line 10"),
         (Status::ReadFault, 4, "read fault"),
         (Status::WriteFault, 5, "write fault"),
         (Status::OutOfMemory, 6, "out of memory"),

@@ -4,7 +4,7 @@ use Rattle.grasp_replay.proofs.replay.run.Goals as goal
 pub returns-clause-begun : goal.returns-clause-begun
 returns-clause-begun g c = λ e. record {
   output = c.in-Ok-make.made.output.items;
-  finding = c.in-Ok-make.made.finding;
+  ended = c.in-Ok-make.made.status;
   makes = search rules;
   written = search rules;
 }

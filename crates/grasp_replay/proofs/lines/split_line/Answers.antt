@@ -1,5 +1,5 @@
 use Rattle.grasp_replay.proofs.Packing.{line_before, one_line}
-use Rattle.grasp_replay.proofs.pack.split_line.Goals as goal
+use Rattle.grasp_replay.proofs.lines.split_line.Goals as goal
 
 pub returns-in-Some-clause-first : goal.returns-in-Some-clause-first
 returns-in-Some-clause-first c = line_before c.args.text.now c.in-Some.end (rw c.in-Some.is at c.memchr.ensures)
