@@ -1,12 +1,12 @@
 #!/bin/sh
-# Times `grasp_replay show` beside a C program on libcbor that writes the same lines, and `grasp_replay pack`.
+# Times `grasp_replay show` and `grasp_replay pack` beside C programs on libcbor that do the same.
 #
 #   bench/run.sh [BYTES]      by default 16000000, at most 16777216
 #
 # It needs the Rattle kit's `rt`, a C compiler, python3 and libcbor (Debian: libcbor-dev). The files that it makes are in
-# a folder of /tmp. It prints seconds of processor time in user mode, the best of five runs each: the two programs on a
-# stream of so many bytes and their ratio, `show` on a half and a quarter of it, and `pack` on lines of at most as many
-# bytes.
+# a folder of /tmp. It prints seconds of processor time in user mode, the best of five runs each: for `show` on a stream
+# of so many bytes, and for `pack` on lines of at most as many, the two programs and their ratio; and each of the words on
+# about a half and a quarter.
 set -eu
 here=$(cd "$(dirname "$0")" && pwd)
 bytes=${1:-16000000}
@@ -16,11 +16,15 @@ trap 'rm -rf "$work"' EXIT
 (cd "$here/../crates/grasp_replay" && rt run -- show </dev/null)
 program=$here/../crates/grasp_replay/out/grasp_replay
 cc -O2 -o "$work/show_libcbor" "$here/show_libcbor.c" -lcbor
+cc -O2 -o "$work/pack_libcbor" "$here/pack_libcbor.c" -lcbor
 python3 "$here/make_messages.py" "$bytes" >"$work/stream"
 head -c "$((bytes / 2))" "$work/stream" >"$work/half"
 head -c "$((bytes / 4))" "$work/stream" >"$work/quarter"
 python3 "$here/make_messages.py" "$((bytes * 9 / 20))" >"$work/packed"
 "$program" show <"$work/packed" >"$work/lines"
+count=$(wc -l <"$work/lines")
+head -n "$((count / 2))" "$work/lines" >"$work/half_lines"
+head -n "$((count / 4))" "$work/lines" >"$work/quarter_lines"
 
 # The least user time of five calls of a program with this input and output. The status may be 1, as for a stream that
 # was cut inside a message.
@@ -39,14 +43,23 @@ print(f"{best:.3f}")
 PYTHON
 }
 
-c=$(best "$work/stream" "$work/lines_c" "$work/show_libcbor")
-show=$(best "$work/stream" "$work/lines_show" "$program" show)
-half=$(best "$work/half" "$work/lines_half" "$program" show)
-quarter=$(best "$work/quarter" "$work/lines_quarter" "$program" show)
+show_c=$(best "$work/stream" "$work/shown_c" "$work/show_libcbor")
+show=$(best "$work/stream" "$work/shown" "$program" show)
+show_half=$(best "$work/half" "$work/shown_half" "$program" show)
+show_quarter=$(best "$work/quarter" "$work/shown_quarter" "$program" show)
+pack_c=$(best "$work/lines" "$work/packed_c" "$work/pack_libcbor")
 pack=$(best "$work/lines" "$work/packed_again" "$program" pack)
-cmp "$work/lines_show" "$work/lines_c"
+pack_half=$(best "$work/half_lines" "$work/packed_half" "$program" pack)
+pack_quarter=$(best "$work/quarter_lines" "$work/packed_quarter" "$program" pack)
+cmp "$work/shown" "$work/shown_c"
+cmp "$work/packed" "$work/packed_c"
 cmp "$work/packed" "$work/packed_again"
-echo "the C program on $bytes bytes: $c s"
-echo "show on $bytes bytes: $show s, $(python3 -c "print(f'{$show / $c:.2f}')") times the C program"
-echo "show on a half and a quarter of it: $half s, $quarter s"
-echo "pack on $(wc -c <"$work/lines") bytes of lines: $pack s"
+ratio() {
+    python3 -c "print(f'{$1 / $2:.2f}')"
+}
+echo "show: the C program on $bytes bytes: $show_c s"
+echo "show: grasp_replay on them: $show s, $(ratio "$show" "$show_c") times the C program"
+echo "show: on a half and a quarter of them: $show_half s, $show_quarter s"
+echo "pack: the C program on $(wc -c <"$work/lines") bytes of lines: $pack_c s"
+echo "pack: grasp_replay on them: $pack s, $(ratio "$pack" "$pack_c") times the C program"
+echo "pack: on a half and a quarter of the lines: $pack_half s, $pack_quarter s"
