@@ -89,18 +89,22 @@ IsUnmade task input unmade.TooLarge = HasTooManyLines task input
 IsUnmade task input (unmade.BadScript line) = IsBadScript task input line × ¬ HasTooManyLines task input
 IsUnmade task input unmade.OutOfMemory = ⊤
 
--- where the input is told, the output is what the task makes of it, and after what was written before it was written,
--- and nothing else, where that is told
-pub record Tells (task : Task) (limit : ℕ) (input before after : Option (List ℕ)) (ended : Status) : Type 0 where
+-- some input, which is what was left to read where that is told, was read; what the task makes of it was written after
+-- what was written before, and nothing else, where that is told
+pub record Tells (task : Task) (limit : ℕ) (left before after : Option (List ℕ)) (ended : Status) : Type 0 where
+  pub input : List ℕ
+  pub told : IfSome left (λ all. input ≡ all)
   pub output : List ℕ
-  pub makes : IfSome input (λ i. Makes task limit i output ended)
+  pub makes : Makes task limit input output ended
   pub written : Appends before after output
 
 -- the same, but only a beginning of the output was written
-pub record BeginsToTell (task : Task) (limit : ℕ) (input before after : Option (List ℕ)) : Type 0 where
+pub record BeginsToTell (task : Task) (limit : ℕ) (left before after : Option (List ℕ)) : Type 0 where
+  pub input : List ℕ
+  pub told : IfSome left (λ all. input ≡ all)
   pub output : List ℕ
   pub ended : Status
-  pub makes : IfSome input (λ i. Makes task limit i output ended)
+  pub makes : Makes task limit input output ended
   pub written : AppendsFront before after output
 
 -- what was left, where it is told, was read to its end

@@ -1,5 +1,5 @@
 // The program's one call.
-ghost use Rattle.std.specs.Prelude.{◌≡◌, ◌≢◌, ◌⊎◌, ℕ, List, Some, None, map, length, string_bytes, IfOk, IfErr, IfSome, IsSome};
+ghost use Rattle.std.specs.Prelude.{◌≡◌, ◌≢◌, ◌≤◌, ◌⊎◌, ℕ, [], Some, None, map, length, string_bytes, IfOk, IfErr, IfSome, IsSome};
 ghost use Rattle.grasp_io.specs.Faults.{Rose};
 ghost use Rattle.grasp_replay.specs.Ending.{IsAfterInput};
 ghost use Rattle.grasp_replay.specs.Laws.{IsWholeInput};
@@ -39,15 +39,18 @@ pub fn replay_main<S: Source, K: Sink>(
     ensures no_usage { IsSome (task_of (map string_bytes words.now)) → result ≢ Status.Usage }
     ensures unread { result ≡ Status.Usage → source.new ≡ source.old }
 
-    // Then the input is read to its end, at most 16,777,216 bytes, and for `replay` at most 200,000 lines.
+    // Then the input is read to its end, at most 16,777,216 bytes. Then its lines are counted: for `replay` they are at
+    // most 200,000.
     ensures read_fault { result ≡ Status.ReadFault → Rose (S.faults source.old) (S.faults source.new) }
     ensures too_large { (task : Task) → task_of (map string_bytes words.now) ≡ Some task → result ≡ Status.TooLarge
         → IfSome (S.left source.old) (λ input. IsTooLarge task input) }
     ensures small { (task : Task) → task_of (map string_bytes words.now) ≡ Some task → IsAfterInput result
         → IfSome (S.left source.old) (λ input. ¬ IsTooLarge task input) }
     ensures read_to_end { IsAfterInput result → IsReadToEnd (S.left source.old) (S.left source.new) }
+    ensures read_all_lines { result ≡ Status.TooLarge
+        → IfSome (S.left source.old) (λ input. length input ≤ INPUT_LIMIT → S.left source.new ≡ Some []) }
 
-    // Then a script is read, which has no bad line.
+    // Then a script is read: where the input is none, its bad line is told.
     ensures bad_script { (task : Task) (line : ℕ) → task_of (map string_bytes words.now) ≡ Some task → result ≡ Status.BadScript line
         → IfSome (S.left source.old) (λ input. IsBadScript task input line) }
 
@@ -83,6 +86,8 @@ fn run<S: Source, K: Sink>(alloc: Global, task: Task, source: &mut S, sink: &mut
     ensures too_large { result ≡ Status.TooLarge → IfSome (S.left source.old) (λ input. IsTooLarge task input) }
     ensures small { IsAfterInput result → IfSome (S.left source.old) (λ input. ¬ IsTooLarge task input) }
     ensures read_to_end { IsAfterInput result → IsReadToEnd (S.left source.old) (S.left source.new) }
+    ensures read_all_lines { result ≡ Status.TooLarge
+        → IfSome (S.left source.old) (λ input. length input ≤ INPUT_LIMIT → S.left source.new ≡ Some []) }
     ensures bad_script { (line : ℕ) → result ≡ Status.BadScript line → IfSome (S.left source.old) (λ input. IsBadScript task input line) }
     ensures done { IsDone result → Tells task MESSAGE_LIMIT (S.left source.old) (K.written sink.old) (K.written sink.new) result }
     ensures of_input { IsOfInput result }

@@ -20,7 +20,7 @@ api 2 0 asa 'b
 api 2 2 objective 'x 2
 ";
 
-/// The script of these events, and of the first of them, has the reports with these answers.
+/// The script of these events, and each beginning of it, has the reports with these answers.
 fn replays(rt: &impl Abort, alloc: Global, events: &[(&str, &str)]) -> Result<(), Fail> {
     for count in 0..events.len() + 1 {
         replays_all(rt, alloc, &events[..count])?;

@@ -1,7 +1,7 @@
 // `replay`: the reports of a script's events.
-ghost use Rattle.std.specs.Prelude.{◌≡◌, ◌<◌, ◌++◌, ◌↔◌, IsTrue, length, IfOk, IfErr, OnOk};
+ghost use Rattle.std.specs.Prelude.{◌≡◌, ◌++◌, ◌↔◌, IsTrue, IfOk, IfErr, OnOk};
 ghost use Rattle.grasp_script.specs.Report.{report_line, header_text};
-ghost use Rattle.grasp_script.specs.Script.{lines_of, AreLines, IsLine};
+ghost use Rattle.grasp_script.specs.Script.{AreLines, IsLine};
 ghost use Rattle.grasp_world.specs.Stands.{Stands};
 ghost use Rattle.grasp_world.specs.Steps.{step};
 ghost use Rattle.grasp_world.specs.World.{WorldState, first_world};

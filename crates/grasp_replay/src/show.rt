@@ -1,5 +1,5 @@
 // `show`: the lines of the messages of a stream.
-ghost use Rattle.std.specs.Prelude.{◌≡◌, ◌<◌, ◌==◌, if◌then◌else◌, ◌∷◌, ◌++◌, [], Some, None, length, option_map, IfOk, OnOk};
+ghost use Rattle.std.specs.Prelude.{◌≡◌, ◌<◌, ◌==◌, if◌then◌else◌, ◌∷◌, ◌++◌, [], Some, None, option_map, IfOk, OnOk};
 ghost use Rattle.grasp_text.specs.Line.{line_of};
 ghost use Rattle.grasp_wire.specs.Cutter.{Past, lasting};
 ghost use Rattle.grasp_wire.specs.Stands.{Stands, cut_limit};

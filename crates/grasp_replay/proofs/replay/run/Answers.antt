@@ -3,6 +3,8 @@ use Rattle.grasp_replay.proofs.replay.run.Goals as goal
 
 pub returns-clause-begun : goal.returns-clause-begun
 returns-clause-begun g c = λ e. record {
+  input = c.in-Ok.input.items;
+  told = search rules;
   output = c.in-Ok-make.made.output.items;
   ended = c.in-Ok-make.made.status;
   makes = search rules;
