@@ -4,15 +4,17 @@
 usage: refuse_memory.py [CRATE..]      by default every crate with tests
 
 For each crate one allocation of every test is refused: the first, the second, and so on to the eighth, and from there
-on each time one that comes a half later, until no test gets so far. A test that ends with OutOfMemory, or that compares
-an OutOfMemory with what it wanted, is as it must be. Every other failure is printed, and the exit status is 1. It needs
-the Rattle kit's `rt` and proves nothing.
+on each time one that comes a half later, until no test gets so far. A test that ends with OutOfMemory or AllocError, or
+that compares an OutOfMemory with what it wanted, is as it must be. So is a write fault of the memory sink, whose growth was
+refused. Every other failure is printed, and the exit status is 1; of grasp_io's it prints one that is right, where such a
+sink has written less. It needs the Rattle kit's `rt` and proves nothing.
 """
 import pathlib
 import re
 import subprocess
 import sys
 
+WANTS_OF_MEMORY = ["OutOfMemory", "AllocError", "out of memory", "error: Failed", "left: Err(Failed)"]
 CRATES = pathlib.Path(__file__).resolve().parent.parent / "crates"
 
 
@@ -42,7 +44,7 @@ def main():
             tests, failed = run(crate, number)
             runs += 1
             for test in failed:
-                if "OutOfMemory" not in test and "out of memory" not in test:
+                if not any(word in test for word in WANTS_OF_MEMORY):
                     bad += 1
                     print(f"{crate}, allocation {number}: {test}", flush=True)
             if not failed:
