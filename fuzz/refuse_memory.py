@@ -6,15 +6,16 @@ usage: refuse_memory.py [CRATE..]      by default every crate with tests
 For each crate one allocation of every test is refused: the first, the second, and so on to the eighth, and from there
 on each time one that comes a half later, until no test gets so far. A test that ends with OutOfMemory or AllocError, or
 that compares an OutOfMemory with what it wanted, is as it must be. So is a write fault of the memory sink, whose growth was
-refused. Every other failure is printed, and the exit status is 1; of grasp_io's it prints one that is right, where such a
-sink has written less. It needs the Rattle kit's `rt` and proves nothing.
+refused, and a call that was to be Ok. Every other failure is printed, to be read, and the exit status is 1: some tests of
+grasp_io, grasp_text and grasp_wire name what they got in words of their own. It needs the Rattle kit's `rt` and proves
+nothing.
 """
 import pathlib
 import re
 import subprocess
 import sys
 
-WANTS_OF_MEMORY = ["OutOfMemory", "AllocError", "out of memory", "error: Failed", "left: Err(Failed)"]
+WANTS_OF_MEMORY = ["OutOfMemory", "AllocError", "AllocFailed", "out of memory", "error: Failed", "left: Err(Failed)", ".is_ok()"]
 CRATES = pathlib.Path(__file__).resolve().parent.parent / "crates"
 
 
