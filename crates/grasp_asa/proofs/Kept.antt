@@ -1,9 +1,8 @@
 -- What holds of every registry is kept by each call.
-use Rattle.std.proofs.Common.{◌≡◌, ◌≢◌, ℕ, zero, suc, ◌+◌, ◌<◌, ◌≤◌, ◌^◌, Bool, true, false, not, ◌&&◌, ◌||◌, ◌⊎◌, inl, inr, List, [], ◌∷◌, ◌++◌, length, get_or, Option, None, refl, sym, ap, ◌∙◌, subst, arith, length-append, eqb}
+use Rattle.std.proofs.Common.{◌≡◌, ◌≢◌, ℕ, zero, suc, ◌+◌, ◌<◌, ◌≤◌, Bool, true, false, not, ◌||◌, inl, inr, List, [], ◌∷◌, ◌++◌, length, get_or, Option, None, refl, sym, ap, ◌∙◌, subst, arith, length-append, eqb}
 use Rattle.std.proofs.Math.ListN.{set, length-set}
-use Rattle.std.specs.Prelude.{All, AllPairs, IsTrue, filter, map}
+use Rattle.std.specs.Prelude.{IsTrue, filter, map}
 use Rattle.std.specs.List.{list_any}
-use Rattle.std.specs.Str.{bytes_eq}
 use Rattle.std.proofs.lemmas.Bool.{false≢true, cases_order}
 use Rattle.std.proofs.lemmas.Slice.Eq.{bytes_eq-Decides}
 use Rattle.std.proofs.lemmas.List.Elements.{All-push, All-filter, All-set, filter_passes}
@@ -15,7 +14,7 @@ use Rattle.grasp_cbor.specs.DataItem.{DataItem}
 use Rattle.grasp_types.specs.Objective.{has_neg, has_synch}
 use Rattle.grasp_asa.specs.declared.entry.Agent.{Agent}
 use Rattle.grasp_asa.specs.declared.entry.Registered.{Registered}
-use Rattle.grasp_asa.specs.Registrations.{Registrations, IsRegistry, IsObjective, is_numbered, is_agent_named, is_named, is_owned_by, is_of, is_registered, is_agent_name, is_taken, is_both_or_neither, is_dry_alone}
+use Rattle.grasp_asa.specs.Registrations.{Registrations, IsRegistry, IsObjective, is_numbered, is_agent_named, is_named, is_owned_by, is_registered, is_agent_name, is_taken, is_both_or_neither, is_dry_alone}
 use Rattle.grasp_asa.proofs.Lists.{none_at, length-filter_le, fails, change, map_one}
 
 -- a name that no agent has differs from each agent's

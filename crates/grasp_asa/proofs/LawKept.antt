@@ -1,14 +1,12 @@
 -- Each call keeps what holds of every registry.
-use Rattle.std.proofs.Common.{◌≡◌, ◌≢◌, ◌^◌, ℕ, ◌+◌, ◌<◌, ◌≤◌, Bool, true, false, not, ◌||◌, List, [], length, get_or, Option, Some, None, Result, Ok, Err, nat_le, eqb, if◌then◌else◌, refl, sym, ap, ◌∙◌, subst, arith, rules, tests, lit<}
-use Rattle.std.specs.Prelude.{map, find, option_map, ok_or}
-use Rattle.std.proofs.Math.ListN.{set}
+use Rattle.std.proofs.Common.{◌≡◌, ◌≢◌, ◌^◌, ℕ, ◌+◌, ◌<◌, Bool, true, false, not, ◌||◌, List, [], length, get_or, Option, None, Result, Ok, Err, nat_le, eqb, if◌then◌else◌, refl, subst, arith, rules, tests, lit<}
 use Rattle.grasp_cbor.specs.DataItem.{DataItem}
 use Rattle.grasp_types.specs.Objective.{has_neg, has_synch}
 use Rattle.grasp_types.specs.declared.refusal.ApiRefused.{ApiRefused}
-use Rattle.grasp_types.specs.declared.refusal.ApiRefused.TheVariants.{NoAsa, AsasFull, DuplicateAsa, NotBoth, ObjectivesFull, ObjectiveTaken, NotYourObjective, NotNegotiable, NotSynchronizable, NotDry}
+use Rattle.grasp_types.specs.declared.refusal.ApiRefused.TheVariants.{NoAsa, AsasFull, DuplicateAsa, NotBoth, ObjectivesFull, ObjectiveTaken, NotNegotiable, NotSynchronizable, NotDry}
 use Rattle.grasp_asa.specs.declared.entry.Registered.{Registered}
-use Rattle.grasp_asa.specs.Registrations.{Registrations, IsRegistry, is_registered, is_agent_name, is_taken, is_both_or_neither, is_dry_alone, is_of, is_named}
-use Rattle.grasp_asa.specs.Answers.{nothing_registered, register_asa_answer, after_register_asa, deregister_asa_answer, after_deregister_asa, register_objective_answer, after_register_objective, deregister_objective_answer, after_deregister_objective, owned_answer, owner_answer, wanted_answer, listen_answer, after_listen, marked, offer_answer, after_offer, offering}
+use Rattle.grasp_asa.specs.Registrations.{Registrations, IsRegistry, is_registered, is_agent_name, is_taken, is_both_or_neither, is_dry_alone, is_of}
+use Rattle.grasp_asa.specs.Answers.{nothing_registered, after_register_asa, after_deregister_asa, after_register_objective, after_deregister_objective, listen_answer, after_listen, offer_answer, after_offer}
 use Rattle.grasp_asa.specs.Laws.{IsKept, RegistryIsKept}
 use Rattle.grasp_asa.proofs.Kept.{kept_with_agent, kept_without_agent, kept_with_objective, kept_with_fewer, kept_listening, kept_offering, change_at, sound_new, StandsAt, at_place}
 use Rattle.grasp_asa.proofs.Places.{named_at_place, wanted_ok}

@@ -1,8 +1,7 @@
 -- Of the refusals that hold of a call, the least is answered.
 use Rattle.std.proofs.Common.{◌≡◌, ◌≢◌, ℕ, ◌<◌, ◌≤◌, Bool, true, false, not, ◌&&◌, ◌||◌, ◌⊎◌, inl, inr, List, [], ◌∷◌, zero, suc, ◌+◌, cond, length, get_or, Option, Some, None, Result, Ok, Err, nat_le, eqb, Decides, if◌then◌else◌, refl, sym, ap, ◌∙◌, subst, arith, rules, tests, lit≤}
-use Rattle.std.specs.Prelude.{All, Any, find, option_map, ok_or}
+use Rattle.std.specs.Prelude.{All, Any, find}
 use Rattle.std.specs.List.{list_any, position}
-use Rattle.std.specs.Str.{bytes_eq}
 use Rattle.std.proofs.lemmas.Bool.{false≢true}
 use Rattle.std.proofs.lemmas.Bool.Decides.{Decides-eqb}
 use Rattle.std.proofs.lemmas.List.Folds.{Any-from_list_any, list_any_at, list_any_none}
@@ -15,11 +14,10 @@ use Rattle.grasp_asa.specs.declared.entry.Agent.{Agent}
 use Rattle.grasp_asa.specs.declared.entry.Registered.{Registered}
 use Rattle.grasp_asa.specs.Registrations.{Registrations, IsRegistry, is_registered, is_numbered, is_agent_name, is_agent_named, is_taken, is_named, is_owned_by, is_of, is_both_or_neither, is_dry_alone}
 use Rattle.grasp_asa.specs.Answers.{register_asa_answer, deregister_asa_answer, register_objective_answer, owned_answer, owner_answer, deregister_objective_answer, wanted_answer, listen_answer, offer_answer}
-use Rattle.grasp_asa.specs.Place.{IsPlaceOf}
 use Rattle.grasp_asa.specs.Laws.{IsLeast, IsNoAgent, IsOf, IsNotOwned, RefusesRegisterAsa, RefusesDeregisterAsa, RefusesRegisterObjective, RefusesOwned, RefusesListen, RefusesOffer, RefusalsAreLeast}
-use Rattle.grasp_asa.proofs.Kept.{named_once, IsNamedAt, at_place}
+use Rattle.grasp_asa.proofs.Kept.{named_once}
 use Rattle.grasp_asa.proofs.Lists.{none_at, fails, missed}
-use Rattle.grasp_asa.proofs.Places.{place_found, none_without_agent, none_at_place, named_at_place}
+use Rattle.grasp_asa.proofs.Places.{place_found, named_at_place}
 
 -- tests, each with the refusal that it decides, in order
 abbrev Tests : Type 0

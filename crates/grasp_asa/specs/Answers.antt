@@ -1,12 +1,11 @@
 -- What each call on a registry answers, and what is registered after it.
 --
 -- Where several refusals hold, the one of the least number is answered. A refused call changes nothing.
-use Rattle.std.specs.Prelude.{ℕ, ◌+◌, Bool, true, false, not, ◌&&◌, ◌||◌, ◌==◌, nat_le, if◌then◌else◌, List, [], ◌∷◌, ◌++◌, length, map, Option, Some, None, Result, Ok, Err, option_map, filter, find, ok_or}
+use Rattle.std.specs.Prelude.{ℕ, ◌+◌, Bool, false, not, ◌&&◌, ◌||◌, ◌==◌, nat_le, if◌then◌else◌, List, [], ◌∷◌, ◌++◌, length, map, Option, Some, None, Result, Ok, Err, option_map, filter, find, ok_or}
 use Rattle.grasp_cbor.specs.DataItem.{DataItem}
 use Rattle.grasp_types.specs.Objective.{has_neg, has_synch}
 use Rattle.grasp_types.specs.declared.refusal.ApiRefused.{ApiRefused}
 use Rattle.grasp_types.specs.declared.refusal.ApiRefused.TheVariants.{NoAsa, AsasFull, DuplicateAsa, NotBoth, ObjectivesFull, ObjectiveTaken, NotYourObjective, NotNegotiable, NotSynchronizable, NotDry}
-use Rattle.grasp_asa.specs.declared.entry.Agent.{Agent}
 use Rattle.grasp_asa.specs.declared.entry.Registered.{Registered}
 use Rattle.grasp_asa.specs.Registrations.{Registrations, is_numbered, is_named, is_owned_by, is_of, is_registered, is_agent_name, is_taken, is_both_or_neither, is_dry_alone}
 

@@ -1,5 +1,5 @@
 -- What holds of every registry, and of every call on it.
-use Rattle.std.specs.Prelude.{◌≡◌, ◌≢◌, ℕ, ◌≤◌, Bool, true, false, not, ◌⊎◌, List, length, Option, Result, IfOk, IfErr, All, Any}
+use Rattle.std.specs.Prelude.{◌≡◌, ◌≢◌, ℕ, ◌≤◌, Bool, true, false, ◌⊎◌, List, length, Option, Result, IfOk, IfErr, All, Any}
 use Rattle.grasp_cbor.specs.DataItem.{DataItem}
 use Rattle.grasp_types.specs.Objective.{has_neg, has_synch, has_dry}
 use Rattle.grasp_types.specs.Refusal.{refusal_number}

@@ -1,7 +1,6 @@
 -- Who is registered at a node, and for what.
-use Rattle.std.specs.Prelude.{◌≡◌, ◌≢◌, ℕ, ◌<◌, ◌≤◌, ◌^◌, Bool, not, ◌&&◌, ◌||◌, ◌==◌, if◌then◌else◌, List, length, map, Option, Some, None, is_some, option_map, All, AllPairs, IsTrue, filter, find}
+use Rattle.std.specs.Prelude.{◌≢◌, ℕ, ◌<◌, ◌≤◌, ◌^◌, Bool, not, ◌&&◌, ◌==◌, if◌then◌else◌, List, length, is_some, All, AllPairs, IsTrue}
 use Rattle.std.specs.List.{list_any}
-use Rattle.std.specs.List.Sorted.{IsStrictlyIncreasing}
 use Rattle.std.specs.Str.{bytes_eq}
 use Rattle.grasp_types.specs.Objective.{has_neg, has_synch, has_dry}
 use Rattle.grasp_asa.specs.declared.entry.Agent.{Agent}

@@ -1,5 +1,5 @@
 -- The item that all of some bytes encode is the one that is built.
-use Rattle.std.proofs.Common.{◌≡◌, List, [], Option, Some, None, ℕ, sym, ap, subst}
+use Rattle.std.proofs.Common.{◌≡◌, List, [], Option, Some, None, ℕ, ap, subst}
 use Rattle.grasp_cbor.specs.DataItem.{DataItem}
 use Rattle.grasp_cbor.specs.CanGoOn.{IsItem}
 use Rattle.grasp_cbor.specs.Encodes.{Encodes}

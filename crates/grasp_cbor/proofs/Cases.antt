@@ -1,5 +1,5 @@
 -- Reading bytes within a limit has exactly one ending.
-use Rattle.std.proofs.Common.{◌≡◌, ℕ, zero, suc, ◌+◌, ◌<◌, ◌≤◌, List, [], ◌∷◌, ◌++◌, length, take, drop, get_or, Option, Some, None, Result, Ok, Err, refl, sym, ap, subst, ◌∙◌, ◌⊎◌, inl, inr, append_assoc, append-nil, arith}
+use Rattle.std.proofs.Common.{◌≡◌, ℕ, zero, suc, ◌+◌, ◌<◌, ◌≤◌, List, [], ◌∷◌, ◌++◌, length, take, drop, get_or, Option, Some, None, refl, sym, ap, subst, ◌∙◌, ◌⊎◌, inl, inr, append_assoc, append-nil, arith}
 use Rattle.std.proofs.lemmas.List.{length-append, length-take, take-append-drop, take-take, take_more, take_all}
 use Rattle.std.proofs.lemmas.Bool.{cases_lt, cases_order}
 use Rattle.grasp_cbor.specs.Step.{name_of}
@@ -11,7 +11,7 @@ use Rattle.grasp_cbor.specs.Front.{Spot, Front}
 use Rattle.grasp_cbor.specs.DataItem.{DataItem}
 use Rattle.grasp_cbor.specs.Encodes.{Encodes}
 use Rattle.grasp_cbor.specs.FaultAt.{FaultAt}
-use Rattle.grasp_cbor.specs.Ending.{Ending, whole, partial, too_long, faulty, IsWhole, IsPartial, IsTooLong, IsFaulty, IsEnding}
+use Rattle.grasp_cbor.specs.Ending.{Ending, whole, partial, too_long, faulty, IsEnding}
 use Rattle.grasp_cbor.proofs.Naming.{named_is, named_from}
 use Rattle.grasp_cbor.proofs.Whole.{one_encodes}
 use Rattle.grasp_cbor.proofs.Insides.{same_item, zero_item}

@@ -1,5 +1,5 @@
 -- What is made is an item that the bytes encode.
-use Rattle.std.proofs.Common.{◌≡◌, ℕ, zero, suc, ◌+◌, ◌^◌, ◌<◌, ◌≤◌, max, false, ltb, List, [], ◌∷◌, ◌++◌, length, Option, Some, refl, sym, subst, append-nil, ◌⊎◌, inl, inr, arith}
+use Rattle.std.proofs.Common.{◌≡◌, ℕ, zero, suc, ◌^◌, ◌<◌, ◌≤◌, max, false, ltb, List, [], ◌∷◌, ◌++◌, length, Option, Some, refl, sym, subst, append-nil, ◌⊎◌, inl, inr, arith}
 use Rattle.std.proofs.lemmas.Bool.{ltb-false, lt-ltb, le-ltb}
 use Rattle.std.specs.Int.{w16, w32, w64, to_be_bytes}
 use Rattle.grasp_cbor.specs.DataItem as item

@@ -1,12 +1,11 @@
 -- What stands inside lists, maps and tags: how it closes, and what begins there.
 use Rattle.std.proofs.Common.{◌≡◌, ℕ, zero, suc, ◌+◌, ◌-◌, ◌<◌, List, [], ◌∷◌, ◌++◌, length, replicate, refl, sym, ap, subst, ◌∙◌, append_assoc, append-nil, arith}
 use Rattle.std.proofs.lemmas.List.{length-append, length-replicate, append_cancel_left}
-use Rattle.grasp_cbor.specs.Major.{major_number, major_of}
 use Rattle.grasp_cbor.specs.Head.{direct}
 use Rattle.grasp_cbor.proofs.Whole.{one_encoded}
 use Rattle.grasp_cbor.proofs.Same.{same_head}
 use Rattle.grasp_cbor.specs.declared.heads.Major.{Major}
-use Rattle.grasp_cbor.specs.declared.heads.Major.TheVariants.{Unsigned, Negative, ByteString, TextString, Array, Map, Tag, Simple}
+use Rattle.grasp_cbor.specs.declared.heads.Major.TheVariants.{Unsigned}
 use Rattle.grasp_cbor.proofs.HeadBytes.{AllBytes-append}
 use Rattle.grasp_cbor.specs.Bytes.{AllBytes}
 use Rattle.grasp_cbor.specs.CanGoOn.{IsItem, AreItems, joined}

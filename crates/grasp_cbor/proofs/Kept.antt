@@ -1,17 +1,16 @@
 -- A reader that is fed byte by byte answers as one of all the bytes.
-use Rattle.std.proofs.Common.{◌≡◌, ℕ, ◌+◌, List, [], ◌∷◌, ◌++◌, length, take, Option, Some, Result, Ok, Err, sym, subst, arith}
+use Rattle.std.proofs.Common.{◌≡◌, ℕ, List, [], ◌∷◌, ◌++◌, length, take, Option, Some, Ok, Err, sym, subst, arith}
 use Rattle.std.proofs.lemmas.List.{length-append, length_push, take_all, take-append-le}
 use Rattle.grasp_cbor.specs.declared.walker.FaultName.{FaultName}
 use Rattle.grasp_cbor.specs.declared.walker.FaultName.TheVariants as name
 use Rattle.grasp_cbor.specs.declared.walker.WalkFault.TheVariants as walk_fault
-use Rattle.grasp_cbor.specs.declared.walker.Taken.{Taken}
 use Rattle.grasp_cbor.specs.declared.walker.Taken.TheVariants.{More, Whole}
 use Rattle.grasp_cbor.specs.declared.walker.Walk.{Walk}
 use Rattle.grasp_cbor.specs.declared.read.ItemFault.{ItemFault}
 use Rattle.grasp_cbor.specs.declared.read.ItemFault.TheVariants.{Malformed, Indefinite, NotText, TooDeep, TooLong, OutOfMemory}
 use Rattle.grasp_cbor.specs.CanGoOn.{IsItem, CanGoOnWithin}
-use Rattle.grasp_cbor.specs.Ending.{IsTooLong, IsFaulty, IsPartial, IsWhole}
-use Rattle.grasp_cbor.specs.ItemReader.{EndsWith, Keeps, AnswersTaken, bytes_after}
+use Rattle.grasp_cbor.specs.Ending.{IsTooLong, IsFaulty, IsPartial}
+use Rattle.grasp_cbor.specs.ItemReader.{EndsWith, Keeps, AnswersTaken}
 use Rattle.grasp_cbor.specs.Walking.{Took, Answers, limit_of}
 use Rattle.grasp_cbor.proofs.Ending.{fault_stays}
 

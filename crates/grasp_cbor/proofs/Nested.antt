@@ -1,7 +1,7 @@
 -- What has parts, one level down.
 use Rattle.std.proofs.Common.{◌≡◌, ℕ, zero, suc, ◌-◌, ◌<◌, List, None, refl, arith}
 use Rattle.grasp_cbor.specs.declared.heads.Major.{Major}
-use Rattle.grasp_cbor.specs.Build.{nested_with, nested_in, item_with, item_at}
+use Rattle.grasp_cbor.specs.Build.{nested_with, nested_in, item_at}
 
 pub nested_in-none : (d : ℕ) (major : Major) (n : ℕ) (rest : List ℕ) → d ≡ 0 → nested_in d major n rest ≡ None
 unfolding nested_in

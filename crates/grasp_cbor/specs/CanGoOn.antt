@@ -15,7 +15,7 @@ abbrev pub CanGoOnWithin : ℕ → List ℕ → Type 0
 CanGoOnWithin depth s = (next : ℕ) × (more : List ℕ) × IsItem depth (s ++ next ∷ more) × AllBytes (next ∷ more)
 
 -- some bytes that aren't empty complete these to an item: a beginning of well-formed data that isn't whole
--- (RFC 8949, section 5.3.1)
+-- (RFC 8949, section 1.2 and appendix F)
 abbrev pub CanGoOn : List ℕ → Type 0
 CanGoOn s = CanGoOnWithin 16 s
 

@@ -1,5 +1,5 @@
 -- Which data items have an encoding: the ranges of their numbers (RFC 8949, section 3).
-use Rattle.std.specs.Prelude.{ℕ, ◌^◌, ◌<◌, length}
+use Rattle.std.specs.Prelude.{◌^◌, ◌<◌, length}
 use Rattle.std.specs.Str.{IsUtf8}
 use Rattle.grasp_cbor.specs.Bytes.{AllBytes}
 use Rattle.grasp_cbor.specs.Simple.{IsSimple}

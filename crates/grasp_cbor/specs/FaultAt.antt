@@ -5,7 +5,7 @@ use Rattle.grasp_cbor.specs.CanGoOn.{IsItem, CanGoOn}
 use Rattle.grasp_cbor.specs.Front.{Spot, Front, IsNamed}
 
 -- The bytes before this place can go on to an item, and with the byte at this place they neither can nor
--- are one (RFC 8949, section 5.3.1). Its fault is named by what the byte would be there.
+-- are one (RFC 8949, section 1.2 and appendix F). Its fault is named by what the byte would be there.
 pub record FaultAt (bytes : List ℕ) (place : ℕ) (name : FaultName) : Type 0 where
   pub inside : place < length bytes
   pub before : CanGoOn (take place bytes)

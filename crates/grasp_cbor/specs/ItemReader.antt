@@ -1,5 +1,5 @@
 -- What an `ItemReader` stands for, and what it answers.
-use Rattle.std.specs.Prelude.{◌≡◌, ℕ, ◌+◌, List, [], Option, Some, None, Result, Ok, Err, IsSomeAnd, length}
+use Rattle.std.specs.Prelude.{ℕ, List, [], Option, Some, None, Result, Ok, Err, IsSomeAnd, length}
 use Rattle.grasp_cbor.specs.DataItem.{DataItem}
 use Rattle.grasp_cbor.specs.Ending.{IsEnding, IsWhole, IsPartial}
 use Rattle.grasp_cbor.specs.ReadItem.{fault_ending}

@@ -1,11 +1,11 @@
 -- Addresses, protocols and locators are read from their items.
-use Rattle.std.proofs.Common.{◌≡◌, ◌<◌, ◌^◌, ◌==◌, ℕ, zero, suc, Option, Some, None, IfSome, List, [], ◌∷◌, refl, sym, ap, subst, ◌∙◌, arith, rules, cond, inl, inr, Bool, true, false, length, get_or}
+use Rattle.std.proofs.Common.{◌≡◌, ◌<◌, ◌^◌, ◌==◌, ℕ, zero, suc, Option, Some, None, IfSome, List, [], ◌∷◌, refl, sym, ap, subst, ◌∙◌, arith, inl, inr, length, get_or}
 use Rattle.std.specs.Int.{from_be_bytes, to_be_bytes, w32, w128}
 use Rattle.std.proofs.lemmas.Nat.{be_bytes_4, from_be_bytes-to_be_bytes_4}
 use Rattle.grasp_cbor.specs.Bytes.{AllBytes}
 use Rattle.grasp_cbor.specs.DataItem.{DataItem, unsigned, negative, byte_string, text_string, array, mapping, tagged, simple_value, half_float, single_float, double_float}
 use Rattle.grasp_cbor.specs.Encodable.{IsEncodable}
-use Rattle.grasp_types.proofs.BigEndian.{be_bytes_16, joined, joined-to_be_bytes_16}
+use Rattle.grasp_types.proofs.BigEndian.{be_bytes_16}
 use Rattle.grasp_types.specs.Address.{address_bytes, address_item, proto_item, proto_or_null, port_or_null, IsAddress}
 use Rattle.grasp_types.specs.declared.address.Address.{Address}
 use Rattle.grasp_types.specs.declared.address.Address.TheVariants as address

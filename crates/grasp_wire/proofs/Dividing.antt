@@ -1,7 +1,6 @@
 -- How streams divide.
-use Rattle.std.proofs.Common.{◌≡◌, ◌≢◌, ℕ, zero, suc, ◌+◌, ◌-◌, ◌<◌, ◌≤◌, List, [], ◌∷◌, ◌++◌, length, take, drop, take-append-drop, append_assoc, append-nil, Option, Some, None, refl, sym, ap, subst, ◌∙◌, arith}
+use Rattle.std.proofs.Common.{◌≡◌, ℕ, List, [], ◌∷◌, ◌++◌, append_assoc, append-nil, Option, Some, None, refl, sym, ap, ◌∙◌}
 use Rattle.std.specs.Prelude.{IsSome}
-use Rattle.std.proofs.lemmas.List.{length-append, take_all}
 use Rattle.grasp_cbor.specs.Bytes.{AllBytes}
 use Rattle.grasp_cbor.specs.Ending.{Ending, whole, partial, too_long, faulty, IsEnding}
 use Rattle.grasp_cbor.proofs.Cases.{one_ending}
@@ -11,9 +10,9 @@ use Rattle.grasp_wire.specs.declared.cutter.Cutter.{Cutter}
 use Rattle.grasp_wire.specs.Wire.{IsWireForm, AreWireForms}
 use Rattle.grasp_wire.specs.Stream.{Splits, Divides, RestKind, IsRest}
 use Rattle.grasp_wire.specs.Stream as rest
-use Rattle.grasp_wire.specs.Cutter.{Past, Waits, HasFault}
-use Rattle.grasp_wire.specs.Stands.{Stands, KeepsRest, KeepsUp, cut_limit, rest_of}
-use Rattle.grasp_wire.proofs.Joins.{IsJoin, AreOne, one_form, joined_first, begins}
+use Rattle.grasp_wire.specs.Cutter.{Past, Waits}
+use Rattle.grasp_wire.specs.Stands.{Stands, KeepsUp, cut_limit, rest_of}
+use Rattle.grasp_wire.proofs.Joins.{one_form, joined_first, begins}
 
 pub one_message : (a b : Message) (bytes : List ℕ) (limit : ℕ) → IsWireForm a bytes limit → IsWireForm b bytes limit → a ≡ b
 one_message a b bytes limit f g = (one_form a b bytes bytes [] [] limit f g refl).message

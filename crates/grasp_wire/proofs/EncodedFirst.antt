@@ -1,25 +1,23 @@
 -- Joined encodings and their fronts.
-use Rattle.std.proofs.Common.{◌≡◌, ℕ, zero, suc, ◌+◌, ◌-◌, ◌<◌, ◌≤◌, ◌^◌, ◌⊎◌, inl, inr, List, [], ◌∷◌, ◌++◌, length, take, drop, get_or, take-append-drop, append_assoc, refl, sym, ap, subst, ◌∙◌, arith}
+use Rattle.std.proofs.Common.{◌≡◌, ℕ, suc, ◌+◌, ◌-◌, ◌<◌, ◌≤◌, ◌^◌, inl, inr, List, [], ◌∷◌, ◌++◌, length, take, drop, get_or, take-append-drop, refl, sym, ap, subst, ◌∙◌, arith}
 use Rattle.std.specs.Prelude.{All}
-use Rattle.std.specs.List.{flat_map}
 use Rattle.std.proofs.lemmas.Bool.{cases_lt}
-use Rattle.std.proofs.lemmas.List.{length-append, length-take, length-take-le, take-append-le, drop_more}
+use Rattle.std.proofs.lemmas.List.{length-append, length-take-le, take-append-le, drop_more}
 use Rattle.std.proofs.Math.Seq.{take-append-add}
 use Rattle.grasp_cbor.specs.Bytes.{AllBytes}
-use Rattle.grasp_cbor.specs.CanGoOn.{IsItem, CanGoOn}
+use Rattle.grasp_cbor.specs.CanGoOn.{IsItem}
 use Rattle.grasp_cbor.specs.Ending.{IsPartial}
-use Rattle.grasp_cbor.specs.Encodes.{Encodes}
 use Rattle.grasp_cbor.specs.Shortest.{shortest}
 use Rattle.grasp_cbor.proofs.Cases.{item_here}
-use Rattle.grasp_cbor.proofs.HeadBytes.{AllBytes-drop, AllBytes-take, AllBytes-append}
-use Rattle.grasp_types.specs.Message.{item_of, IsMessage}
+use Rattle.grasp_cbor.proofs.HeadBytes.{AllBytes-drop, AllBytes-take}
+use Rattle.grasp_types.specs.Message.{item_of}
 use Rattle.grasp_types.specs.declared.message.Message.{Message}
 use Rattle.grasp_wire.specs.Wire.{IsWireForm, AreWireForms}
-use Rattle.grasp_wire.specs.Stream.{Splits, Divides, RestKind, waiting, IsRest}
+use Rattle.grasp_wire.specs.Stream.{Splits, Divides, waiting}
 use Rattle.grasp_wire.specs.Laws.{encoded, IsSendable}
-use Rattle.grasp_wire.proofs.Joins.{IsJoin, joined_first, divides_more, divides_alone}
+use Rattle.grasp_wire.proofs.Joins.{joined_first, divides_more, divides_alone}
 use Rattle.grasp_wire.proofs.ReadingOn.{nothing_waits}
-use Rattle.grasp_wire.proofs.ShortestBytes.{shortest_bytes}
+use Rattle.grasp_cbor.proofs.ShortestBytes.{shortest_bytes}
 use Rattle.grasp_wire.proofs.ShortestForm.{shortest_form, sendable_encodable}
 
 first_sendable : (limit : ℕ) (m : Message) (ms : List Message) → All (IsSendable limit) (m ∷ ms) → IsSendable limit m

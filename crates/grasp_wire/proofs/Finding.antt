@@ -1,9 +1,8 @@
 -- What is found in the bytes that are kept.
-use Rattle.std.proofs.Common.{◌≡◌, ℕ, ◌+◌, ◌-◌, ◌<◌, ◌≤◌, List, [], ◌++◌, length, take, drop, Option, Some, None, Result, Ok, Err, refl, sym, ap, subst, ◌∙◌, arith}
-use Rattle.std.proofs.lemmas.List.{take_rest, length-drop, take-append-le, drop-append-le}
+use Rattle.std.proofs.Common.{◌≡◌, ℕ, ◌+◌, ◌-◌, List, [], length, take, drop, Option, Some, Result, refl, ap, subst, ◌∙◌, arith}
+use Rattle.std.proofs.lemmas.List.{take_rest}
 use Rattle.grasp_cbor.specs.ItemReader.{EndsWith}
 use Rattle.grasp_cbor.specs.declared.walker.FaultName.TheVariants as name
-use Rattle.grasp_cbor.specs.Ending.{IsFaulty, IsTooLong}
 use Rattle.grasp_cbor.specs.declared.read.ItemFault.{ItemFault}
 use Rattle.grasp_cbor.specs.declared.read.ItemFault.TheVariants.{Malformed, Indefinite, NotText, TooDeep, TooLong, OutOfMemory}
 use Rattle.grasp_wire.specs.ReadOn.{AnswersRest, cut_of}

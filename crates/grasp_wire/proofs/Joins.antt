@@ -1,16 +1,16 @@
 -- Wire forms, one after the other.
-use Rattle.std.proofs.Common.{◌≡◌, ◌+◌, ◌<◌, ◌≤◌, ℕ, List, [], ◌∷◌, ◌++◌, take, drop, take-append-drop, append-nil, append_assoc, subst, length, sym, refl, ◌∙◌, ap, arith}
-use Rattle.std.proofs.lemmas.List.{length-take-le, length-take, length-append, append_cancel_left, take_at}
+use Rattle.std.proofs.Common.{◌≡◌, ◌<◌, ℕ, List, [], ◌∷◌, ◌++◌, take, append-nil, append_assoc, subst, length, sym, refl, ◌∙◌, ap, arith}
+use Rattle.std.proofs.lemmas.List.{length-append, append_cancel_left, take_at}
 use Rattle.grasp_cbor.specs.Bytes.{AllBytes}
 use Rattle.grasp_cbor.specs.DataItem.{DataItem, unsigned}
 use Rattle.grasp_cbor.specs.Encodes.{Encodes}
 use Rattle.grasp_cbor.specs.Head.{direct}
 use Rattle.grasp_cbor.proofs.Whole.{one_encodes}
 use Rattle.grasp_types.proofs.FromItems.{no_two_messages}
-use Rattle.grasp_types.specs.Message.{item_of, IsMessage}
+use Rattle.grasp_types.specs.Message.{item_of}
 use Rattle.grasp_types.specs.declared.message.Message.{Message}
 use Rattle.grasp_wire.specs.Wire.{IsWireForm, AreWireForms}
-use Rattle.grasp_wire.specs.Stream.{BeginsNoMessage, Splits, Divides, RestKind, IsRest}
+use Rattle.grasp_wire.specs.Stream.{BeginsNoMessage, Divides, RestKind, IsRest}
 use Rattle.grasp_wire.proofs.Rests.{no_message}
 
 -- an encoding has bytes: that of 0 would follow no bytes

@@ -18,7 +18,6 @@ pub mod Rests
 mod Rooms
 pub mod Runs
 pub mod Scalars
-pub mod ShortestBytes
 pub mod ShortestForm
 pub mod SomeDivision
 pub mod Stays

@@ -1,5 +1,5 @@
 -- Locators are read from their items.
-use Rattle.std.proofs.Common.{◌≡◌, ◌<◌, ◌^◌, ◌==◌, ℕ, Option, Some, None, IfSome, List, [], ◌∷◌, refl, sym, ap, subst, ◌∙◌, arith, cond, inl, inr, Bool, true, false, length, drop}
+use Rattle.std.proofs.Common.{◌≡◌, ◌<◌, ◌^◌, ◌==◌, ℕ, Option, Some, None, IfSome, List, [], ◌∷◌, refl, ap, subst, ◌∙◌, inl, inr, true, length, drop}
 use Rattle.std.specs.Int.{to_be_bytes, w32, w128}
 use Rattle.std.specs.Str.{IsUtf8}
 use Rattle.grasp_cbor.specs.DataItem.{DataItem, unsigned, byte_string, text_string, array_of, data_items}
@@ -8,11 +8,9 @@ use Rattle.grasp_types.specs.Address.{proto_item, proto_or_null, port_or_null, l
 use Rattle.grasp_types.specs.Message.{locator_or_empty}
 use Rattle.grasp_types.specs.declared.address.Locator.{Locator}
 use Rattle.grasp_types.specs.declared.address.Locator.TheVariants.{V6, V4, Fqdn, Uri}
-use Rattle.grasp_types.specs.declared.address.Proto.{Proto}
-use Rattle.grasp_wire.specs.Reading.{◌>>=◌, at_place, number_in, text_in, or_null, kind_in}
+use Rattle.grasp_wire.specs.Reading.{◌>>=◌, at_place, number_in, text_in, or_null}
 use Rattle.grasp_wire.specs.ReadParts.{ipv4_in, ipv6_in, proto_in, port_in, v6_of, v4_of, fqdn_of, uri_of, locator_of_kind, locator_of, locator_in, locator_or_empty_of, locator_or_empty_in}
-use Rattle.grasp_wire.proofs.Parts.{parts_in-array_of}
-use Rattle.grasp_wire.proofs.Scalars.{Finds, Again, Any, PartsFind, some_bind, chosen, some_same, none_some, test_is, array_finds, array_again, port_finds, port_again, text_finds}
+use Rattle.grasp_wire.proofs.Scalars.{Finds, Again, Any, PartsFind, some_bind, chosen, some_same, none_some, test_is, array_finds, port_finds, port_again, text_finds}
 use Rattle.grasp_wire.proofs.Addresses.{ipv4_finds, ipv4_again, ipv6_finds, ipv6_again, proto_finds, proto_again, some_proto_finds, some_proto_again, some_port_finds, some_port_again}
 use Rattle.grasp_wire.proofs.Steps.{step, first_is, ends, and_then}
 

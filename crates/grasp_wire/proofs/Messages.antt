@@ -1,24 +1,24 @@
 -- Messages are read from their items.
-use Rattle.std.proofs.Common.{◌≡◌, ◌<◌, ◌≤◌, ◌+◌, ◌^◌, ◌==◌, ℕ, Option, Some, None, IfSome, option_map, List, [], ◌∷◌, ◌++◌, All, map, refl, sym, ap, subst, ◌∙◌, arith, cond, inl, inr, Bool, true, false, length, drop}
+use Rattle.std.proofs.Common.{◌≡◌, ◌<◌, ◌+◌, ◌^◌, ◌==◌, ℕ, Option, Some, None, option_map, List, [], ◌∷◌, ◌++◌, refl, sym, ap, subst, ◌∙◌, arith, cond, inl, inr, Bool, true, false, length, drop}
 use Rattle.std.specs.List.{slice_range}
 use Rattle.std.proofs.lemmas.List.Folds.{drop_split}
 use Rattle.grasp_cbor.specs.DataItem.{DataItem, unsigned, array_of, data_items}
-use Rattle.grasp_cbor.specs.Encodable.{IsEncodable, AreEncodable}
+use Rattle.grasp_cbor.specs.Encodable.{AreEncodable}
 use Rattle.grasp_types.specs.Address.{address_item, IsAddress}
 use Rattle.grasp_types.specs.Message.{item_of, verdict_item, answer_items, flood_part_item, IsMessage, IsVerdict, IsFloodPart}
 use Rattle.grasp_types.specs.Objective.{optional, objective_item, IsObjective, IsValue}
 use Rattle.grasp_types.specs.declared.message.Message.{Message}
 use Rattle.grasp_types.specs.declared.message.Message.TheVariants.{Noop, Discovery, Response, ReqNeg, ReqSyn, Negotiate, End, Wait, Synch, Flood, Invalid}
 use Rattle.grasp_types.specs.declared.objective.Objective.{Objective}
-use Rattle.grasp_wire.specs.Reading.{◌>>=◌, at_place, number_in, last_at, one_or_more}
+use Rattle.grasp_wire.specs.Reading.{at_place, number_in, last_at, one_or_more}
 use Rattle.grasp_wire.specs.ReadParts.{narrow_in, address_in, objective_in, verdict_in, value_in, answer_between, answer_end, flood_part_in}
 use Rattle.grasp_wire.specs.ReadMessages.{told_of, req_neg_of, req_syn_of, negotiate_of, synch_of, noop_of, discovery_of, response_of, end_of, wait_of, flood_of, invalid_of, message_of_kind, message_of, message_in}
-use Rattle.grasp_wire.proofs.Scalars.{Finds, Again, some_bind, chosen, some_same, none_some, test_is, array_finds, array_again, narrow_finds, narrow_again}
-use Rattle.grasp_wire.proofs.Addresses.{address_finds, address_again}
+use Rattle.grasp_wire.proofs.Scalars.{Finds, some_bind, chosen, some_same, none_some, test_is, array_finds, narrow_finds}
+use Rattle.grasp_wire.proofs.Addresses.{address_finds}
 use Rattle.grasp_wire.proofs.Locators.{of_kind}
-use Rattle.grasp_wire.proofs.Objectives.{value_finds, value_again, optional_same, objective_finds, objective_again, verdict_finds, verdict_again, flood_part_finds, flood_part_again}
-use Rattle.grasp_wire.proofs.Responses.{range_rest, answer_found, answer_no_text, end_is, last_again, answer_again}
-use Rattle.grasp_wire.proofs.Steps.{encodable_range, step, first_is, ends, and_then, last_found, some_found, some_again}
+use Rattle.grasp_wire.proofs.Objectives.{value_finds, optional_same, objective_finds, verdict_finds, flood_part_finds}
+use Rattle.grasp_wire.proofs.Responses.{range_rest, answer_found}
+use Rattle.grasp_wire.proofs.Steps.{encodable_range, step, first_is, ends, and_then, last_found, some_found}
 
 -- the array is that of this message, which is in range
 abbrev pub IsRead : List DataItem → Message → Type 0

@@ -1,18 +1,17 @@
 -- What a message's item is made of is read from it again.
-use Rattle.std.proofs.Common.{◌≡◌, ◌<◌, ◌^◌, ℕ, Option, Some, None, option_map, List, [], ◌∷◌, ◌++◌, map, refl, sym, ap, ◌∙◌, length}
-use Rattle.grasp_cbor.specs.DataItem.{DataItem, unsigned, array_of}
+use Rattle.std.proofs.Common.{◌≡◌, ◌<◌, ◌^◌, ℕ, Option, Some, None, option_map, List, [], ◌∷◌, ◌++◌, map, refl, ap, ◌∙◌, length}
+use Rattle.grasp_cbor.specs.DataItem.{DataItem, unsigned}
 use Rattle.grasp_types.specs.Address.{address_item}
 use Rattle.grasp_types.specs.Message.{item_of, verdict_item, answer_items, flood_part_item, IsMessage, IsFloodPart}
-use Rattle.grasp_types.specs.Objective.{optional, objective_item, IsObjective, IsValue}
+use Rattle.grasp_types.specs.Objective.{optional, objective_item, IsObjective}
 use Rattle.grasp_types.specs.declared.address.Address.{Address}
 use Rattle.grasp_types.specs.declared.flood.FloodPart.{FloodPart}
 use Rattle.grasp_types.specs.declared.message.Answer.{Answer}
-use Rattle.grasp_types.specs.declared.message.Message.{Message}
 use Rattle.grasp_types.specs.declared.message.Message.TheVariants.{Noop, Discovery, Response, ReqNeg, ReqSyn, Negotiate, End, Wait, Synch, Flood, Invalid}
 use Rattle.grasp_types.specs.declared.message.Verdict.{Verdict}
 use Rattle.grasp_types.specs.declared.objective.Objective.{Objective}
 use Rattle.grasp_wire.specs.Reading.{◌>>=◌, has_text_first, last_at, one_or_more}
-use Rattle.grasp_wire.specs.ReadParts.{narrow_in, objective_in, answer_between, answer_end, flood_part_in}
+use Rattle.grasp_wire.specs.ReadParts.{narrow_in, objective_in, answer_between, flood_part_in}
 use Rattle.grasp_wire.specs.ReadMessages.{told_of, req_neg_of, req_syn_of, negotiate_of, synch_of, noop_of, discovery_of, response_of, end_of, wait_of, flood_of, invalid_of, message_of_kind, message_of, message_in}
 use Rattle.grasp_wire.proofs.Scalars.{Again, array_again, narrow_again}
 use Rattle.grasp_wire.proofs.Addresses.{address_again}

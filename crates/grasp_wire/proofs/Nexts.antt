@@ -1,5 +1,5 @@
 -- What `next` answers, and how the cutter stands afterwards.
-use Rattle.std.proofs.Common.{◌≡◌, ℕ, ◌+◌, ◌-◌, ◌<◌, ◌≤◌, List, [], ◌∷◌, ◌++◌, length, take, drop, take-append-drop, append_assoc, Option, Some, None, Result, Ok, Err, refl, sym, ap, subst, ◌∙◌, arith}
+use Rattle.std.proofs.Common.{◌≡◌, ℕ, [], ◌∷◌, ◌++◌, length, take, drop, take-append-drop, append_assoc, Option, Some, None, Result, Ok, Err, refl, sym, ap, subst, ◌∙◌, arith}
 use Rattle.std.proofs.lemmas.List.{length-append}
 use Rattle.grasp_cbor.specs.Bytes.{AllBytes}
 use Rattle.grasp_cbor.specs.DataItem.{DataItem}
@@ -13,8 +13,8 @@ use Rattle.grasp_wire.specs.declared.cutter.Cutter.{Cutter}
 use Rattle.grasp_wire.specs.Wire.{IsWireForm, AreWireForms}
 use Rattle.grasp_wire.specs.Stream.{RestKind, IsRest, Divides, waiting, too_long, not_message, faulty}
 use Rattle.grasp_wire.specs.Reads.{fault_of}
-use Rattle.grasp_wire.specs.Cutter.{Past, after_next, fault_after, lasting, BeginsWith, Waits, HasFault, HasWhole, Finds, AnswersNext}
-use Rattle.grasp_wire.specs.Stands.{Stands, KeepsRest, KeepsUp, IsSame, IsFaultOf, AnswersFound, AnswersItem, cut_limit, fed_count, rest_of, before_of, fault_in}
+use Rattle.grasp_wire.specs.Cutter.{Past, after_next, fault_after, lasting, HasFault, Finds, AnswersNext}
+use Rattle.grasp_wire.specs.Stands.{Stands, KeepsRest, KeepsUp, IsSame, IsFaultOf, AnswersItem, cut_limit, fed_count, rest_of, before_of}
 use Rattle.grasp_wire.proofs.Joins.{joined_more}
 use Rattle.grasp_wire.proofs.Rests.{no_message}
 

@@ -1,9 +1,8 @@
 -- Objectives, verdicts and parts of floods are read from their items.
-use Rattle.std.proofs.Common.{◌≡◌, ◌<◌, ◌≤◌, ◌+◌, ◌^◌, ◌==◌, ℕ, Option, Some, None, IfSome, option_map, List, [], ◌∷◌, refl, sym, ap, subst, ◌∙◌, arith, rules, cond, inl, inr, nat_le, Bool, true, false, length, drop}
+use Rattle.std.proofs.Common.{◌≡◌, ◌<◌, ◌≤◌, ◌^◌, ◌==◌, ℕ, Option, Some, None, IfSome, option_map, List, [], ◌∷◌, refl, ap, subst, ◌∙◌, arith, rules, cond, inl, inr, nat_le, true, length, drop}
 use Rattle.std.proofs.lemmas.Bool.Decides.{nat_tests}
 use Rattle.std.specs.Str.{IsUtf8}
-use Rattle.grasp_cbor.specs.DataItem.{DataItem, unsigned, text_string, array_of, data_items, depth_of}
-use Rattle.grasp_cbor.specs.Encodable.{AreEncodable}
+use Rattle.grasp_cbor.specs.DataItem.{DataItem, unsigned, text_string, array_of, depth_of}
 use Rattle.grasp_types.specs.Address.{IsLocator}
 use Rattle.grasp_types.specs.Message.{verdict_item, IsVerdict, locator_or_empty, flood_part_item, IsFloodPart}
 use Rattle.grasp_types.specs.Objective.{optional, objective_item, IsObjective, IsValue}

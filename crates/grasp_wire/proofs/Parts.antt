@@ -1,6 +1,6 @@
 -- The parts of arrays.
-use Rattle.std.proofs.Common.{◌≡◌, Option, Some, List, [], ◌∷◌, refl, sym, ap, ◌∙◌}
-use Rattle.grasp_cbor.specs.DataItem.{DataItem, array, data_items, items_in, array_of}
+use Rattle.std.proofs.Common.{◌≡◌, Some, List, [], ◌∷◌, refl, ap}
+use Rattle.grasp_cbor.specs.DataItem.{DataItem, data_items, items_in, array_of}
 use Rattle.grasp_wire.specs.Reading.{parts_in}
 
 pub items_in-data_items : (ts : List DataItem) → items_in (data_items ts) ≡ ts

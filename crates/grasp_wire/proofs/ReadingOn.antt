@@ -1,13 +1,11 @@
 -- Steps of reading on.
-use Rattle.std.proofs.Common.{◌≡◌, ℕ, ◌+◌, ◌<◌, ◌≤◌, List, [], ◌∷◌, ◌++◌, take, drop, get_or, length, Option, Some, None, Result, Ok, Err, sym, ap, subst, ◌∙◌, append_assoc, append-nil, arith}
-use Rattle.std.proofs.lemmas.List.{length-append, length-take-le, length_push, take_more, take_all, take-append-drop, take-append-le}
-use Rattle.grasp_cbor.specs.CanGoOn.{CanGoOn, IsItem}
+use Rattle.std.proofs.Common.{◌≡◌, ℕ, ◌+◌, ◌<◌, List, [], ◌∷◌, ◌++◌, take, drop, get_or, length, Some, Ok, sym, ap, subst, ◌∙◌, append_assoc, arith}
+use Rattle.std.proofs.lemmas.List.{length-append, length-take-le, length_push, take_more, take-append-drop, take-append-le}
 use Rattle.grasp_cbor.specs.DataItem.{DataItem}
 use Rattle.grasp_cbor.specs.Ending.{IsWhole, IsPartial}
-use Rattle.grasp_cbor.specs.ItemReader.{Reading, EndsWith, AnswersTaken, bytes_after, reader_limit}
+use Rattle.grasp_cbor.specs.ItemReader.{Reading, EndsWith, AnswersTaken, reader_limit}
 use Rattle.grasp_cbor.specs.declared.item_reader.ItemReader.{ItemReader}
 use Rattle.grasp_cbor.specs.declared.read.ItemFault.{ItemFault}
-use Rattle.grasp_cbor.specs.declared.walker.Taken.{Taken}
 use Rattle.grasp_cbor.specs.declared.walker.Taken.TheVariants.{More, Whole}
 use Rattle.grasp_cbor.proofs.Insides.{zero_item}
 use Rattle.grasp_cbor.proofs.Kept.{ends_stays}

@@ -1,5 +1,5 @@
 -- What a response tells is read from its items.
-use Rattle.std.proofs.Common.{◌≡◌, ◌<◌, ◌≤◌, ◌+◌, ◌-◌, ◌^◌, ◌==◌, ℕ, zero, suc, Option, Some, None, IfSome, option_map, List, [], ◌∷◌, ◌++◌, All, map, refl, sym, ap, subst, ◌∙◌, arith, rules, cond, inl, inr, nat_lt, Bool, true, false, length, take, drop, slice_get, append-nil, length-append, length-drop}
+use Rattle.std.proofs.Common.{◌≡◌, ◌<◌, ◌≤◌, ◌+◌, ◌-◌, ◌==◌, ℕ, zero, suc, Option, Some, None, IfSome, option_map, List, [], ◌∷◌, ◌++◌, map, refl, sym, ap, subst, ◌∙◌, arith, rules, cond, inl, inr, nat_lt, Bool, true, false, length, take, drop, slice_get, append-nil, length-append, length-drop}
 use Rattle.std.proofs.Math.Seq.{take-length, take-append_seam}
 use Rattle.std.proofs.lemmas.Bool.Decides.{nat_tests}
 use Rattle.std.specs.List.{slice_range}
@@ -16,7 +16,7 @@ use Rattle.grasp_types.specs.declared.objective.Objective.{Objective}
 use Rattle.grasp_wire.specs.Reading.{◌>>=◌, at_place, test_at, passes, number_in, parts_in, kind_in, has_text_first, last_at, one_or_more}
 use Rattle.grasp_wire.specs.ReadParts.{locator_in, divert_in, divert_answer, locators_answer, answer_between, answer_end}
 use Rattle.grasp_wire.proofs.Runs.{turn, no_turn}
-use Rattle.grasp_wire.proofs.Scalars.{Finds, Again, some_bind, chosen, some_same, none_some, test_is, is_test, not_test, below_is, array_found, array_again}
+use Rattle.grasp_wire.proofs.Scalars.{Again, some_bind, chosen, some_same, none_some, test_is, is_test, not_test, below_is, array_found, array_again}
 use Rattle.grasp_wire.proofs.Locators.{of_kind, locator_finds, locator_again}
 use Rattle.grasp_wire.proofs.Steps.{encodable_at, encodable_range, first_is, and_then, some_found, some_again}
 

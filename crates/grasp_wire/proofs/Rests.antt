@@ -1,8 +1,8 @@
 -- A rest begins with no message.
-use Rattle.std.proofs.Common.{◌≡◌, ℕ, ◌≤◌, List, ◌++◌, length, take, drop, take-append-drop, sym, ◌∙◌, ap, subst, arith}
+use Rattle.std.proofs.Common.{◌≡◌, ℕ, ◌≤◌, List, length, take, drop, take-append-drop, sym, ◌∙◌, arith}
 use Rattle.std.proofs.lemmas.List.{length-take-le}
 use Rattle.grasp_cbor.specs.Bytes.{AllBytes}
-use Rattle.grasp_cbor.specs.Ending.{Ending, whole, partial, too_long, faulty, IsWhole, IsEnding}
+use Rattle.grasp_cbor.specs.Ending.{whole, partial, too_long, faulty, IsWhole}
 use Rattle.grasp_cbor.proofs.Cases.{one_ending}
 use Rattle.grasp_cbor.proofs.Whole.{one_encodes}
 use Rattle.grasp_types.specs.Message.{item_of}

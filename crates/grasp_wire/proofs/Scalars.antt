@@ -1,5 +1,5 @@
 -- What is read from an item is what the item was made of: numbers, texts and arrays.
-use Rattle.std.proofs.Common.{◌≡◌, ◌<◌, ◌^◌, ◌==◌, ℕ, zero, suc, Option, Some, None, IfSome, List, [], ◌∷◌, refl, sym, ap, subst, ◌∙◌, arith, rules, nat_lt, cond, inl, inr, ◌⊎◌, Bool, true, false, length, slice_get}
+use Rattle.std.proofs.Common.{◌≡◌, ◌<◌, ◌^◌, ◌==◌, ℕ, Option, Some, None, IfSome, List, refl, sym, ap, subst, ◌∙◌, rules, nat_lt, cond, inl, inr, ◌⊎◌, Bool, true, false}
 use Rattle.std.proofs.lemmas.Bool.Decides.{nat_tests}
 use Rattle.std.specs.Str.{IsUtf8}
 use Rattle.grasp_cbor.specs.DataItem.{DataItem, DataItems, unsigned, negative, byte_string, text_string, array, mapping, tagged, simple_value, half_float, single_float, double_float, no_items, item_and, data_items, items_in, array_of}

@@ -1,7 +1,6 @@
 -- The parts of an array, read one after the other.
-use Rattle.std.proofs.Common.{◌≡◌, ◌<◌, ◌≤◌, ◌+◌, ◌-◌, ◌==◌, ℕ, zero, suc, Option, Some, None, IfSome, option_map, List, [], ◌∷◌, ◌++◌, All, map, refl, sym, ap, subst, ◌∙◌, arith, rules, cond, inl, inr, Bool, true, false, length, take, drop, slice_get, drop_of_length-le}
+use Rattle.std.proofs.Common.{◌≡◌, ◌≤◌, ◌+◌, ◌-◌, ◌==◌, ℕ, zero, suc, Option, Some, None, IfSome, option_map, List, [], ◌∷◌, All, map, refl, ap, subst, ◌∙◌, arith, inl, inr, length, take, drop, slice_get, drop_of_length-le}
 use Rattle.std.specs.List.{slice_range}
-use Rattle.std.proofs.lemmas.Option.{slice_get_within}
 use Rattle.grasp_cbor.specs.DataItem.{DataItem, unsigned, data_items}
 use Rattle.grasp_cbor.specs.Encodable.{IsEncodable, AreEncodable}
 use Rattle.grasp_types.specs.Objective.{optional}

@@ -9,7 +9,7 @@ use Rattle.grasp_wire.specs.declared.cutter.Cutter.{Cutter}
 use Rattle.grasp_wire.specs.declared.fault.CutFault.TheVariants.{OutOfMemory}
 use Rattle.grasp_wire.specs.declared.fault.OneFault.{OneFault}
 use Rattle.grasp_wire.specs.declared.fault.OneFault.TheVariants.{Cut}
-use Rattle.grasp_wire.specs.Wire.{IsWireForm, AreWireForms}
+use Rattle.grasp_wire.specs.Wire.{IsWireForm}
 use Rattle.grasp_wire.specs.Cutter.{Past, Waits}
 use Rattle.grasp_wire.specs.Stands.{Stands, cut_limit}
 use Rattle.grasp_wire.specs.One.{AnswersOne}

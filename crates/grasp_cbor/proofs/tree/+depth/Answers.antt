@@ -1,6 +1,4 @@
-use Rattle.std.proofs.Common.{◌^◌, ◌-◌, min, ap, ◌∙◌, sym, arith}
-use Rattle.grasp_cbor.specs.DataItem.{depth_of}
-use Rattle.grasp_cbor.specs.Item.{data_item_of}
+use Rattle.std.proofs.Common.{arith}
 use Rattle.grasp_cbor.proofs.Depths.{items_depth_more, pairs_depth_more}
 use Rattle.grasp_cbor.proofs.tree.+depth.Goals as goal
 

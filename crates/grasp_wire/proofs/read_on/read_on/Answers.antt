@@ -1,9 +1,9 @@
-use Rattle.std.proofs.Common.{◌≡◌, ◌++◌, ◌∷◌, [], take, get_or, length, Ok, Err, subst, ap, sym, ◌∙◌, arith}
+use Rattle.std.proofs.Common.{◌≡◌, ◌++◌, ◌∷◌, [], take, get_or, Ok, subst, ◌∙◌, arith}
 use Rattle.std.proofs.lemmas.List.{take_all}
 use Rattle.grasp_cbor.specs.Ending.{IsPartial}
 use Rattle.grasp_cbor.specs.ItemReader.{Reading, EndsWith, AnswersTaken, reader_limit}
 use Rattle.grasp_cbor.specs.declared.walker.Taken.TheVariants.{More, Whole}
-use Rattle.grasp_wire.specs.ReadOn.{IsOpen, AnswersRead}
+use Rattle.grasp_wire.specs.ReadOn.{IsOpen}
 use Rattle.grasp_wire.proofs.ReadingOn.{open_more, ended, faulted, open_again}
 use Rattle.grasp_wire.proofs.read_on.read_on.Goals as goal
 

@@ -1,10 +1,9 @@
-use Rattle.std.proofs.Common.{◌≡◌, ◌+◌, ◌-◌, ◌^◌, ◌<◌, ◌≤◌, rules, Ok, Err, Some, None, drop, take, length, List, ℕ, arith}
+use Rattle.std.proofs.Common.{◌-◌, ◌^◌, ◌<◌, rules, Ok, Err, Some, None, drop, length, arith}
 use Rattle.std.proofs.lemmas.List.{length-take, length-drop}
 use Rattle.grasp_cbor.specs.Bytes.{AllBytes}
 use Rattle.grasp_cbor.specs.ItemReader.{reader_limit}
 use Rattle.grasp_cbor.proofs.HeadBytes.{AllBytes-from}
-use Rattle.grasp_wire.specs.ReadOn.{AnswersRead, IsOpenAfter}
-use Rattle.grasp_wire.proofs.Sure.{later, rest_read, rest_whole, rest_waits, rest_faulted, rest_then}
+use Rattle.grasp_wire.proofs.Sure.{rest_read, rest_whole, rest_waits, rest_faulted, rest_then}
 use Rattle.grasp_wire.proofs.read_on.read_rest.Goals as goal
 
 pub overflow_add-result : goal.overflow_add-result

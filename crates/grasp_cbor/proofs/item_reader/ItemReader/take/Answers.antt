@@ -1,4 +1,4 @@
-use Rattle.std.proofs.Common.{◌∷◌, ◌++◌, [], Err, sym, subst}
+use Rattle.std.proofs.Common.{◌∷◌, ◌++◌, [], sym, subst}
 use Rattle.grasp_cbor.specs.ItemReader.{Keeps}
 use Rattle.grasp_cbor.specs.Walking.{Took}
 use Rattle.grasp_cbor.specs.Ending.{IsTooLong}

@@ -1,5 +1,4 @@
-use Rattle.std.proofs.Common.{◌≡◌, ◌∙◌, ◌+◌, ℕ, Option, Some, None, refl, arith}
-use Rattle.grasp_cbor.specs.Bytes.{AllBytes}
+use Rattle.std.proofs.Common.{◌∙◌, refl, arith}
 use Rattle.grasp_cbor.proofs.HeadBytes.{AllBytes-from}
 use Rattle.grasp_wire.proofs.Stays.{stands_counted, stands_fed, both_ok, some_in, none_in}
 use Rattle.grasp_wire.proofs.cutter.Cutter.feed.Goals as goal

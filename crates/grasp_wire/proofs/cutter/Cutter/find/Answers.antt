@@ -1,7 +1,6 @@
-use Rattle.std.proofs.Common.{rules, ◌≡◌, ◌-◌, ◌<◌, ◌≤◌, [], ℕ, length, take, drop, Some, None, Ok, Err, sym, subst, ap, ◌∙◌, arith}
-use Rattle.std.proofs.lemmas.List.{length-drop}
+use Rattle.std.proofs.Common.{◌≡◌, ◌-◌, [], length, take, drop, Some, None, Ok, Err, sym, subst, ap, ◌∙◌, arith}
 use Rattle.grasp_cbor.specs.ItemReader.{reader_limit}
-use Rattle.grasp_wire.specs.ReadOn.{IsOpen, IsOpenAfter, IsReadTo, AnswersRest, cut_of, place_in}
+use Rattle.grasp_wire.specs.ReadOn.{IsOpen, IsReadTo, AnswersRest, cut_of}
 use Rattle.grasp_wire.specs.Cutter.{lasting}
 use Rattle.grasp_wire.specs.Stands.{IsFaultOf, rest_of, cut_limit, before_of}
 use Rattle.grasp_wire.proofs.Sure.{opened, limited, read_to}

@@ -1,4 +1,4 @@
-use Rattle.std.proofs.Common.{[], arith}
+use Rattle.std.proofs.Common.{arith}
 use Rattle.grasp_wire.proofs.ReadingOn.{nothing_waits}
 use Rattle.grasp_wire.proofs.cutter.Cutter.new.Goals as goal
 

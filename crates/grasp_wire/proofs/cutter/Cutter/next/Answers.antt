@@ -1,4 +1,4 @@
-use Rattle.std.proofs.Common.{◌≡◌, ℕ, Option, Some, None, Ok, Err, subst}
+use Rattle.std.proofs.Common.{Some, Ok, Err, subst}
 use Rattle.grasp_cbor.specs.DataItem.{DataItem}
 use Rattle.grasp_cbor.specs.Ending.{IsWhole, IsPartial}
 use Rattle.grasp_wire.specs.Cutter.{AnswersNext}
