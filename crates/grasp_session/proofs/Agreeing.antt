@@ -6,13 +6,14 @@ use Rattle.grasp_types.specs.declared.objective.Objective.{Objective}
 use Rattle.grasp_types.specs.declared.message.Verdict.TheVariants.{Accept, Decline}
 use Rattle.grasp_types.specs.declared.message.Message.{Message}
 use Rattle.grasp_types.specs.declared.message.Message.TheVariants.{ReqNeg, Negotiate, Wait, End, Invalid}
-use Rattle.grasp_session.specs.Conversation.{Said, says, strip, ended, accepted_by, newest_offer_by}
+use Rattle.grasp_session.specs.Conversation.{Said, says, strip, ended, accepted_by, newest_offer_by, IsLegal}
 use Rattle.grasp_session.specs.Transcript.{Entry, Transcript, Mark, Expired, Closed, Starved, Faulty, side_of, said_of, known, outcome_of, mark_outcome, entries_outcome, message_outcome, by_of}
 use Rattle.grasp_types.specs.declared.session.Outcome.TheVariants as outcome
 use Rattle.grasp_types.specs.declared.session.By.{By}
 use Rattle.grasp_types.specs.declared.session.By.TheVariants.{Mine, Theirs}
 use Rattle.grasp_session.specs.Laws.{speaker, Agreement}
 use Rattle.grasp_session.proofs.Views.{same_side, is_side-true}
+use Rattle.grasp_session.proofs.Offers.{accepted_made}
 
 -- an agreement that an end reports: the newest is an acceptance
 pub record Reported (v : Transcript) (c : List Said) (by : By) (o : Objective) : Type 0 where
@@ -63,12 +64,12 @@ one_of Mine Theirs e = inl (refl, refl)
 one_of Theirs Mine e = inr (refl, refl)
 one_of Theirs Theirs e = absurd (cc)
 
-pub agreeing : (v w : Transcript) (a b : By) (o p : Objective) (said : List Said) → v.role ≡ Near → w.role ≡ Far → known v ≡ strip said → known w ≡ strip said
+pub agreeing : (v w : Transcript) (a b : By) (o p : Objective) (said : List Said) → IsLegal (strip said) → v.role ≡ Near → w.role ≡ Far → known v ≡ strip said → known w ≡ strip said
     → Reported v (known v) a o → Reported w (known w) b p → Agreement a b o p said
-agreeing v w a b o p said near far k l r q =
+agreeing v w a b o p said legal near far k l r q =
     let x : accepted_by (speaker Near a) (strip said) ≡ true = subst (λ c. accepted_by (speaker Near a) c ≡ true) k (subst (λ s. accepted_by (speaker s a) (known v) ≡ true) near r.accepted) in
     let y : accepted_by (speaker Far b) (strip said) ≡ true = subst (λ c. accepted_by (speaker Far b) c ≡ true) l (subst (λ s. accepted_by (speaker s b) (known w) ≡ true) far q.accepted) in
     let z : speaker Near a ≡ speaker Far b = one_speaker (speaker Near a) (speaker Far b) (strip said) x y in
     let f : o ≡ newest_offer_by (other (speaker Near a)) (strip said) = r.objective ∙ (ap (λ s. newest_offer_by (other (speaker s a)) (known v)) near ∙ ap (newest_offer_by (other (speaker Near a))) k) in
     let g : p ≡ newest_offer_by (other (speaker Far b)) (strip said) = q.objective ∙ (ap (λ s. newest_offer_by (other (speaker s b)) (known w)) far ∙ ap (newest_offer_by (other (speaker Far b))) l) in
-    record { one = one_of a b z; same = f ∙ (ap (λ s. newest_offer_by (other s) (strip said)) z ∙ sym g); offered = f }
+    record { one = one_of a b z; same = f ∙ (ap (λ s. newest_offer_by (other s) (strip said)) z ∙ sym g); offered = f; made = accepted_made (speaker Near a) (strip said) legal x }

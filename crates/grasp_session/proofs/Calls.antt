@@ -1,8 +1,10 @@
 -- What each call does to the sessions that a table keeps.
 use Rattle.std.proofs.Common.{◌≡◌, ◌≢◌, ℕ, ◌+◌, ◌-◌, ◌^◌, ◌<◌, Bool, true, false, cond, not, ◌&&◌, ◌||◌, List, Option, Some, None, Result, Ok, Err, is_some, is_none, IfOk, OnErr, IfSome, Bor, count_by, slice_index_or, slice_set, nat_lt, nat_le, ◌==◌, bytes_eq, if◌then◌else◌, refl, sym, ap, ◌∙◌, subst, arith}
-use Rattle.std.proofs.lemmas.Bool.{false≢true, true≢false, and_parts, cond-true, cond-false, eq-eqb, eqb-true}
+use Rattle.std.proofs.lemmas.Bool.{false≢true, true≢false, and_parts, and_from, and_right, cond-true, cond-false, eq-eqb, eqb-true}
 use Rattle.std.proofs.lemmas.List.{length-set}
 use Rattle.grasp_types.specs.declared.message.Message.{Message}
+use Rattle.grasp_types.specs.declared.message.Message.TheVariants.{End}
+use Rattle.grasp_types.specs.declared.message.Verdict.{Verdict}
 use Rattle.grasp_types.specs.declared.objective.Objective.{Objective}
 use Rattle.grasp_types.specs.declared.session.Handle.{Handle}
 use Rattle.grasp_types.specs.declared.session.Outcome.{Outcome}
@@ -17,9 +19,9 @@ use Rattle.grasp_session.specs.declared.begin.Begin.{Begin}
 use Rattle.grasp_session.specs.declared.session.Session.{Session}
 use Rattle.grasp_session.specs.declared.table.Table.{Table}
 use Rattle.grasp_session.specs.declared.wanted.Wanted.TheVariants.{OnStream, Due, Untaken}
-use Rattle.grasp_session.specs.Transcript.{Mark, Expired, Saying, message_of, having_said, receive, after_received, with_mark, is_going, is_mine, outcome_of, peer_offer, last_offer, session_of}
+use Rattle.grasp_session.specs.Transcript.{Mark, Expired, Saying, SayEnd, message_of, having_said, receive, after_received, with_mark, is_going, is_mine, outcome_of, peer_offer, last_offer, session_of}
 use Rattle.grasp_session.specs.Keeps.{Keeps, refusal_in, leaves_in, offer_in, ended_with}
-use Rattle.grasp_session.specs.Sessions.{SessionState, Sessions, with_transcript, with_owner, begun_state, if_owner, if_refused, session_at, session_owned, on_stream, due, stream_of, with_place, left, changed, live_count, is_full, MayStart, after_start, say_reply, after_say, receive_reply, after_receive, poll_reply, IsTurn, MayPoll, after_poll, mark_at, after_mark, expire_reply, after_expire, state_reply, stream_reply, session_reply, last_reply, adopt_reply, after_adopt, after_remove}
+use Rattle.grasp_session.specs.Sessions.{SessionState, Sessions, with_transcript, with_owner, begun_state, if_owner, if_refused, session_at, session_owned, on_stream, due, stream_of, with_place, left, is_leaving, changed, live_count, is_full, MayStart, after_start, say_reply, after_say, MayStarve, receive_reply, after_receive, poll_reply, IsTurn, MayPoll, after_poll, mark_at, after_mark, expire_reply, after_expire, state_reply, stream_reply, session_reply, last_reply, adopt_reply, after_adopt, after_remove}
 use Rattle.grasp_session.specs.Stands.{Stands, StandsAt, kept_at, kept_owned, answer_in, check_answer, state_at, state_answer, oldest_in, fits_at, full_in, settled, IsUntaken, owner_in}
 use Rattle.grasp_session.proofs.Tables.{slot, zip_slot, zip_count, zip_set, Found, find, oldest_stands, put_back, put_stands, back_stands, left_stands, settled_stands, reply_at, say_stands}
 
@@ -92,6 +94,31 @@ pub say_ok : (t u v : Table) (z : Sessions) (h : Handle) (now : ℕ) (saying : S
     → ((x : SessionState) → Keeps s x → (m ≡ message_of x.view saying) × Keeps r (with_transcript x (having_said x.view now saying)))
     → Stands t z → (m ≡ say_reply z h saying) × Stands v (after_say z now h saying)
 say_ok t u v z h now saying s r m e a b f st = say_stands t u v z h now saying s r m st e f a b
+
+-- the end of a session that an agent has taken
+pub starves_taken : {A E : Type 0} (r : Result A E) (owner : ℕ) (verdict : Verdict) → OnErr r (0 < owner → MayStarve owner verdict) → 0 < owner → OnErr r (MayStarve owner verdict)
+starves_taken (Ok a) owner verdict f taken = tt
+starves_taken (Err e) owner verdict f taken = f taken
+
+-- the end of a session that no agent has taken
+checked_owner : (t : Table) (owner : ℕ) (h : Handle) (a : Act) (s : Session) → check_answer t owner h a ≡ Ok tt → kept_at t.places h ≡ Some s → s.owner ≡ owner
+checked_owner t owner h a s e k = by_test (s.owner == owner) refl (subst (λ o. answer_in a (if_owner (λ r. r.owner) owner o) ≡ Ok tt) k e) where
+  by_test : (b : Bool) → s.owner == owner ≡ b → answer_in a (cond b (Some s) None) ≡ Ok tt → s.owner ≡ owner
+  by_test true f g = eqb-true s.owner owner f
+  by_test false f g = absurd (cc)
+
+end_leaves : (x : SessionState) (now : ℕ) (verdict : Verdict) → x.owner ≡ 0 → is_leaving (with_transcript x (having_said x.view now (SayEnd verdict))) ≡ true
+end_leaves x now verdict e = and_from (x.owner == 0) (not (is_none x.view.mark && false)) (eq-eqb x.owner 0 e) (ap not (and_right (is_none x.view.mark) false refl))
+
+pub end_untaken : (t u : Table) (z : Sessions) (h : Handle) (now : ℕ) (verdict : Verdict) (s : Session) → check_answer t 0 h act.End ≡ Ok tt → kept_at t.places h ≡ Some s → u ≡ record t { places = slice_set t.places h.place None }
+    → Stands t z → (End s.session verdict ≡ say_reply z h (SayEnd verdict)) × Stands u (after_say z now h (SayEnd verdict))
+end_untaken t u z h now verdict s allowed e a st = by_found (find t z h s st e) where
+  by_found : Found z h s → (End s.session verdict ≡ say_reply z h (SayEnd verdict)) × Stands u (after_say z now h (SayEnd verdict))
+  by_found q =
+      let own : q.state.owner ≡ 0 = sym q.keeps.owner ∙ checked_owner t 0 h act.End s allowed e in
+      let over : is_leaving (with_transcript q.state (having_said q.state.view now (SayEnd verdict))) ≡ true = end_leaves q.state now verdict own in
+      let back : Stands (put_back t h (slice_set t.places h.place None)) (left z h (with_transcript q.state (having_said q.state.view now (SayEnd verdict)))) = left_stands t z h (with_transcript q.state (having_said q.state.view now (SayEnd verdict))) st in
+      (rw q.is (ap (λ (n : ℕ). End n verdict) q.keeps.session), rw (q.is, over, a) back)
 
 -- a message that comes
 stream_found : (t : Table) (z : Sessions) (stream : ℕ) (o : Option Handle) → Stands t z → o ≡ oldest_in (OnStream stream) t.places → on_stream z stream ≡ o

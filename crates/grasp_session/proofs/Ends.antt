@@ -57,7 +57,7 @@ agree ms v w a b o p e f g h =
     let t = sound_view ms Far w f in
     let r = reported v a o g in
     let q = reported w b p h in
-    agreeing v w a b o p (run quiet ms).said s.role t.role
+    agreeing v w a b o p (run quiet ms).said (sound ms).legal s.role t.role
     (still_whole Near (known v) (strip (run quiet ms).said) (sound ms).legal s.trails (inr r.over))
     (still_whole Far (known w) (strip (run quiet ms).said) (sound ms).legal t.trails (inr q.over)) r q
 

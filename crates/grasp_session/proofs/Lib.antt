@@ -21,6 +21,7 @@ pub mod Tables
 pub mod Oldest
 pub mod Calls
 pub mod Means
+pub mod Replies
 pub mod Lasts
 pub mod Numbers
 pub mod Runs

@@ -1,12 +1,12 @@
 -- The offers of a side, in what trails.
-use Rattle.std.proofs.Common.{◌≡◌, Bool, true, false, cond, List, [], ◌∷◌, ◌⊎◌, inl, inr, refl, sym, ap, ◌∙◌, subst}
-use Rattle.std.proofs.lemmas.Bool.{false≢true, true≢false, cond-false, and_parts}
+use Rattle.std.proofs.Common.{◌≡◌, Bool, true, false, cond, ◌&&◌, List, [], ◌∷◌, ◌⊎◌, inl, inr, refl, sym, ap, ◌∙◌, subst}
+use Rattle.std.proofs.lemmas.Bool.{false≢true, true≢false, cond-false, and_parts, or_right}
 use Rattle.grasp_session.specs.Messages.{Side, Near, Far, other, is_side, is_end, is_acceptance}
 use Rattle.grasp_types.specs.declared.message.Message.{Message}
 use Rattle.grasp_types.specs.declared.message.Message.TheVariants.{ReqNeg, Negotiate, Wait, End, Invalid}
-use Rattle.grasp_session.specs.Conversation.{Said, says, ended, turn, accepted_by, offer_in, newest_offer_by, answered, MayFollow, IsLegal, Trails}
+use Rattle.grasp_session.specs.Conversation.{Said, says, begun, ended, turn, accepted_by, has_offered, offer_in, newest_offer_by, answered, MayFollow, IsLegal, Trails}
 use Rattle.grasp_session.proofs.Follows.{other_other, follows_turn, follows_open}
-use Rattle.grasp_session.proofs.Views.{same_side, is_side-other}
+use Rattle.grasp_session.proofs.Views.{same_side, is_side-true, is_side-other}
 
 pub trails_offer : (side : Side) (v c : List Said) → Trails side v c → newest_offer_by side v ≡ newest_offer_by side c
 trails_offer side v [] t = ap (newest_offer_by side) t
@@ -84,3 +84,33 @@ acceptance_ends m a = absurd (false≢true a)
 pub accepted_ended : (side : Side) (c : List Said) → accepted_by side c ≡ true → ended c ≡ true
 accepted_ended side [] a = absurd (false≢true a)
 accepted_ended side (x ∷ c) a = acceptance_ends x.message (and_parts (is_side side x.side) (is_acceptance x.message) a).1
+
+-- the side whose turn it isn't has offered
+offered_step : (s : Side) (m : Message) (c : List Said) → MayFollow c (says s m) → (begun c ≡ true → has_offered (other (turn c)) c ≡ true) → has_offered (other (turn (says s m ∷ c))) (says s m ∷ c) ≡ true
+offered_step s (ReqNeg n o) c f h = rw f.1 refl
+offered_step s (Negotiate n o) c f h = let same : s ≡ turn c = f.0.in_turn in rw (same, other_other (turn c), same_side (turn c)) refl
+offered_step s (Wait n t) c f h = or_right (is_side (other (turn c)) s && false) (has_offered (other (turn c)) c) (h f.0.has_begun)
+offered_step s (End n d) c f h = or_right (is_side (other (turn c)) s && false) (has_offered (other (turn c)) c) (h f.has_begun)
+offered_step s (Invalid n d) c f h = absurd f
+offered_step s m c f h = absurd f
+
+turn_offered : (c : List Said) → IsLegal c → begun c ≡ true → has_offered (other (turn c)) c ≡ true
+turn_offered [] l b = absurd (false≢true b)
+turn_offered (x ∷ c) l b = offered_step x.side x.message c l.0 (turn_offered c l.1)
+
+-- an acceptance leaves the turn
+acceptance_turn : (s : Side) (m : Message) (c : List Said) → is_acceptance m ≡ true → turn (says s m ∷ c) ≡ turn c
+acceptance_turn s (ReqNeg n o) c a = absurd (false≢true a)
+acceptance_turn s (Negotiate n o) c a = absurd (false≢true a)
+acceptance_turn s (Wait n t) c a = refl
+acceptance_turn s (End n d) c a = refl
+acceptance_turn s (Invalid n d) c a = refl
+acceptance_turn s m c a = absurd (false≢true a)
+
+-- where a side accepts, the other side has offered
+pub accepted_made : (side : Side) (c : List Said) → IsLegal c → accepted_by side c ≡ true → has_offered (other side) c ≡ true
+accepted_made side [] l a = absurd (false≢true a)
+accepted_made side (x ∷ c) l a =
+    let p = and_parts (is_side side x.side) (is_acceptance x.message) a in
+    let t : turn (x ∷ c) ≡ side = acceptance_turn x.side x.message c p.1 ∙ (sym (follows_turn c x.side x.message l.0) ∙ is_side-true side x.side p.0) in
+    subst (λ s. has_offered (other s) (x ∷ c) ≡ true) t (turn_offered (x ∷ c) l refl)

@@ -1,15 +1,15 @@
 -- What an outcome says of the conversation.
 use Rattle.std.proofs.Common.{◌≡◌, ℕ, Bool, true, false, cond, ◌&&◌, List, [], ◌∷◌, ◌⊎◌, inl, inr, Option, Some, None, refl, sym, ap, ◌∙◌, subst}
 use Rattle.std.proofs.lemmas.Bool.{cond-true, and_parts, and_right}
-use Rattle.grasp_session.specs.Messages.{Side, Near, Far, other, is_side, is_invalid}
+use Rattle.grasp_session.specs.Messages.{Side, Near, Far, other, is_side, is_invalid, is_end, is_acceptance}
 use Rattle.grasp_types.specs.declared.objective.Objective.{Objective}
 use Rattle.grasp_types.specs.declared.message.Verdict.TheVariants.{Accept, Decline}
 use Rattle.grasp_types.specs.declared.message.Message.{Message}
 use Rattle.grasp_types.specs.declared.message.Message.TheVariants.{Synch, ReqNeg, Negotiate, Wait, End, Invalid}
-use Rattle.grasp_session.specs.Conversation.{Said, says, strip, ended, turn, accepted_by, newest_offer_by, IsLegal, Trails}
+use Rattle.grasp_session.specs.Conversation.{Said, says, strip, ended, turn, accepted_by, DeclinesWith, IsDeclined, newest_offer_by, IsLegal, Trails}
 use Rattle.grasp_session.specs.Transcript.{Entry, Transcript, Mark, Expired, Closed, Starved, Faulty, side_of, said_of, known, is_over, is_going, is_mine, outcome_of, mark_outcome, entries_outcome, message_outcome, by_of, SayEnd, message_of, with_sent}
 use Rattle.grasp_types.specs.declared.session.By.{By}
-use Rattle.grasp_types.specs.declared.session.By.TheVariants.{Mine}
+use Rattle.grasp_types.specs.declared.session.By.TheVariants.{Mine, Theirs}
 use Rattle.grasp_types.specs.declared.session.Outcome.TheVariants as outcome
 use Rattle.grasp_session.specs.Laws.{speaker, OutcomeSays, OutcomesSay, AcceptsTheLast}
 use Rattle.grasp_session.specs.Talk.{quiet, run}
@@ -30,21 +30,50 @@ says_agreed side said v by o l role t r =
       r.objective ∙ (ap (λ s. newest_offer_by (other (speaker s by)) (known v)) role ∙ ap (newest_offer_by (other (speaker side by))) w),
     )
 
--- a decline is the newest
+-- a decline ends what is said, and nobody accepts by it
+declines_are : (reason : Option (List ℕ)) (m : Message) → DeclinesWith reason m → (is_end m ≡ true) × (is_acceptance m ≡ false)
+declines_are reason (ReqNeg n o) d = absurd d
+declines_are reason (Negotiate n o) d = absurd d
+declines_are reason (Wait n t) d = absurd d
+declines_are reason (End n Accept) d = absurd d
+declines_are reason (End n (Decline r)) d = (refl, refl)
+declines_are reason (Invalid n x) d = absurd d
+declines_are reason m d = absurd d
+
+decline_ends : (side : Side) (reason : Option (List ℕ)) (c : List Said) → IsDeclined side reason c → (ended c ≡ true) × ((s : Side) → accepted_by s c ≡ false)
+decline_ends side reason [] d = absurd d
+decline_ends side reason (x ∷ c) d = let p = declines_are reason x.message d.1 in (p.0, λ s. and_right (is_side s x.side) (is_acceptance x.message) p.1)
+
+-- a decline that an end reports is the newest
+declined_parts : (v : Transcript) (c : List Said) (n : ℕ) (r : Option (List ℕ)) (sent : Bool) (by : By) (reason : Option (List ℕ)) → outcome.Declined (by_of sent) r ≡ outcome.Declined by reason
+    → IsDeclined (speaker v.role by) reason (says (side_of v.role sent) (End n (Decline r)) ∷ c)
+declined_parts v c n r true Mine reason e = (refl, cc)
+declined_parts v c n r true Theirs reason e = absurd (cc)
+declined_parts v c n r false Mine reason e = absurd (cc)
+declined_parts v c n r false Theirs reason e = (refl, cc)
+
 declined_message : (v : Transcript) (c : List Said) (sent : Bool) (m : Message) (by : By) (reason : Option (List ℕ)) → message_outcome v sent m ≡ Some (outcome.Declined by reason)
-    → (ended (cond (is_invalid m) c (says (side_of v.role sent) m ∷ c)) ≡ true) × ((s : Side) → accepted_by s (cond (is_invalid m) c (says (side_of v.role sent) m ∷ c)) ≡ false)
+    → IsDeclined (speaker v.role by) reason (cond (is_invalid m) c (says (side_of v.role sent) m ∷ c))
 declined_message v c sent (ReqNeg n p) by reason e = absurd (cc)
 declined_message v c sent (Negotiate n p) by reason e = absurd (cc)
 declined_message v c sent (Wait n t) by reason e = absurd (cc)
 declined_message v c sent (End n Accept) by reason e = absurd (cc)
-declined_message v c sent (End n (Decline r)) by reason e = (refl, λ s. and_right (is_side s (side_of v.role sent)) false refl)
+declined_message v c sent (End n (Decline r)) by reason e = let same : outcome.Declined (by_of sent) r ≡ outcome.Declined by reason = cc in declined_parts v c n r sent by reason same
 declined_message v c sent (Invalid n d) by reason e = absurd (cc)
 declined_message v c sent m by reason e = absurd (cc)
 
 declined_entries : (v : Transcript) (es : List Entry) (by : By) (reason : Option (List ℕ)) → entries_outcome v es ≡ Some (outcome.Declined by reason)
-    → (ended (strip (said_of v.role es)) ≡ true) × ((s : Side) → accepted_by s (strip (said_of v.role es)) ≡ false)
+    → IsDeclined (speaker v.role by) reason (strip (said_of v.role es))
 declined_entries v [] by reason e = absurd (cc)
 declined_entries v (x ∷ es) by reason e = declined_message v (strip (said_of v.role es)) x.sent x.message by reason e
+
+says_declined : (side : Side) (said : List Said) (v : Transcript) (by : By) (reason : Option (List ℕ)) → IsLegal (strip said) → v.role ≡ side → Trails side (known v) (strip said) → IsDeclined (speaker v.role by) reason (known v)
+    → (known v ≡ strip said) × IsDeclined (speaker side by) reason (strip said) × (ended (strip said) ≡ true) × ((s : Side) → accepted_by s (strip said) ≡ false)
+says_declined side said v by reason l role t d =
+    let over : ended (known v) ≡ true = (decline_ends (speaker v.role by) reason (known v) d).0 in
+    let w : known v ≡ strip said = still_whole side (known v) (strip said) l t (inr over) in
+    let whose : IsDeclined (speaker side by) reason (strip said) = subst (IsDeclined (speaker side by) reason) w (subst (λ s. IsDeclined (speaker s by) reason (known v)) role d) in
+    let p = decline_ends (speaker side by) reason (strip said) whose in (w, whose, p.0, p.1)
 
 -- what is told of the outcome of a tidy view, by its mark and its newest message
 record Told (side : Side) (said : List Said) (v : Transcript) : Type 0 where
@@ -65,10 +94,7 @@ message_says side said v e es (ReqNeg n o) f g k t h = rw (k, g, f) refl
 message_says side said v e es (Negotiate n o) f g k t h = rw (k, g, f) refl
 message_says side said v e es (Wait n d) f g k t h = rw (k, g, f) refl
 message_says side said v e es (End n Accept) f g k t h = says_agreed side said v (by_of e.sent) _ t.legal t.role t.trails (reported v (by_of e.sent) _ h)
-message_says side said v e es (End n (Decline r)) f g k t h =
-    let p = declined_entries v v.entries (by_of e.sent) r (sym (ap (mark_outcome v) k) ∙ h) in
-    let w : known v ≡ strip said = still_whole side (known v) (strip said) t.legal t.trails (inr p.0) in
-    (w, subst (λ c. ended c ≡ true) w p.0, λ s. subst (λ c. accepted_by s c ≡ false) w (p.1 s))
+message_says side said v e es (End n (Decline r)) f g k t h = says_declined side said v (by_of e.sent) r t.legal t.role t.trails (declined_entries v v.entries (by_of e.sent) r (sym (ap (mark_outcome v) k) ∙ h))
 message_says side said v e es (Invalid n d) f g k t h =
     let same : known v ≡ strip (said_of v.role es) = ap (λ (l : List Entry). strip (said_of v.role l)) g ∙ cond-true (is_invalid e.message) (strip (said_of v.role es)) (says (side_of v.role e.sent) e.message ∷ strip (said_of v.role es)) (ap is_invalid f) in
     ap ended same ∙ over_ended v.role es (tail_ended v e es g t.tidy)

@@ -10,7 +10,7 @@ pub trails_begun : (side : Side) (v c : List Said) → Trails side v c → begun
 trails_begun side v [] t b = sym (ap begun t) ∙ b
 trails_begun side v (x ∷ c) t b = refl
 
-request_on : (s : Side) (m : Message) (c : List Said) → MayFollow c (says s m) → begun c ≡ true → (number (says s m ∷ c) ≡ number c) × (requested (says s m ∷ c) ≡ requested c)
+pub request_on : (s : Side) (m : Message) (c : List Said) → MayFollow c (says s m) → begun c ≡ true → (number (says s m ∷ c) ≡ number c) × (requested (says s m ∷ c) ≡ requested c)
 request_on s (ReqNeg n o) c f b = absurd (true≢false (sym b ∙ f.0))
 request_on s (Negotiate n o) c f b = (refl, refl)
 request_on s (Wait n t) c f b = (refl, refl)

@@ -180,7 +180,7 @@ leaves_same s x h = rw (h.owner, h.going) refl
 abbrev pub put_back : Table → Handle → List (Option Session) → Table
 put_back t h places = record { made = t.made; places = places }
 
-set_twice : (k : List (Option SessionState)) (p : ℕ) (a b : Option SessionState) → slice_set (slice_set k p a) p b ≡ slice_set k p b
+pub set_twice : (k : List (Option SessionState)) (p : ℕ) (a b : Option SessionState) → slice_set (slice_set k p a) p b ≡ slice_set k p b
 set_twice [] p a b = refl
 set_twice (x ∷ k) zero a b = refl
 set_twice (x ∷ k) (suc p) a b = ap (λ (l : List (Option SessionState)). x ∷ l) (set_twice k p a b)

@@ -1,9 +1,10 @@
 -- What the two ends of a session say to each other, newest first, and what may be said next (RFC 8990, section 2.5.5).
-use Rattle.std.specs.Prelude.{◌≡◌, ℕ, ◌+◌, ◌<◌, ◌≤◌, Bool, true, false, cond, ◌&&◌, ◌||◌, ◌⊎◌, List, [], ◌∷◌}
+use Rattle.std.specs.Prelude.{◌≡◌, ℕ, ◌+◌, ◌<◌, ◌≤◌, Bool, true, false, cond, ◌&&◌, ◌||◌, ◌⊎◌, List, [], ◌∷◌, Option}
 use Rattle.grasp_types.specs.declared.objective.Objective.{Objective}
+use Rattle.grasp_types.specs.declared.message.Verdict.TheVariants.{Decline}
 use Rattle.grasp_types.specs.declared.message.Message.{Message}
 use Rattle.grasp_types.specs.declared.message.Message.TheVariants.{ReqNeg, ReqSyn, Negotiate, Wait, End, Invalid}
-use Rattle.grasp_session.specs.Messages.{Side, Near, Far, other, is_side, no_objective, is_invalid, is_end, is_acceptance}
+use Rattle.grasp_session.specs.Messages.{Side, Near, Far, other, is_side, no_objective, is_invalid, is_end, is_acceptance, is_offer}
 
 -- a message with the side that says it
 pub record Said : Type 0 where
@@ -32,6 +33,21 @@ ended (x ∷ c) = is_end x.message
 abbrev pub accepted_by : Side → List Said → Bool
 accepted_by side [] = false
 accepted_by side (x ∷ c) = is_side side x.side && is_acceptance x.message
+
+-- a decline with this reason
+abbrev pub DeclinesWith : Option (List ℕ) → Message → Type 0
+DeclinesWith reason (End n (Decline given)) = given ≡ reason
+DeclinesWith reason _ = ⊥
+
+-- the newest is a decline of this side with this reason
+abbrev pub IsDeclined : Side → Option (List ℕ) → List Said → Type 0
+IsDeclined side reason [] = ⊥
+IsDeclined side reason (x ∷ c) = (x.side ≡ side) × DeclinesWith reason x.message
+
+-- this side said a request or a step
+abbrev pub has_offered : Side → List Said → Bool
+has_offered side [] = false
+has_offered side (x ∷ c) = (is_side side x.side && is_offer x.message) || has_offered side c
 
 -- whose turn it is: the listener's after the request, and each step passes it
 abbrev pub turn : List Said → Side

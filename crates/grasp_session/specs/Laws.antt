@@ -12,7 +12,7 @@ use Rattle.grasp_types.specs.declared.message.Message.TheVariants.{ReqNeg, End}
 use Rattle.grasp_session.specs.declared.answer.Act.TheVariants as act
 use Rattle.grasp_session.specs.declared.answer.Received.TheVariants.{Kept}
 use Rattle.grasp_session.specs.Messages.{Side, Near, other}
-use Rattle.grasp_session.specs.Conversation.{Said, strip, turn, ended, accepted_by, IsLegal, IsLegalConversation, Trails, steps, number, requested, MayFollow, newest_offer_by, answered, spoken}
+use Rattle.grasp_session.specs.Conversation.{Said, strip, turn, ended, accepted_by, IsDeclined, has_offered, IsLegal, IsLegalConversation, Trails, steps, number, requested, MayFollow, newest_offer_by, answered, spoken}
 use Rattle.grasp_session.specs.Grammar.{IsPrefixOfWord, FollowsGrammar}
 use Rattle.grasp_session.specs.Transcript.{Transcript, opening, known, sent_of, kept_of, is_going, outcome_of, Faulty, Deed, after_deed, after_deeds, SayEnd, refusal, having_said, receive}
 use Rattle.grasp_session.specs.Talk.{Stage, Absent, Refused, Present, Party, Talk, quiet, party, Move, moved, run}
@@ -82,16 +82,17 @@ abbrev pub NoneIsBad : Type 0
 NoneIsBad = (ms : List Move) (side : Side) (v : Transcript) (m : Message) (left : List Message) → (party (after ms) side).stage ≡ Present v → (party (after ms) side).inbox ≡ m ∷ left
     → is_going v ≡ true → receive v m ≡ Kept
 
--- the side whose acceptance an end of this role reports
+-- the side whose acceptance or decline an end of this role reports
 abbrev pub speaker : Side → By → Side
 speaker role Mine = role
 speaker role Theirs = other role
 
--- two ends that agree: one by its own acceptance, the other by its peer's, on the last offer of the side that didn't accept
+-- two ends that agree: one by its own acceptance, the other by its peer's, on the last offer of the side that didn't accept, which made one
 pub record Agreement (a b : By) (o p : Objective) (said : List Said) : Type 0 where
   pub one : ((a ≡ Mine) × (b ≡ Theirs)) ⊎ ((a ≡ Theirs) × (b ≡ Mine))
   pub same : o ≡ p
   pub offered : o ≡ newest_offer_by (other (speaker Near a)) (strip said)
+  pub made : has_offered (other (speaker Near a)) (strip said) ≡ true
 
 abbrev pub BothAgree : Type 0
 BothAgree = (ms : List Move) (v w : Transcript) (a b : By) (o p : Objective) → (after ms).near.stage ≡ Present v → (after ms).far.stage ≡ Present w
@@ -113,7 +114,7 @@ OffersStand = (ms : List Move) (side : Side) (v : Transcript) → (party (after 
 abbrev pub OutcomeSays : Side → List Said → Transcript → Option Outcome → Type 0
 OutcomeSays side said v None = is_going v ≡ true
 OutcomeSays side said v (Some (outcome.Agreed by o)) = (known v ≡ strip said) × (accepted_by (speaker side by) (strip said) ≡ true) × (o ≡ newest_offer_by (other (speaker side by)) (strip said))
-OutcomeSays side said v (Some (outcome.Declined by reason)) = (known v ≡ strip said) × (ended (strip said) ≡ true) × ((s : Side) → accepted_by s (strip said) ≡ false)
+OutcomeSays side said v (Some (outcome.Declined by reason)) = (known v ≡ strip said) × IsDeclined (speaker side by) reason (strip said) × (ended (strip said) ≡ true) × ((s : Side) → accepted_by s (strip said) ≡ false)
 OutcomeSays side said v (Some (outcome.Synchronized o)) = ⊥
 OutcomeSays side said v (Some (outcome.TimedOut d n)) = ended (known v) ≡ false
 OutcomeSays side said v (Some outcome.Broken) = ended (known v) ≡ false

@@ -7,6 +7,7 @@ pub mod Sessions
 pub mod Keeps
 pub mod Places
 pub mod Stands
+pub mod Answers
 pub mod Laws
 pub mod Sample
 pub mod Runs

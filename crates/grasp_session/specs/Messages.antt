@@ -3,7 +3,7 @@ use Rattle.std.specs.Prelude.{Bool, true, false, [], None}
 use Rattle.grasp_types.specs.declared.objective.Objective.{Objective}
 use Rattle.grasp_types.specs.declared.message.Verdict.TheVariants.{Accept}
 use Rattle.grasp_types.specs.declared.message.Message.{Message}
-use Rattle.grasp_types.specs.declared.message.Message.TheVariants.{End, Synch, Invalid}
+use Rattle.grasp_types.specs.declared.message.Message.TheVariants.{ReqNeg, ReqSyn, Negotiate, End, Synch, Invalid}
 
 -- the requester is near, the listener is far
 pub data Side : Type 0 where
@@ -38,6 +38,13 @@ is_end _ = false
 abbrev pub is_acceptance : Message → Bool
 is_acceptance (End n Accept) = true
 is_acceptance _ = false
+
+-- a request or a step
+abbrev pub is_offer : Message → Bool
+is_offer (ReqNeg n o) = true
+is_offer (ReqSyn n o) = true
+is_offer (Negotiate n o) = true
+is_offer _ = false
 
 -- after an M_END, an M_SYNCH or an M_INVALID nothing is kept and nothing sent
 abbrev pub is_last : Message → Bool

@@ -6,6 +6,8 @@ use Rattle.grasp_types.specs.declared.session.Kind.TheVariants.{Synchronization}
 use Rattle.grasp_types.specs.declared.session.Outcome.{Outcome}
 use Rattle.grasp_types.specs.declared.session.Progress.{Progress}
 use Rattle.grasp_types.specs.declared.session.Progress.TheVariants.{NotYet, Turn, Ended}
+use Rattle.grasp_types.specs.declared.message.Verdict.{Verdict}
+use Rattle.grasp_types.specs.declared.message.Verdict.TheVariants.{Accept, Decline}
 use Rattle.grasp_types.specs.declared.message.Message.{Message}
 use Rattle.grasp_types.specs.declared.message.Message.TheVariants.{Noop}
 use Rattle.grasp_session.specs.declared.answer.Act.{Act}
@@ -162,6 +164,12 @@ after_say z now h saying = by_state (session_at z h) where
   by_state : Option SessionState → Sessions
   by_state None = z
   by_state (Some x) = changed z h (with_transcript x (having_said x.view now saying))
+
+-- end: memory is wanted for the copy of a reason alone, which a session keeps that an agent has taken
+abbrev pub MayStarve : ℕ → Verdict → Type 0
+MayStarve owner Accept = ⊥
+MayStarve owner (Decline None) = ⊥
+MayStarve owner (Decline (Some reason)) = 0 < owner
 
 -- a message that comes on a stream: what becomes of it, and the session that keeps it
 abbrev pub receive_reply : Sessions → ℕ → Message → Received

@@ -8,6 +8,7 @@ ghost use Rattle.grasp_session.specs.Conversation.{steps};
 ghost use Rattle.grasp_session.specs.Sample.{sample, outcome_at};
 ghost use Rattle.grasp_session.specs.Laws.{LegalIsGrammar, ConversationIsGrammar, StepsBounded, RunsAreLegal, RunsAreBounded, ViewsTrail, SilentUnseen, TakenInOrder, NoneIsBad, BothAgree, OffersStand, OutcomesSay, OutcomesStay, AcceptsTheLast, PeerIsPresent, MovesFollow, FirstIsRequest};
 ghost use Rattle.grasp_session.specs.Runs.{CallsAreInOrder, NumbersAreNew};
+ghost use Rattle.grasp_session.specs.Answers.{TablesAnswerSo};
 
 /// A conversation is legal exactly where it is the beginning of a negotiation of whole turns, also where invalid
 /// messages count.
@@ -78,6 +79,11 @@ pub fn first_is_request()
 pub fn calls_are_in_order()
     ensures order { CallsAreInOrder }
     ensures new { NumbersAreNew }
+{}
+
+/// What a table answers by what it keeps, it answers of its sessions.
+pub fn tables_answer_so()
+    ensures { TablesAnswerSo }
 {}
 
 /// A negotiation that ends in agreement, and in which the third offer is the last.

@@ -5,7 +5,7 @@ ghost use Rattle.grasp_types.specs.declared.message.Message.TheVariants.{End};
 ghost use Rattle.grasp_types.specs.Reading.{reading_after};
 ghost use Rattle.grasp_session.specs.Transcript.{SayStep, SayWait, SayEnd, SayInvalid, receive, after_received, message_of, having_said, is_negotiation, with_mark};
 ghost use Rattle.grasp_session.specs.declared.answer.Received.TheVariants.{Bad};
-ghost use Rattle.grasp_session.specs.Sessions.{SessionState, with_transcript, begun_state};
+ghost use Rattle.grasp_session.specs.Sessions.{SessionState, with_transcript, begun_state, MayStarve};
 ghost use Rattle.grasp_session.specs.Keeps.{Keeps, refusal_in, offer_in, awaits_in, steps_in, mark_of, leaves_in, ended_with, outcome_with};
 
 use crate::answer::{Act, Received, SessionRefused};
@@ -226,6 +226,7 @@ impl Session {
         requires { refusal_in self.old Act.End ≡ None }
         ensures sent { IfOk result (λ message. (x : SessionState) → Keeps self.old x → (message ≡ message_of x.view (SayEnd verdict)) × Keeps self.new (with_transcript x (having_said x.view now (SayEnd verdict)))) }
         ensures err { OnErr result (self.new ≡ self.old) }
+        ensures wanted { OnErr result ((owner : ℕ) → 0 < owner → MayStarve owner verdict) }
     {
         match &verdict {
             Verdict::Accept => self.finish(now, Ending::Agreed(By::Mine)),

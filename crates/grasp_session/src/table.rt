@@ -2,7 +2,7 @@
 
 ghost use Rattle.std.specs.Prelude.{◌≡◌, ℕ, ◌<◌, ◌==◌, true, false, not, Some, None, Ok, is_some, count_by, slice_index_or, slice_set, option_copied, IfOk, IfSome, IfNone, OnErr, IsSome};
 ghost use Rattle.grasp_session.specs.Transcript.{SayStep, SayWait, SayEnd, SayInvalid, Closed, Starved, Faulty};
-ghost use Rattle.grasp_session.specs.Sessions.{Sessions, no_sessions, MayStart, after_start, check_reply, say_reply, after_say, receive_reply, after_receive, MayPoll, after_poll, after_mark, expire_reply, after_expire, state_reply, stream_reply, session_reply, last_reply, is_full, live_count, is_used, untaken_reply, owner_reply, adopt_reply, after_adopt, after_remove};
+ghost use Rattle.grasp_session.specs.Sessions.{Sessions, no_sessions, MayStart, after_start, check_reply, say_reply, after_say, MayStarve, receive_reply, after_receive, MayPoll, after_poll, after_mark, expire_reply, after_expire, state_reply, stream_reply, session_reply, last_reply, is_full, live_count, is_used, untaken_reply, owner_reply, adopt_reply, after_adopt, after_remove};
 ghost use Rattle.grasp_session.specs.Stands.{Stands, kept_at, kept_owned, check_answer, state_answer, oldest_in, older_in, fits_at, full_in, settled, IsLive, IsUntaken};
 ghost use Rattle.grasp_session.specs.Keeps.{mark_of};
 
@@ -103,7 +103,9 @@ impl Table {
         message
     }
 
-    /// Accepts or declines, which `check` allowed. After an `Err` the table is as before.
+    /// Accepts or declines, which `check` allowed. It wants memory only where an agent that has taken the session
+    /// declines with a reason, which is copied. After an `Err` the table is as before.
+    #[tactic(auto, using(crate::proofs::Calls::starves_taken))]
     pub fn end(
         &mut self,
         now: u64,
@@ -114,11 +116,12 @@ impl Table {
         requires { check_answer self.old owner handle Act.End ≡ Ok tt }
         ensures says { IfOk result (λ message. (z : Sessions) → Stands self.old z → (message ≡ say_reply z handle (SayEnd verdict)) × Stands self.new (after_say z now handle (SayEnd verdict))) }
         ensures err { OnErr result ((z : Sessions) → Stands self.old z → Stands self.new z) }
+        ensures wanted { OnErr result (MayStarve owner verdict) }
     {
-        let mut session = self.take(handle);
-        let said = session.end(now, verdict);
-        self.settle(handle, session);
-        said
+        if owner != 0 {
+            return self.end_taken(now, owner, handle, verdict);
+        }
+        Ok(self.end_untaken(handle, verdict))
     }
 
     /// Gives up, which `check` allowed. It takes no memory.
@@ -415,6 +418,38 @@ impl Table {
         if !session.is_leaving() {
             self.put_back(handle, session);
         }
+    }
+
+    /// Accepts or declines in a session that no agent has taken, which is gone then.
+    fn end_untaken(&mut self, handle: Handle, verdict: Verdict) -> Message
+        requires { check_answer self.old 0 handle Act.End ≡ Ok tt }
+        ensures says { (z : Sessions) → Stands self.old z → result ≡ say_reply z handle (SayEnd verdict) }
+        ensures leaves { (z : Sessions) (now : ℕ) → Stands self.old z → Stands self.new (after_say z now handle (SayEnd verdict)) }
+    {
+        let session = self.take(handle);
+        Message::End {
+            session: session.session,
+            verdict,
+        }
+    }
+
+    /// Accepts or declines in a session, which keeps how it ended.
+    fn end_taken(
+        &mut self,
+        now: u64,
+        owner: u32,
+        handle: Handle,
+        verdict: Verdict,
+    ) -> Result<Message, OutOfMemory>
+        requires { check_answer self.old owner handle Act.End ≡ Ok tt }
+        ensures says { IfOk result (λ message. (z : Sessions) → Stands self.old z → (message ≡ say_reply z handle (SayEnd verdict)) × Stands self.new (after_say z now handle (SayEnd verdict))) }
+        ensures err { OnErr result ((z : Sessions) → Stands self.old z → Stands self.new z) }
+        ensures wanted { OnErr result (0 < owner → MayStarve owner verdict) }
+    {
+        let mut session = self.take(handle);
+        let said = session.end(now, verdict);
+        self.settle(handle, session);
+        said
     }
 
     /// Ends the session of a stream from outside, where it has no outcome.
