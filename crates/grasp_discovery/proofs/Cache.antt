@@ -1,13 +1,13 @@
 -- What the loops over cached locators leave.
-use Rattle.std.proofs.Common.{zero, suc, ◌≡◌, ℕ, ◌<◌, ◌≤◌, Bool, true, false, cond, ◌||◌, nat_lt, max, List, [], ◌∷◌, ◌++◌, length, map, get_or, set, Option, None, Some, is_some, refl, sym, ap, ◌∙◌, true≢false, lt-ltb, arith}
-use Rattle.std.specs.Prelude.{position}
+use Rattle.std.proofs.Common.{zero, suc, ◌≡◌, ℕ, ◌<◌, ◌≤◌, Bool, true, false, cond, ◌||◌, nat_lt, max, List, [], ◌∷◌, ◌++◌, length, map, get_or, set, Option, None, Some, is_some, refl, sym, ap, ◌∙◌, true≢false, lt-ltb, subst, arith}
+use Rattle.std.specs.Prelude.{IsSome, position}
 use Rattle.std.specs.Map.{lookup}
 use Rattle.indexmap.specs.IndexMap.{insert_entry}
 use Rattle.grasp_types.specs.declared.address.Locator.{Locator}
 use Rattle.grasp_discovery.specs.declared.cached.Cached.{Cached}
 use Rattle.grasp_discovery.specs.declared.topic.Topic.{Topic}
 use Rattle.grasp_discovery.specs.Locator.{same_locator}
-use Rattle.grasp_discovery.specs.Discoveries.{some_of, or_none, locators_of, put_locator, keep_locator, keep_locators, has_locator, cached_under, has_topic, has_place, put_entry, after_response}
+use Rattle.grasp_discovery.specs.Discoveries.{some_of, or_none, locators_of, live, put_locator, keep_locator, keep_locators, has_locator, cached_under, has_topic, has_place, put_entry, after_response}
 use Rattle.grasp_discovery.specs.Topic.{same_topic}
 use Rattle.grasp_discovery.proofs.Lists.{map_append, found, any_found, any_missed, is_some_lookup}
 
@@ -22,6 +22,15 @@ some_more (y ∷ ys) x = refl
 -- the locators of those before, and of one more
 pub locators_more : (before : List Cached) (one : Cached) → Some (or_none (locators_of before) ++ one.locator ∷ []) ≡ locators_of (before ++ one ∷ [])
 locators_more before one = some_more (map (λ c. c.locator) before) one.locator ∙ ap some_of (sym (map_append (λ c. c.locator) before (one ∷ [])))
+
+-- where one of them ends later, there are some that do
+pub some_live : (now : ℕ) (cs : List Cached) (i : ℕ) (one : Cached) → i < length cs → one ≡ get_or cs i one → now < one.end → IsSome (locators_of (live now cs))
+some_live now [] i one within at lt = absurd (omega arith)
+some_live now (c ∷ cs) zero one within at lt =
+    let later : nat_lt now c.end ≡ true = rw (← at) (lt-ltb now one.end lt) in
+    subst (λ (b : Bool). IsSome (locators_of (cond b (c ∷ live now cs) (live now cs)))) (sym later) refl
+some_live now (c ∷ cs) (suc i) one within at lt = let rest = some_live now cs i one (omega arith) at lt in
+    elim (nat_lt now c.end) as (λ b. IsSome (locators_of (cond b (c ∷ live now cs) (live now cs)))) [ true ↦ refl | false ↦ rest ]
 
 -- A locator that is kept
 

@@ -1,6 +1,6 @@
 //! The locators that are cached under one topic.
 
-ghost use Rattle.std.specs.Prelude.{◌≡◌, ◌≤◌, ◌++◌, [], ◌∷◌, nat_lt, not, min, length, position, IfOk, OnOk};
+ghost use Rattle.std.specs.Prelude.{◌≡◌, ◌≤◌, ◌++◌, [], ◌∷◌, nat_lt, not, min, length, position, IfOk, IsSome, OnOk, OnErr};
 ghost use Rattle.grasp_discovery.specs.Discoveries.{or_none, end_of, locators_of, live, least_left, keep_locator, keep_locators, put_locator};
 ghost use Rattle.grasp_discovery.specs.Locator.{same_locator};
 
@@ -97,9 +97,10 @@ impl CachedLocators {
         Ok(locators)
     }
 
-    /// The locators that end after this reading, or `None` where there are none.
+    /// The locators that end after this reading, or `None` where there are none. Memory is wanted for these alone.
     pub(crate) fn live(&self, now: u64) -> Result<Option<Locators>, OutOfMemory>
-        ensures { IfOk result (λ r. r ≡ locators_of (live now self.now)) }
+        ensures ok { IfOk result (λ r. r ≡ locators_of (live now self.now)) }
+        ensures wanted { OnErr result (IsSome (locators_of (live now self.now))) }
     {
         let alloc = *self.held.allocator();
         let mut locators = None;

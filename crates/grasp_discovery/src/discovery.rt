@@ -151,7 +151,8 @@ impl Discovery {
     }
 
     /// The cached locators of this name and use that end after this reading, and the least of their remaining lifetimes,
-    /// at least 1, or 4294967295 where that is more; `None` where there is no such locator.
+    /// at least 1, or 4294967295 where that is more; `None` where there is no such locator. Memory is wanted for such
+    /// locators alone.
     pub fn known(
         &self,
         name: &Chars,
@@ -160,6 +161,7 @@ impl Discovery {
     ) -> Result<Option<(Locators, u32)>, OutOfMemory>
         ensures known { IfOk result (λ known. known ≡ known_of self.now (topic_of name.now kind) now) }
         ensures lifetime { IfOk result (λ known. IfSome known (λ told. 1 ≤ told.1)) }
+        ensures wanted { OnErr result (IsSome (known_of self.now (topic_of name.now kind) now)) }
         ensures sound { IsSound self.now }
     {
         let Some(cached) = entry_of(&self.entries, name, kind) else {
