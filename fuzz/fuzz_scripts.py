@@ -54,7 +54,7 @@ def event(rng):
 def script(rng):
     lines = []
     if rng.randrange(10):
-        lines.append(f"api 2 2 request 'x {value(rng)} {rng.choice([0, 1, 2, 3, 6, 255])} 60000 wet 1")
+        lines.append(f"api 2 2 request 'x {value(rng)} {rng.choice([0, 1, 2, 3, 6, 255])} {rng.choice([0, 1, 500, 60000, 60000, 4294967295])} wet 1")
     if rng.randrange(2):
         lines += ["arrive 1", "bytes 1 far 100", "api 1 2 listen 'x"]
     for _ in range(rng.randrange(4, 60)):

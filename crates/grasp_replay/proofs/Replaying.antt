@@ -30,7 +30,7 @@ short_verdict (Decline (Some reason)) h = h.short
 
 pub short_event : (e : Event) → IsEvent e → IsShort e
 short_event (event.Clock end millis) h = tt
-short_event (event.Request value loops) h = h.0.short
+short_event (event.Request value loops timeout) h = h.0.short
 short_event event.Listen h = tt
 short_event (event.Step end handle value) h = h.1.short
 short_event (event.Wait end handle millis) h = tt

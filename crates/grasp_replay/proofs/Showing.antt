@@ -4,9 +4,6 @@ use Rattle.std.proofs.lemmas.List.{append_cancel_left}
 use Rattle.std.proofs.Common.{length-append, false}
 use Rattle.std.proofs.lemmas.Bool.Decides.{nat_tests}
 use Rattle.grasp_cbor.proofs.Whole.{one_encodes}
-use Rattle.grasp_cbor.specs.DataItem.{DataItem, unsigned}
-use Rattle.grasp_cbor.specs.Encodes.{Encodes}
-use Rattle.grasp_cbor.specs.Head.{direct}
 use Rattle.grasp_types.specs.Message.{item_of}
 use Rattle.grasp_types.specs.declared.message.Message.{Message}
 use Rattle.grasp_text.specs.Line.{line_of}
@@ -18,19 +15,11 @@ use Rattle.grasp_wire.specs.Reads.{fault_of}
 use Rattle.grasp_wire.specs.Stands.{Stands, cut_limit}
 use Rattle.grasp_wire.specs.Stream.{Divides, RestKind, waiting, too_long, not_message, faulty}
 use Rattle.grasp_wire.specs.Wire.{AreWireForms}
-use Rattle.grasp_replay.specs.Lines.{lines_of}
-use Rattle.grasp_replay.specs.Show.{Shows, truncated, rest_finding}
+use Rattle.grasp_wire.proofs.Joins.{no_bytes}
+use Rattle.grasp_replay.specs.Show.{Shows, shown, truncated, rest_finding}
 use Rattle.grasp_replay.specs.Step.{TakesLine, TakesNone, TakesFault}
 use Rattle.grasp_replay.specs.declared.exit.Finding.{Finding}
 use Rattle.grasp_replay.specs.declared.exit.Finding.TheVariants.{Cut, Truncated}
-
--- an encoding has bytes: that of 0 would follow no bytes
-no_bytes : (t : DataItem) (s : List ℕ) → Encodes t s → 0 < length s
-no_bytes t [] p =
-    let zero : Encodes (unsigned 0) (0 ∷ []) = record { encoding = (direct, omega arith, refl); within = omega arith } in
-    let same = one_encodes t (unsigned 0) [] (0 ∷ []) (0 ∷ []) [] p zero refl in
-    absurd (cc same.1)
-no_bytes t (b ∷ s) p = omega arith
 
 -- messages have at least as many bytes
 pub some_bytes_each : (limit : ℕ) (ms : List Message) (s : List ℕ) → AreWireForms ms s limit → length ms ≤ length s
@@ -48,9 +37,9 @@ same_fronts limit (m ∷ ms) f g r s a b e =
     let others = same_fronts limit ms a.1 b.1 r s a.3 b.3 behind in
     (a.4 ∙ ap (λ x. x ++ a.1) one.1 ∙ ap (λ x. b.0 ++ x) others.0 ∙ sym b.4, others.1)
 
-lines_of-append : (ms ns : List Message) → lines_of (ms ++ ns) ≡ lines_of ms ++ lines_of ns
-lines_of-append [] ns = refl
-lines_of-append (m ∷ ms) ns = ap (λ ls. line_of m ++ 10 ∷ ls) (lines_of-append ms ns) ∙ sym (append_assoc (line_of m) (10 ∷ lines_of ms) (lines_of ns))
+shown-append : (ms ns : List Message) → shown (ms ++ ns) ≡ shown ms ++ shown ns
+shown-append [] ns = refl
+shown-append (m ∷ ms) ns = ap (λ ls. line_of m ++ 10 ∷ ls) (shown-append ms ns) ∙ sym (append_assoc (line_of m) (10 ∷ shown ms) (shown ns))
 
 -- the output is the lines of so many messages, which the cutter gave and which come first in the input
 pub record HasShown (limit : ℕ) (input output : List ℕ) (cutter : Cutter) (count : ℕ) : Type 0 where
@@ -60,7 +49,7 @@ pub record HasShown (limit : ℕ) (input output : List ℕ) (cutter : Cutter) (c
   pub fed : past.fed ≡ input
   pub no_fault : past.fault ≡ None
   pub begins : BeginsWith input limit past.given
-  pub output_is : output ≡ lines_of past.given
+  pub output_is : output ≡ shown past.given
   pub count_is : length past.given ≡ count
 
 pub none_shown : (limit : ℕ) (input : List ℕ) (cutter : Cutter) → Stands cutter (after_feed no_past input) → cut_limit cutter ≡ limit → HasShown limit input [] cutter 0
@@ -92,7 +81,7 @@ more_shown limit input output cutter new count more h takes same =
       no_fault = h.no_fault;
       begins = subst (λ (s : List ℕ). BeginsWith s limit (h.past.given ++ t.message ∷ [])) h.fed
           (subst (λ (l : ℕ). BeginsWith h.past.fed l (h.past.given ++ t.message ∷ [])) h.limit_is t.begins);
-      output_is = t.text ∙ append_assoc output (line_of t.message) (10 ∷ []) ∙ ap (λ ls. ls ++ (line_of t.message ++ 10 ∷ [])) h.output_is ∙ sym (lines_of-append h.past.given (t.message ∷ []));
+      output_is = t.text ∙ append_assoc output (line_of t.message) (10 ∷ []) ∙ ap (λ ls. ls ++ (line_of t.message ++ 10 ∷ [])) h.output_is ∙ sym (shown-append h.past.given (t.message ∷ []));
       count_is = length-more h.past.given t.message ∙ ap (λ n. n + 1) h.count_is;
     }
 
@@ -135,7 +124,7 @@ finding_of_rest before rest too_long fault e = ap (option_map Cut) (sym e)
 finding_of_rest before rest not_message fault e = ap (option_map Cut) (sym e)
 finding_of_rest before rest (faulty name place) fault e = ap (option_map Cut) (sym e)
 
-fault_shown : (limit : ℕ) (past : Past) (input output : List ℕ) (fault : CutFault) → past.fed ≡ input → output ≡ lines_of past.given → HasFault limit past fault
+fault_shown : (limit : ℕ) (past : Past) (input output : List ℕ) (fault : CutFault) → past.fed ≡ input → output ≡ shown past.given → HasFault limit past fault
     → Shows limit input output (Some (Cut fault))
 fault_shown limit past input output fault fed out f = record {
   messages = past.given;

@@ -3,9 +3,6 @@ use Rattle.std.proofs.Common.{◌≡◌, ◌<◌, ◌+◌, ℕ, List, [], ◌∷
 use Rattle.std.specs.List.{All}
 use Rattle.std.proofs.lemmas.List.Elements.{All-head, All-tail}
 use Rattle.grasp_cbor.specs.Bytes.{AllBytes}
-use Rattle.grasp_cbor.specs.DataItem.{unsigned}
-use Rattle.grasp_cbor.specs.Ending.{IsPartial}
-use Rattle.grasp_cbor.specs.Head.{direct}
 use Rattle.grasp_cbor.specs.Shortest.{shortest}
 use Rattle.grasp_cbor.proofs.HeadBytes.{AllBytes-back}
 use Rattle.grasp_types.specs.Message.{item_of}
@@ -25,12 +22,12 @@ use Rattle.grasp_wire.specs.Wire.{AreWireForms}
 use Rattle.grasp_world.specs.World.{first_world}
 use Rattle.grasp_wire.proofs.Dividing.{one_division, one_kind}
 use Rattle.grasp_wire.proofs.Joins.{divides_alone, divides_more}
+use Rattle.grasp_wire.proofs.ReadingOn.{nothing_waits}
 use Rattle.grasp_replay.specs.Laws.{AreLines, IsWholeInput, TasksAreFunctions, WholeInputsEndWell}
-use Rattle.grasp_replay.specs.Lines.{lines_of}
 use Rattle.grasp_replay.specs.Pack.{CanPack, IsRefused, StopsAt, Packs}
 use Rattle.grasp_replay.specs.Ending.{status_of}
 use Rattle.grasp_replay.specs.Replay.{reports_from, Replays}
-use Rattle.grasp_replay.specs.Show.{Shows, truncated, rest_finding}
+use Rattle.grasp_replay.specs.Show.{Shows, shown, truncated, rest_finding}
 use Rattle.grasp_replay.specs.Task.{ShowMakes, PackMakes, ReplayMakes, Makes, IsOfInput, IsDone, IsUnmade}
 use Rattle.grasp_replay.specs.declared.exit.Finding.{Finding}
 use Rattle.grasp_replay.specs.declared.exit.Finding.TheVariants.{Cut, Truncated, BadText, TooLong}
@@ -52,22 +49,16 @@ shows_one limit input a b f g bytes x y =
     let kind_y : IsRest x.rest limit y.kind = subst (λ (r : List ℕ). IsRest r limit y.kind) (sym one.1) y.divides.kind_is in
     let kinds = one_kind x.rest limit x.kind y.kind (AllBytes-back x.front x.rest (subst AllBytes x.parts bytes)) x.divides.kind_is kind_y in
     let before = same_length x.front y.front x.rest y.rest input x.parts y.parts one.1 in (
-      x.output_is ∙ ap lines_of one.0 ∙ sym y.output_is,
+      x.output_is ∙ ap shown one.0 ∙ sym y.output_is,
       x.finding_is ∙ ap (λ n. rest_finding n x.rest x.kind) before ∙ ap (λ r. rest_finding (length y.front) r x.kind) one.1 ∙ ap (rest_finding (length y.front) y.rest) kinds ∙ sym y.finding_is,
     )
-
-nothing_waits : (limit : ℕ) → 0 < limit → IsPartial [] limit
-nothing_waits limit some = record {
-  short = some;
-  can_go_on = (0, [], record { item = unsigned 0; encoding = (direct, omega arith, refl); within = omega arith }, (omega arith, tt));
-}
 
 divides_whole : (limit : ℕ) (ms : List Message) (s : List ℕ) → 0 < limit → AreWireForms ms s limit → Divides s limit ms [] waiting
 divides_whole limit [] s some forms = subst (λ (t : List ℕ). Divides t limit [] [] waiting) (sym forms) (divides_alone limit [] waiting tt (nothing_waits limit some))
 divides_whole limit (m ∷ ms) s some forms =
     subst (λ (t : List ℕ). Divides t limit (m ∷ ms) [] waiting) (sym forms.4) (divides_more limit m forms.0 forms.1 ms [] waiting forms.2 (divides_whole limit ms forms.1 some forms.3))
 
-shows_whole : (limit : ℕ) (ms : List Message) (input : List ℕ) → 0 < limit → AreWireForms ms input limit → Shows limit input (lines_of ms) None
+shows_whole : (limit : ℕ) (ms : List Message) (input : List ℕ) → 0 < limit → AreWireForms ms input limit → Shows limit input (shown ms) None
 shows_whole limit ms input some forms = record {
   messages = ms;
   front = input;
@@ -247,7 +238,7 @@ tasks_are_functions Replay limit input a b s t some bytes x y =
 
 pub whole_inputs_end_well : WholeInputsEndWell
 whole_inputs_end_well Show limit input output ended some bytes whole x =
-    (tasks_are_functions Show limit input output (lines_of whole.0) ended status.Ok some bytes x (shows_whole limit whole.0 input some whole.1)).1
+    (tasks_are_functions Show limit input output (shown whole.0) ended status.Ok some bytes x (shows_whole limit whole.0 input some whole.1)).1
 whole_inputs_end_well Pack limit input output ended some bytes whole x =
     (tasks_are_functions Pack limit input output (encoded whole.0) ended status.Ok some bytes x (packs_whole limit whole.0 input whole.1)).1
 whole_inputs_end_well Replay limit input output ended some bytes whole x = (replay_ok input output ended x).0

@@ -6,18 +6,17 @@ use Rattle.grasp_text.specs.Line.{line_of}
 use Rattle.grasp_script.specs.Script.{lines_of, IsScript}
 use Rattle.grasp_script.specs.declared.line.Line.{Line}
 use Rattle.grasp_wire.specs.Wire.{AreWireForms}
-use Rattle.grasp_replay.specs.Lines.{lines_in}
 use Rattle.grasp_replay.specs.Pack.{CanPack}
 use Rattle.grasp_replay.specs.Task.{Makes}
 use Rattle.grasp_replay.specs.declared.exit.Status.{Status}
 use Rattle.grasp_replay.specs.declared.exit.Status.TheVariants as status
-use Rattle.grasp_replay.specs.declared.scripts.TheConstants.{LINE_LIMIT}
+use Rattle.grasp_replay.specs.declared.replay.TheConstants.{LINE_LIMIT}
 use Rattle.grasp_replay.specs.declared.task.Task.{Task}
 use Rattle.grasp_replay.specs.declared.task.Task.TheVariants.{Show, Pack, Replay}
 
 -- the input is lines of messages that can be packed
 pub record AreLines (limit : ℕ) (input : List ℕ) (messages : List Message) : Type 0 where
-  pub lines : lines_in input ≡ map line_of messages
+  pub lines : lines_of input ≡ map line_of messages
   pub can : All (CanPack limit) messages
 
 -- the input is a script of few enough lines

@@ -1,6 +1,5 @@
 pub mod Ending
 pub mod Laws
-pub mod Lines
 pub mod Pack
 pub mod Replay
 pub mod Show

@@ -1,11 +1,16 @@
 -- What `show` makes of its input.
 use Rattle.std.specs.Prelude.{◌≡◌, ℕ, ◌+◌, List, [], ◌∷◌, ◌++◌, Option, None, Some, length, option_map}
 use Rattle.grasp_types.specs.declared.message.Message.{Message}
+use Rattle.grasp_text.specs.Line.{line_of}
 use Rattle.grasp_wire.specs.Reads.{fault_of}
 use Rattle.grasp_wire.specs.Stream.{Divides, RestKind, waiting, too_long, not_message, faulty}
-use Rattle.grasp_replay.specs.Lines.{lines_of}
 use Rattle.grasp_replay.specs.declared.exit.Finding.{Finding}
 use Rattle.grasp_replay.specs.declared.exit.Finding.TheVariants.{Cut, Truncated}
+
+-- the lines of the messages, each ended by a line feed
+abbrev pub shown : List Message → List ℕ
+shown [] = []
+shown (message ∷ messages) = line_of message ++ 10 ∷ shown messages
 
 -- the finding of a waiting rest, which so many bytes stand before: none where it is empty
 abbrev pub truncated : ℕ → List ℕ → Option Finding
@@ -27,5 +32,5 @@ pub record Shows (limit : ℕ) (input output : List ℕ) (finding : Option Findi
   pub kind : RestKind
   pub parts : input ≡ front ++ rest
   pub divides : Divides input limit messages rest kind
-  pub output_is : output ≡ lines_of messages
+  pub output_is : output ≡ shown messages
   pub finding_is : finding ≡ rest_finding (length front) rest kind

@@ -12,8 +12,8 @@ use Rattle.grasp_replay.specs.declared.exit.Status.{Status}
 use Rattle.grasp_replay.specs.declared.exit.Status.TheVariants as status
 use Rattle.grasp_replay.specs.declared.made.Unmade.{Unmade}
 use Rattle.grasp_replay.specs.declared.made.Unmade.TheVariants as unmade
-use Rattle.grasp_replay.specs.declared.replay.TheConstants.{INPUT_LIMIT}
-use Rattle.grasp_replay.specs.declared.scripts.TheConstants.{LINE_LIMIT}
+use Rattle.grasp_replay.specs.declared.program.TheConstants.{INPUT_LIMIT}
+use Rattle.grasp_replay.specs.declared.replay.TheConstants.{LINE_LIMIT}
 use Rattle.grasp_replay.specs.declared.task.Task.{Task}
 use Rattle.grasp_replay.specs.declared.task.Task.TheVariants.{Show, Pack, Replay}
 

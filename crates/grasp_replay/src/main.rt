@@ -7,10 +7,10 @@ mod laws;
 mod lines;
 mod made;
 mod pack;
+mod program;
 mod replay;
 #[cfg(test)]
 mod script_tests;
-mod scripts;
 mod show;
 mod start;
 mod task;
@@ -19,7 +19,7 @@ mod tests;
 
 use exit::{Status, fault_line};
 use grasp_io::{StdSink, StdSource};
-use replay::replay_main;
+use program::replay_main;
 use start::{text_for, words};
 use std::process::ExitCode;
 

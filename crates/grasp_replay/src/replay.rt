@@ -1,133 +1,85 @@
-// The program's one call.
-ghost use Rattle.std.specs.Prelude.{◌≡◌, ◌≢◌, ◌≤◌, ◌⊎◌, ℕ, [], Some, None, map, length, string_bytes, IfOk, IfErr, IfSome, IsSome};
-ghost use Rattle.grasp_io.specs.Faults.{Rose};
-ghost use Rattle.grasp_replay.specs.Ending.{IsAfterInput};
-ghost use Rattle.grasp_replay.specs.Laws.{IsWholeInput};
-ghost use Rattle.grasp_replay.specs.Task.{task_of, Makes, Tells, BeginsToTell, IsReadToEnd, IsDone, IsOfInput, HasTooManyLines, IsTooLarge, IsBadScript, IsUnmade, IsOutcome, IsOkOrMemory};
-ghost use Rattle.grasp_replay.specs.declared.task.Task.{Task};
+// `replay`: the reports of a script's events.
+ghost use Rattle.std.specs.Prelude.{◌≡◌, ◌++◌, ◌↔◌, IsTrue, IfOk, IfErr, OnOk};
+ghost use Rattle.grasp_script.specs.Report.{report_line, header_text};
+ghost use Rattle.grasp_script.specs.Script.{AreLines, IsLine};
+ghost use Rattle.grasp_world.specs.Stands.{Stands};
+ghost use Rattle.grasp_world.specs.Steps.{step};
+ghost use Rattle.grasp_world.specs.World.{WorldState, first_world};
+ghost use Rattle.grasp_replay.specs.Replay.{reports_from};
+ghost use Rattle.grasp_replay.specs.Task.{ReplayMakes, HasTooManyLines, IsUnmade};
+ghost use Rattle.grasp_replay.specs.declared.task.Task.TheVariants.{Replay};
 
 use crate::exit::Status;
+use crate::lines::count_lines;
 use crate::made::{Made, Unmade};
-use crate::pack::pack;
-use crate::scripts::replay_script;
-use crate::show::show;
-use crate::task::{Task, task_of};
-use grasp_io::{ReadError, Sink, Source, read_all, write_all};
+use grasp_cbor::OutOfMemory;
+use grasp_script::{Line, Script, ScriptFault, header_reports, parse_script, push_report};
+use grasp_world::World;
 use std::alloc::Global;
 
-/// The most bytes that the input may have.
-pub const INPUT_LIMIT: u64 = 16_777_216;
+/// The most lines that a script may have.
+pub const LINE_LIMIT: u64 = 200_000;
 
-/// The most bytes that a message may have.
-pub const MESSAGE_LIMIT: u32 = 2048;
+/// Runs the script that the input is in a world of two nodes, and makes the reports of its events.
+pub fn replay_script(alloc: Global, input: &[u8]) -> Result<Made, Unmade>
+    ensures made { IfOk result (λ made. ReplayMakes input.now made.output.items made.status) }
+    ensures few { IfOk result (λ made. ¬ HasTooManyLines Replay input.now) }
+    ensures unmade { IfErr result (λ unmade. IsUnmade Replay input.now unmade) }
+{
+    if has_too_many_lines(input) {
+        return Err(Unmade::TooLarge);
+    }
+    let script = match parse_script(alloc, input) {
+        Ok(script) => script,
+        Err(ScriptFault::BadScript { line }) => return Err(Unmade::BadScript { line }),
+        Err(ScriptFault::OutOfMemory) => return Err(Unmade::OutOfMemory),
+    };
+    let output = reports_of(alloc, &script)?;
+    Ok(Made {
+        output,
+        status: Status::Ok,
+    })
+}
 
-/// Does what the words ask for, and says how it ended.
-///
-/// `show` reads the source to its end and writes a line for each message of the stream that it gives. `pack` reads lines
-/// and writes the shortest encoding of the message of each. Where the input is wrong at some place, the status is the
-/// finding, and all that comes before that place was written. `replay` reads a script, runs it in a world of two nodes,
-/// and writes the reports of its events. Where the input is no script, the status is `BadScript`, and nothing was
-/// written. `OutOfMemory` may come wherever memory is wanted; then nothing was written.
-pub fn replay_main<S: Source, K: Sink>(
+/// Whether the input has more lines than a script may have.
+fn has_too_many_lines(input: &[u8]) -> bool
+    ensures { IsTrue result ↔ HasTooManyLines Replay input.now }
+{
+    count_lines(input) > LINE_LIMIT
+}
+
+/// The reports of the header and of the script's lines, in a world where nothing had happened.
+fn reports_of(alloc: Global, script: &Script) -> Result<Vec<u8>, OutOfMemory>
+    requires { AreLines script.now }
+    ensures { IfOk result (λ output. output.items ≡ header_text ++ reports_from first_world script.now) }
+{
+    let mut world = World::new(alloc)?;
+    let mut output = Vec::new(alloc);
+    output.extend_from_slice(header_reports())?;
+    for i in 0..script.len() {
+        let Some(line) = script.line(i) else {
+            unreachable!()
+        };
+        replay_line(alloc, &mut world, line, &mut output)?;
+    }
+    Ok(output)
+}
+
+/// Carries out the event of a line, and appends its report.
+fn replay_line(
     alloc: Global,
-    words: &[String],
-    source: &mut S,
-    sink: &mut K,
-) -> Status
-    // The words come first: where they are no task, nothing is touched.
-    ensures usage { task_of (map string_bytes words.now) ≡ None → result ≡ Status.Usage }
-    ensures no_usage { IsSome (task_of (map string_bytes words.now)) → result ≢ Status.Usage }
-    ensures unread { result ≡ Status.Usage → source.new ≡ source.old }
-
-    // Then the input is read to its end, at most 16,777,216 bytes. Then its lines are counted: for `replay` they are at
-    // most 200,000.
-    ensures read_fault { result ≡ Status.ReadFault → Rose (S.faults source.old) (S.faults source.new) }
-    ensures too_large { (task : Task) → task_of (map string_bytes words.now) ≡ Some task → result ≡ Status.TooLarge
-        → IfSome (S.left source.old) (λ input. IsTooLarge task input) }
-    ensures small { (task : Task) → task_of (map string_bytes words.now) ≡ Some task → IsAfterInput result
-        → IfSome (S.left source.old) (λ input. ¬ IsTooLarge task input) }
-    ensures read_to_end { IsAfterInput result → IsReadToEnd (S.left source.old) (S.left source.new) }
-    ensures read_all_lines { result ≡ Status.TooLarge
-        → IfSome (S.left source.old) (λ input. length input ≤ INPUT_LIMIT → S.left source.new ≡ Some []) }
-
-    // Then a script is read: where the input is none, its bad line is told.
-    ensures bad_script { (task : Task) (line : ℕ) → task_of (map string_bytes words.now) ≡ Some task → result ≡ Status.BadScript line
-        → IfSome (S.left source.old) (λ input. IsBadScript task input line) }
-
-    // Then what the task makes of the input is written: all of it, up to the finding.
-    ensures done { (task : Task) → task_of (map string_bytes words.now) ≡ Some task → IsDone result
-        → Tells task MESSAGE_LIMIT (S.left source.old) (K.written sink.old) (K.written sink.new) result }
-    ensures of_input { IsOfInput result }
-    ensures write_fault { result ≡ Status.WriteFault → Rose (K.faults sink.old) (K.faults sink.new) }
-    ensures begun { (task : Task) → task_of (map string_bytes words.now) ≡ Some task → result ≡ Status.WriteFault
-        → BeginsToTell task MESSAGE_LIMIT (S.left source.old) (K.written sink.old) (K.written sink.new) }
-    ensures unwritten { ¬ IsDone result → result ≢ Status.WriteFault → sink.new ≡ sink.old }
-
-    // Where nothing outside fails, the input alone decides, unless memory is wanted.
-    ensures complete { (task : Task) → task_of (map string_bytes words.now) ≡ Some task
-        → ¬ Rose (S.faults source.old) (S.faults source.new) → ¬ Rose (K.faults sink.old) (K.faults sink.new)
-        → IfSome (S.left source.old) (λ input. ¬ IsTooLarge task input → IsOutcome task MESSAGE_LIMIT input result) }
-    ensures complete_whole { (task : Task) → task_of (map string_bytes words.now) ≡ Some task
-        → ¬ Rose (S.faults source.old) (S.faults source.new) → ¬ Rose (K.faults sink.old) (K.faults sink.new)
-        → IfSome (S.left source.old) (λ input. ¬ IsTooLarge task input → IsWholeInput task MESSAGE_LIMIT input → IsOkOrMemory result) }
-    ensures complete_large { (task : Task) → task_of (map string_bytes words.now) ≡ Some task → ¬ Rose (S.faults source.old) (S.faults source.new)
-        → IfSome (S.left source.old) (λ input. IsTooLarge task input → (result ≡ Status.TooLarge) ⊎ (result ≡ Status.OutOfMemory)) }
+    world: &mut World,
+    line: &Line,
+    output: &mut Vec<u8>,
+) -> Result<(), OutOfMemory>
+    requires stands { (w : WorldState) × Stands world.old w }
+    requires is_line { IsLine line.now }
+    ensures report { OnOk result ((w : WorldState) → Stands world.old w
+        → output.new.items ≡ output.old.items ++ report_line line.now.text (step w line.now.event).report) }
+    ensures world { OnOk result ((w : WorldState) → Stands world.old w
+        → Stands world.new (step w line.now.event).world) }
 {
-    match task_of(words) {
-        Some(task) => run(alloc, task, source, sink),
-        None => Status::Usage,
-    }
-}
-
-/// Reads the source to its end, and writes what the task makes of it.
-fn run<S: Source, K: Sink>(alloc: Global, task: Task, source: &mut S, sink: &mut K) -> Status
-    ensures no_usage { result ≢ Status.Usage }
-    ensures read_fault { result ≡ Status.ReadFault → Rose (S.faults source.old) (S.faults source.new) }
-    ensures too_large { result ≡ Status.TooLarge → IfSome (S.left source.old) (λ input. IsTooLarge task input) }
-    ensures small { IsAfterInput result → IfSome (S.left source.old) (λ input. ¬ IsTooLarge task input) }
-    ensures read_to_end { IsAfterInput result → IsReadToEnd (S.left source.old) (S.left source.new) }
-    ensures read_all_lines { result ≡ Status.TooLarge
-        → IfSome (S.left source.old) (λ input. length input ≤ INPUT_LIMIT → S.left source.new ≡ Some []) }
-    ensures bad_script { (line : ℕ) → result ≡ Status.BadScript line → IfSome (S.left source.old) (λ input. IsBadScript task input line) }
-    ensures done { IsDone result → Tells task MESSAGE_LIMIT (S.left source.old) (K.written sink.old) (K.written sink.new) result }
-    ensures of_input { IsOfInput result }
-    ensures write_fault { result ≡ Status.WriteFault → Rose (K.faults sink.old) (K.faults sink.new) }
-    ensures begun { result ≡ Status.WriteFault → BeginsToTell task MESSAGE_LIMIT (S.left source.old) (K.written sink.old) (K.written sink.new) }
-    ensures unwritten { ¬ IsDone result → result ≢ Status.WriteFault → sink.new ≡ sink.old }
-    ensures whole { IsDone result → IfSome (S.left source.old) (λ input. IsWholeInput task MESSAGE_LIMIT input → result ≡ Status.Ok) }
-    ensures good { (line : ℕ) → result ≡ Status.BadScript line → IfSome (S.left source.old) (λ input. ¬ IsWholeInput task MESSAGE_LIMIT input) }
-{
-    let input = match read_all(alloc, source, INPUT_LIMIT) {
-        Ok(input) => input,
-        Err(ReadError::Fault) => return Status::ReadFault,
-        Err(ReadError::TooLarge) => return Status::TooLarge,
-        Err(ReadError::OutOfMemory) => return Status::OutOfMemory,
-    };
-    let made = match make(alloc, task, &input) {
-        Ok(made) => made,
-        Err(Unmade::TooLarge) => return Status::TooLarge,
-        Err(Unmade::BadScript { line }) => return Status::BadScript { line },
-        Err(Unmade::OutOfMemory) => return Status::OutOfMemory,
-    };
-    match write_all(sink, &made.output) {
-        Ok(()) => made.status,
-        Err(_) => Status::WriteFault,
-    }
-}
-
-/// What the task makes of the input.
-fn make(alloc: Global, task: Task, input: &[u8]) -> Result<Made, Unmade>
-    ensures made { IfOk result (λ made. Makes task MESSAGE_LIMIT input.now made.output.items made.status) }
-    ensures done { IfOk result (λ made. IsDone made.status) }
-    ensures of_input { IfOk result (λ made. IsOfInput made.status) }
-    ensures whole { IfOk result (λ made. IsWholeInput task MESSAGE_LIMIT input.now → made.status ≡ Status.Ok) }
-    ensures few { IfOk result (λ made. ¬ HasTooManyLines task input.now) }
-    ensures unmade { IfErr result (λ unmade. IsUnmade task input.now unmade) }
-    ensures good { IfErr result (λ unmade. IsWholeInput task MESSAGE_LIMIT input.now → unmade ≡ Unmade.OutOfMemory) }
-{
-    match task {
-        Task::Show => Ok(show(alloc, input, MESSAGE_LIMIT)?),
-        Task::Pack => Ok(pack(alloc, input, MESSAGE_LIMIT)?),
-        Task::Replay => replay_script(alloc, input),
-    }
+    let event = line.event.copy()?;
+    let report = world.step(event)?;
+    push_report(alloc, output, line.text.bytes(), &report)
 }

@@ -1,6 +1,6 @@
 // Scripts and what their events come to.
 use crate::exit::Status;
-use crate::replay::replay_main;
+use crate::program::replay_main;
 use crate::tests::{ends, words_of};
 use grasp_io::{MemSink, MemSource};
 use grasp_script::header_reports;
@@ -150,6 +150,76 @@ fn broken_and_timed_out(rt: HostRuntime) -> Result<(), Fail> {
         ("api 1 2 accept 1", "refused 13 NotYourTurn"),
         ("api 1 2 poll 1", "ended timedout 60000 60000"),
         ("api 2 2 poll 1", "ended broken"),
+    ];
+    replays(&rt, rt.alloc(), &events)
+}
+
+#[test]
+fn loop_count_one(rt: HostRuntime) -> Result<(), Fail> {
+    let events = [
+        ("api 2 2 request 'x x01 1 60000 wet 1", "started 1"),
+        ("arrive 1", "taken"),
+        ("bytes 1 far 9999", "taken"),
+        (
+            "api 1 2 listen 'x",
+            "incoming 1 fd000000000000000000000000000002 obj 'x 2 1 x01",
+        ),
+        ("api 1 2 step 1 x02", "refused 14 LoopsSpent"),
+        ("api 1 2 accept 1", "done"),
+        ("bytes 1 near 9999", "taken"),
+        ("api 2 2 poll 1", "ended agreed theirs obj 'x 2 1 x01"),
+        ("api 1 2 poll 1", "ended agreed mine obj 'x 2 1 x01"),
+    ];
+    replays(&rt, rt.alloc(), &events)
+}
+
+#[test]
+fn a_wait_moves_the_deadline(rt: HostRuntime) -> Result<(), Fail> {
+    let events = [
+        ("api 2 2 request 'x x01 6 1000 wet 1", "started 1"),
+        ("arrive 1", "taken"),
+        ("bytes 1 far 9999", "taken"),
+        (
+            "api 1 2 listen 'x",
+            "incoming 1 fd000000000000000000000000000002 obj 'x 2 6 x01",
+        ),
+        ("api 1 2 wait 1 5000", "done"),
+        ("api 1 2 wait 1 1", "done"),
+        ("api 1 2 wait 1 1", "done"),
+        ("api 1 2 wait 1 1", "done"),
+        ("api 1 2 wait 1 1", "refused 15 WaitsSpent"),
+        ("bytes 1 near 9999", "taken"),
+        ("clock 2 4999", "4999"),
+        ("api 2 2 poll 1", "notyet"),
+        ("clock 2 5000", "5000"),
+        ("api 2 2 poll 1", "ended timedout 5000 5000"),
+        ("api 2 2 poll 1", "refused 12 NoSession"),
+    ];
+    replays(&rt, rt.alloc(), &events)
+}
+
+#[test]
+fn cut_and_timed_out(rt: HostRuntime) -> Result<(), Fail> {
+    let events = [
+        ("api 2 2 request 'x x01 3 1000 wet 1", "started 1"),
+        ("arrive 1", "taken"),
+        ("bytes 1 far 2", "taken"),
+        ("api 1 2 listen 'x", "notyet"),
+        ("bytes 1 far 9999", "taken"),
+        (
+            "api 1 2 listen 'x",
+            "incoming 1 fd000000000000000000000000000002 obj 'x 2 3 x01",
+        ),
+        ("api 1 2 step 1 x02", "done"),
+        ("bytes 1 near 9999", "taken"),
+        ("api 2 2 step 1 x03", "done"),
+        ("api 2 2 step 1 x04", "refused 13 NotYourTurn"),
+        ("bytes 1 far 9999", "taken"),
+        ("api 1 2 step 1 x05", "refused 14 LoopsSpent"),
+        ("cut 1 far", "taken"),
+        ("api 1 2 poll 1", "ended broken"),
+        ("clock 2 1000", "1000"),
+        ("api 2 2 poll 1", "ended timedout 1000 1000"),
     ];
     replays(&rt, rt.alloc(), &events)
 }

@@ -1,6 +1,6 @@
 // The calls of the program over streams in memory.
 use crate::exit::{Finding, Status, fault_line};
-use crate::replay::replay_main;
+use crate::program::replay_main;
 use grasp_io::{MemSink, MemSource};
 use grasp_wire::CutFault;
 use std::alloc::{AllocError, Global};

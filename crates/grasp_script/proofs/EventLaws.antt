@@ -14,7 +14,7 @@ use Rattle.grasp_text.specs.Words.{joined}
 use Rattle.grasp_text.proofs.Lawful.{ok_is}
 use Rattle.grasp_text.proofs.Leaves.{one_of, no_more, exactly_exact, IsText, text_exact}
 use Rattle.grasp_text.proofs.NumberWords.{number_only, number_found, some, some_is}
-use Rattle.grasp_text.proofs.ValueWords.{IsValueWord, value_exact, is_value}
+use Rattle.grasp_text.proofs.ValueWords.{IsValueWord, value_exact}
 use Rattle.grasp_world.specs.declared.event.End.{End}
 use Rattle.grasp_world.specs.declared.event.End.TheVariants.{Near, Far}
 use Rattle.grasp_world.specs.declared.event.Event.{Event}
@@ -94,7 +94,7 @@ short_value_again : (v : DataItem) → IsShortValue v → short_value_of (value_
 unfolding short_value_of
 short_value_again v h =
     let len : length (value_word v) ≤ 129 = omega (arith, length-encode_with lower_digits (shortest v), h.short) in
-    ap (λ (b : Bool). cond b (value_of (value_word v)) None) (le-leb (length (value_word v)) 129 len) ∙ value_exact.found v (value_word v) (record { encoding = h.encoding; shallow = h.ranges.within; spelled = refl })
+    ap (λ (b : Bool). cond b (value_of (value_word v)) None) (le-leb (length (value_word v)) 129 len) ∙ value_exact.found v (value_word v) (record { value = h.ranges; spelled = refl })
 
 record IsShortWord (v : DataItem) (word : List ℕ) : Type 0 where
   short : IsShortValue v
@@ -106,7 +106,7 @@ short_value_at word v true t e =
     let is : IsValueWord v word = value_exact.only word v e in
     let long : length word ≤ 129 = leb-true (length word) 129 t in
     record {
-      short = record { ranges = is_value v is.encoding is.shallow; encoding = is.encoding; short = omega (arith, ap length is.spelled, length-encode_with lower_digits (shortest v)) };
+      short = record { ranges = is.value; short = omega (arith, ap length is.spelled, length-encode_with lower_digits (shortest v)) };
       spelled = is.spelled;
     }
 
@@ -186,20 +186,22 @@ request_only ws x e =
     let a = taken (exactly (codes "'x")) _ ws x e in
     let b = taken short_value_of _ a.rest x a.more in
     let c = taken (number_of 255) _ b.rest x b.more in
-    let d = taken (exactly (codes "60000")) _ c.rest x c.more in
+    let d = taken number32 _ c.rest x c.more in
     let f = taken (exactly (codes "wet")) _ d.rest x d.more in
     let g = taken (exactly (codes "1")) _ f.rest x f.more in
-    let z = ended (event.Request b.first c.first) g.rest x g.more in
+    let z = ended (event.Request b.first c.first d.first) g.rest x g.more in
     let v = short_value_only b.word b.first b.is in
     let n = number_only 255 c.word c.first c.is in
     let le : c.first ≤ 255 = n.within in
+    let m = number_only 4294967295 d.word d.first d.is in
+    let ge : d.first ≤ 4294967295 = m.within in
     subst (λ (y : Event). EventWords y (call_words Near (codes "request" ∷ ws))) (sym z.value) (record {
-      ranges = (v.short, omega arith);
+      ranges = (v.short, omega arith, omega arith);
       spelled = ap (λ (t : List (List ℕ)). call_words Near (codes "request" ∷ t)) (
           behind ws a.rest _ a.word _ a.parts (same (codes "'x") a.word a.first a.is) (
           behind a.rest b.rest _ b.word _ b.parts v.spelled (
           behind b.rest c.rest _ c.word _ c.parts n.digits (
-          behind c.rest d.rest _ d.word _ d.parts (same (codes "60000") d.word d.first d.is) (
+          behind c.rest d.rest _ d.word _ d.parts m.digits (
           behind d.rest f.rest _ f.word _ f.parts (same (codes "wet") f.word f.first f.is) (
           behind f.rest g.rest _ g.word _ g.parts (same (codes "1") g.word g.first g.is) z.words))))));
     })
@@ -404,9 +406,9 @@ api_found : (end : End) (word : List ℕ) (n : CallName) (ws : List (List ℕ)) 
 unfolding event_at name_of api_at
 api_found end word n ws e = rw (node_again end, e) refl
 
-request_found : (v : DataItem) (loops : ℕ) → IsShortValue v → loops < 2 ^ 8 → request_at (codes "'x" ∷ value_word v ∷ decimal loops ∷ codes "60000" ∷ codes "wet" ∷ codes "1" ∷ []) ≡ Ok (event.Request v loops, [])
+request_found : (v : DataItem) (loops timeout : ℕ) → IsShortValue v → loops < 2 ^ 8 → timeout < 2 ^ 32 → request_at (codes "'x" ∷ value_word v ∷ decimal loops ∷ decimal timeout ∷ codes "wet" ∷ codes "1" ∷ []) ≡ Ok (event.Request v loops timeout, [])
 unfolding request_at
-request_found v loops h lt = rw (short_value_again v h, number8_again loops lt) refl
+request_found v loops timeout h lt gt = rw (short_value_again v h, number8_again loops lt, number32_again timeout gt) refl
 
 listen_found : listen_at (codes "'x" ∷ []) ≡ Ok (event.Listen, [])
 unfolding listen_at
@@ -470,7 +472,7 @@ call_again call.Poll = refl
 pub event_found : (e : Event) → IsEvent e → event_at (event_words e) ≡ Ok (e, [])
 unfolding event_at name_of
 event_found (event.Clock end millis) h = clock_found end millis h
-event_found (event.Request v loops) h = api_found Near (codes "request") call.Request _ (call_again call.Request) ∙ request_found v loops h.0 h.1
+event_found (event.Request v loops timeout) h = api_found Near (codes "request") call.Request _ (call_again call.Request) ∙ request_found v loops timeout h.0 h.1 h.2
 event_found event.Listen h = api_found Far (codes "listen") call.Listen _ (call_again call.Listen) ∙ listen_found
 event_found (event.Step end handle v) h = api_found end (codes "step") call.Step _ (call_again call.Step) ∙ step_found end handle v h.0 h.1
 event_found (event.Wait end handle millis) h = api_found end (codes "wait") call.Wait _ (call_again call.Wait) ∙ wait_found end handle millis h.0 h.1

@@ -49,30 +49,38 @@ header_begins : (front rest : List (List ℕ)) → header ≡ front ++ rest → 
 header_begins front rest e = record { lines = []; more = rest; good = no_lines; parts = append-nil header ∙ e }
 
 -- a line that isn't the header's
-pub header_unfit : (text rest expected : List ℕ) (number : ℕ) (found line behind more : List ℕ) → HeaderRead text rest expected number → lines_of rest ≡ found ∷ lines_of behind → lines_of expected ≡ line ∷ lines_of more → ¬ (found ≡ line) → IsUnfitLine text (number + 1)
-header_unfit text rest expected number found line behind more h f l other =
-    let whole : header ≡ h.front ++ line ∷ lines_of more = h.same ∙ ap (λ (x : List (List ℕ)). h.front ++ x) l in
-    record {
-      front = h.front;
-      line = found;
-      rest = lines_of behind;
-      parts = h.parts ∙ ap (λ (x : List (List ℕ)). h.front ++ x) f;
-      before = header_begins h.front (line ∷ lines_of more) whole;
-      none = λ b.
-          let left : header ++ texts b.lines ≡ h.front ++ line ∷ (lines_of more ++ texts b.lines) = ap (λ (x : List (List ℕ)). x ++ texts b.lines) whole ∙ append_assoc h.front (line ∷ lines_of more) (texts b.lines) in
-          let right : header ++ texts b.lines ≡ h.front ++ found ∷ b.more = b.parts ∙ append_assoc h.front (found ∷ []) b.more in
-          let heads : line ∷ (lines_of more ++ texts b.lines) ≡ found ∷ b.more = same_behind h.front (line ∷ (lines_of more ++ texts b.lines)) (found ∷ b.more) (sym left ∙ right) in
-          other (let z : found ≡ line = cc in z);
-      place = ap (λ (n : ℕ). n + 1) h.count;
-    }
+pub unfit_at : (text : List ℕ) (front rest more : List (List ℕ)) (found line : List ℕ) → lines_of text ≡ front ++ found ∷ rest → header ≡ front ++ line ∷ more → ¬ (found ≡ line) → IsUnfitLine text (length front + 1)
+unfit_at text front rest more found line f e other = record {
+  front = front;
+  line = found;
+  rest = rest;
+  parts = f;
+  before = header_begins front (line ∷ more) e;
+  none = λ b.
+      let left : header ++ texts b.lines ≡ front ++ line ∷ (more ++ texts b.lines) = ap (λ (x : List (List ℕ)). x ++ texts b.lines) e ∙ append_assoc front (line ∷ more) (texts b.lines) in
+      let right : header ++ texts b.lines ≡ front ++ found ∷ b.more = b.parts ∙ append_assoc front (found ∷ []) b.more in
+      let heads : line ∷ (more ++ texts b.lines) ≡ found ∷ b.more = same_behind front (line ∷ (more ++ texts b.lines)) (found ∷ b.more) (sym left ∙ right) in
+      other (let z : found ≡ line = cc in z);
+  place = refl;
+}
 
 -- no line where the header has one
+pub missing_at : (text : List ℕ) (more : List (List ℕ)) (line : List ℕ) → header ≡ lines_of text ++ line ∷ more → IsMissingLine text (length (lines_of text) + 1)
+missing_at text more line e = record {
+  before = header_begins (lines_of text) (line ∷ more) e;
+  fewer = omega (arith, ap length e, length-append (lines_of text) (line ∷ more));
+  place = refl;
+}
+
+-- the same where so many lines were read
+pub header_unfit : (text rest expected : List ℕ) (number : ℕ) (found line behind more : List ℕ) → HeaderRead text rest expected number → lines_of rest ≡ found ∷ lines_of behind → lines_of expected ≡ line ∷ lines_of more → ¬ (found ≡ line) → IsUnfitLine text (number + 1)
+header_unfit text rest expected number found line behind more h f l other =
+    let unfit = unfit_at text h.front (lines_of behind) (lines_of more) found line (h.parts ∙ ap (λ (x : List (List ℕ)). h.front ++ x) f) (h.same ∙ ap (λ (x : List (List ℕ)). h.front ++ x) l) other in
+    subst (λ (n : ℕ). IsUnfitLine text (n + 1)) (sym h.count) unfit
+
+-- the same where so many lines were read
 pub header_missing : (text rest expected : List ℕ) (number : ℕ) (line more : List ℕ) → HeaderRead text rest expected number → lines_of rest ≡ [] → lines_of expected ≡ line ∷ lines_of more → IsMissingLine text (number + 1)
 header_missing text rest expected number line more h f l =
-    let whole : header ≡ h.front ++ line ∷ lines_of more = h.same ∙ ap (λ (x : List (List ℕ)). h.front ++ x) l in
     let all : lines_of text ≡ h.front = h.parts ∙ ap (λ (x : List (List ℕ)). h.front ++ x) f ∙ append-nil h.front in
-    record {
-      before = subst BeginsScript (sym all) (header_begins h.front (line ∷ lines_of more) whole);
-      fewer = omega (arith, ap length all, ap length whole, length-append h.front (line ∷ lines_of more));
-      place = omega (arith, ap length all, h.count);
-    }
+    let whole : header ≡ lines_of text ++ line ∷ lines_of more = h.same ∙ ap (λ (x : List (List ℕ)). h.front ++ x) l ∙ ap (λ (x : List (List ℕ)). x ++ line ∷ lines_of more) (sym all) in
+    subst (λ (n : ℕ). IsMissingLine text (n + 1)) (ap length all ∙ sym h.count) (missing_at text (lines_of more) line whole)

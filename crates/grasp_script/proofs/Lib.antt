@@ -1,8 +1,10 @@
+pub mod Agreements
 pub mod Beginnings
 pub mod EventLaws
 pub mod EventLines
 pub mod HeaderRead
 pub mod LinesRead
 pub mod Pushed
+pub mod SomeScript
 pub mod Splitting
 pub mod WholeWords

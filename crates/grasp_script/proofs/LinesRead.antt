@@ -11,14 +11,14 @@ use Rattle.grasp_script.proofs.Beginnings.{same_behind}
 use Rattle.grasp_script.proofs.EventLines.{line_one}
 
 -- these lines of the text were read behind the header
-pub record LinesRead (text rest : List ℕ) (lines : List Line) (number : ℕ) (requested : Bool) : Type 0 where
-  pub parts : lines_of text ≡ (header ++ texts lines) ++ lines_of rest
+pub record LinesRead (text : List ℕ) (rest : List (List ℕ)) (lines : List Line) (number : ℕ) (requested : Bool) : Type 0 where
+  pub parts : lines_of text ≡ (header ++ texts lines) ++ rest
   pub events : AllByRecursion IsLine lines
   pub count : requests lines ≡ counted requested
   pub place : number ≡ length (header ++ texts lines)
 
-pub lines_begun : (text rest : List ℕ) (number : ℕ) → lines_of text ≡ header ++ lines_of rest → number ≡ length header → LinesRead text rest [] number false
-lines_begun text rest number e n = record { parts = e ∙ ap (λ (x : List (List ℕ)). x ++ lines_of rest) (sym (append-nil header)); events = tt; count = refl; place = n ∙ ap length (sym (append-nil header)) }
+pub lines_begun : (text : List ℕ) (rest : List (List ℕ)) (number : ℕ) → lines_of text ≡ header ++ rest → number ≡ length header → LinesRead text rest [] number false
+lines_begun text rest number e n = record { parts = e ∙ ap (λ (x : List (List ℕ)). x ++ rest) (sym (append-nil header)); events = tt; count = refl; place = n ∙ ap length (sym (append-nil header)) }
 
 texts_more : (lines : List Line) (x : Line) → texts (lines ++ x ∷ []) ≡ texts lines ++ x.text ∷ []
 texts_more [] x = refl
@@ -34,11 +34,11 @@ either_counted true false e = refl
 either_counted false true e = refl
 either_counted false false e = refl
 
-pub lines_more : (text rest : List ℕ) (lines : List Line) (number : ℕ) (requested : Bool) (x : Line) (behind : List ℕ) → LinesRead text rest lines number requested → lines_of rest ≡ x.text ∷ lines_of behind → IsEventLine x.text x.event → (requested && is_request x.event) ≡ false → LinesRead text behind (lines ++ x ∷ []) (number + 1) (requested || is_request x.event)
+pub lines_more : (text : List ℕ) (rest : List (List ℕ)) (lines : List Line) (number : ℕ) (requested : Bool) (x : Line) (behind : List (List ℕ)) → LinesRead text rest lines number requested → rest ≡ x.text ∷ behind → IsEventLine x.text x.event → (requested && is_request x.event) ≡ false → LinesRead text behind (lines ++ x ∷ []) (number + 1) (requested || is_request x.event)
 lines_more text rest lines number requested x behind h f is one =
     let whole : header ++ texts (lines ++ x ∷ []) ≡ (header ++ texts lines) ++ x.text ∷ [] = ap (λ (t : List (List ℕ)). header ++ t) (texts_more lines x) ∙ sym (append_assoc header (texts lines) (x.text ∷ [])) in
     record {
-      parts = h.parts ∙ ap (λ (t : List (List ℕ)). (header ++ texts lines) ++ t) f ∙ sym (append_assoc (header ++ texts lines) (x.text ∷ []) (lines_of behind)) ∙ ap (λ (t : List (List ℕ)). t ++ lines_of behind) (sym whole);
+      parts = h.parts ∙ ap (λ (t : List (List ℕ)). (header ++ texts lines) ++ t) f ∙ sym (append_assoc (header ++ texts lines) (x.text ∷ []) behind) ∙ ap (λ (t : List (List ℕ)). t ++ behind) (sym whole);
       events = each_more IsLine lines x h.events is;
       count = requests_more lines x ∙ ap (λ (n : ℕ). n + counted (is_request x.event)) h.count ∙ either_counted requested (is_request x.event) one;
       place = omega (arith, h.place, ap length whole, length-append (header ++ texts lines) (x.text ∷ []));
@@ -48,10 +48,10 @@ at_most_one : (b : Bool) → counted b ≤ 1
 at_most_one true = omega arith
 at_most_one false = omega arith
 
-good : (text rest : List ℕ) (lines : List Line) (number : ℕ) (requested : Bool) → LinesRead text rest lines number requested → AreLines lines
+good : (text : List ℕ) (rest : List (List ℕ)) (lines : List Line) (number : ℕ) (requested : Bool) → LinesRead text rest lines number requested → AreLines lines
 good text rest lines number requested h = record { events = h.events; one = omega (arith, h.count, at_most_one requested) }
 
-pub lines_read : (text rest : List ℕ) (lines : List Line) (number : ℕ) (requested : Bool) → LinesRead text rest lines number requested → lines_of rest ≡ [] → IsScript text lines
+pub lines_read : (text : List ℕ) (rest : List (List ℕ)) (lines : List Line) (number : ℕ) (requested : Bool) → LinesRead text rest lines number requested → rest ≡ [] → IsScript text lines
 lines_read text rest lines number requested h e = record {
   good = good text rest lines number requested h;
   parts = h.parts ∙ ap (λ (t : List (List ℕ)). (header ++ texts lines) ++ t) e ∙ append-nil (header ++ texts lines);
@@ -83,11 +83,11 @@ both_counted true false e = absurd cc
 both_counted false b e = absurd cc
 
 -- a line that isn't an event's, or is a second request
-pub line_unfit : (text rest : List ℕ) (lines : List Line) (number : ℕ) (requested : Bool) (line behind : List ℕ) → LinesRead text rest lines number requested → lines_of rest ≡ line ∷ lines_of behind → ((event : Event) → IsEventLine line event → (requested && is_request event) ≡ true) → IsUnfitLine text (number + 1)
+pub line_unfit : (text : List ℕ) (rest : List (List ℕ)) (lines : List Line) (number : ℕ) (requested : Bool) (line : List ℕ) (behind : List (List ℕ)) → LinesRead text rest lines number requested → rest ≡ line ∷ behind → ((event : Event) → IsEventLine line event → (requested && is_request event) ≡ true) → IsUnfitLine text (number + 1)
 line_unfit text rest lines number requested line behind h f bad = record {
   front = header ++ texts lines;
   line = line;
-  rest = lines_of behind;
+  rest = behind;
   parts = h.parts ∙ ap (λ (t : List (List ℕ)). (header ++ texts lines) ++ t) f;
   before = record { lines = lines; more = []; good = good text rest lines number requested h; parts = sym (append-nil (header ++ texts lines)) };
   none = λ b.

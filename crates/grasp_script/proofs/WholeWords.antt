@@ -70,14 +70,14 @@ past (w ∷ ws) = ws
 -- a value's word is one in the line of a message, and so is a text's
 value : (v : DataItem) → IsShortValue v → IsWord (value_word v)
 value v h =
-    let all = line_words (message.Invalid 0 (Some v)) (record { ranges = (omega arith, h.ranges); values = h.encoding }) in
+    let all = line_words (message.Invalid 0 (Some v)) (omega arith, h.ranges) in
     let one : words_of (codes "invalid" ++ 32 ∷ (decimal 0 ++ 32 ∷ value_word v)) ≡ codes "invalid" ∷ words_of (decimal 0 ++ 32 ∷ value_word v) = before_blank (codes "invalid") (decimal 0 ++ 32 ∷ value_word v) refl in
     let two = before_blank (decimal 0) (value_word v) (number_whole 0 (omega arith)) in
     spelled (value_word v) (ap past (sym two ∙ ap past (sym one ∙ all)))
 
 text : (t : List ℕ) → IsShortText t → IsWord (text_word t)
 text t h =
-    let all = line_words (message.End 0 (Decline (Some t))) (record { ranges = (omega arith, h.utf8); values = tt }) in
+    let all = line_words (message.End 0 (Decline (Some t))) (omega arith, h.utf8) in
     let one : words_of (codes "end" ++ 32 ∷ (decimal 0 ++ 32 ∷ (codes "decline" ++ 32 ∷ text_word t))) ≡ codes "end" ∷ words_of (decimal 0 ++ 32 ∷ (codes "decline" ++ 32 ∷ text_word t)) = before_blank (codes "end") (decimal 0 ++ 32 ∷ (codes "decline" ++ 32 ∷ text_word t)) refl in
     let two = before_blank (decimal 0) (codes "decline" ++ 32 ∷ text_word t) (number_whole 0 (omega arith)) in
     let three : words_of (codes "decline" ++ 32 ∷ text_word t) ≡ codes "decline" ∷ words_of (text_word t) = before_blank (codes "decline") (text_word t) refl in
@@ -88,9 +88,10 @@ call_again end call h = words_again (codes "api") (node_word end ∷ codes "2" �
 
 event_again : (e : Event) → IsEvent e → words_of (event_line e) ≡ event_words e
 event_again (event.Clock end millis) h = words_again (codes "clock") (node_word end ∷ decimal millis ∷ []) (spelled (codes "clock") refl) (node end, (number millis h, tt))
-event_again (event.Request v loops) h =
+event_again (event.Request v loops timeout) h =
     let small : loops < 2 ^ 8 = h.1 in
-    call_again Near (codes "request" ∷ codes "'x" ∷ value_word v ∷ decimal loops ∷ codes "60000" ∷ codes "wet" ∷ codes "1" ∷ []) (spelled (codes "request") refl, (spelled (codes "'x") refl, (value v h.0, (number loops (omega arith), (spelled (codes "60000") refl, (spelled (codes "wet") refl, (spelled (codes "1") refl, tt)))))))
+    let within : timeout < 2 ^ 32 = h.2 in
+    call_again Near (codes "request" ∷ codes "'x" ∷ value_word v ∷ decimal loops ∷ decimal timeout ∷ codes "wet" ∷ codes "1" ∷ []) (spelled (codes "request") refl, (spelled (codes "'x") refl, (value v h.0, (number loops (omega arith), (number timeout (omega arith), (spelled (codes "wet") refl, (spelled (codes "1") refl, tt)))))))
 event_again event.Listen h = call_again Far (codes "listen" ∷ codes "'x" ∷ []) (spelled (codes "listen") refl, (spelled (codes "'x") refl, tt))
 event_again (event.Step end handle v) h = call_again end (codes "step" ∷ decimal handle ∷ value_word v ∷ []) (spelled (codes "step") refl, (number handle h.0, (value v h.1, tt)))
 event_again (event.Wait end handle millis) h =

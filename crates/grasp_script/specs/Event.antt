@@ -6,7 +6,7 @@ use Rattle.grasp_cbor.specs.Shortest.{shortest}
 use Rattle.grasp_types.specs.Objective.{IsValue}
 use Rattle.grasp_types.specs.declared.message.Verdict.{Verdict}
 use Rattle.grasp_types.specs.declared.message.Verdict.TheVariants.{Accept, Decline}
-use Rattle.grasp_text.specs.Line.{HasEncoding, value_word, text_word}
+use Rattle.grasp_text.specs.Line.{value_word, text_word}
 use Rattle.grasp_text.specs.Words.{words_of}
 use Rattle.grasp_world.specs.declared.event.End.{End}
 use Rattle.grasp_world.specs.declared.event.End.TheVariants.{Near, Far}
@@ -30,7 +30,7 @@ call_words end call = codes "api" ∷ node_word end ∷ codes "2" ∷ call
 -- the words of an event's line
 abbrev pub event_words : Event → List (List ℕ)
 event_words (Clock end millis) = codes "clock" ∷ node_word end ∷ decimal millis ∷ []
-event_words (Request value loops) = call_words Near (codes "request" ∷ codes "'x" ∷ value_word value ∷ decimal loops ∷ codes "60000" ∷ codes "wet" ∷ codes "1" ∷ [])
+event_words (Request value loops timeout) = call_words Near (codes "request" ∷ codes "'x" ∷ value_word value ∷ decimal loops ∷ decimal timeout ∷ codes "wet" ∷ codes "1" ∷ [])
 event_words Listen = call_words Far (codes "listen" ∷ codes "'x" ∷ [])
 event_words (Step end handle value) = call_words end (codes "step" ∷ decimal handle ∷ value_word value ∷ [])
 event_words (Wait end handle millis) = call_words end (codes "wait" ∷ decimal handle ∷ decimal millis ∷ [])
@@ -46,7 +46,6 @@ event_words (Cut end) = codes "cut" ∷ codes "1" ∷ side_word end ∷ []
 -- a value whose shortest encoding has at most 64 bytes
 pub record IsShortValue (value : DataItem) : Type 0 where
   pub ranges : IsValue value
-  pub encoding : HasEncoding value
   pub short : length (shortest value) ≤ 64
 
 -- a text of at most 64 bytes
@@ -62,7 +61,7 @@ IsShortVerdict (Decline (Some reason)) = IsShortText reason
 -- each part of the event is within its range, and no value or text is longer than a line of a script allows
 abbrev pub IsEvent : Event → Type 0
 IsEvent (Clock end millis) = millis < 2 ^ 64
-IsEvent (Request value loops) = IsShortValue value × (loops < 2 ^ 8)
+IsEvent (Request value loops timeout) = IsShortValue value × (loops < 2 ^ 8) × (timeout < 2 ^ 32)
 IsEvent Listen = Unit {0}
 IsEvent (Step end handle value) = (handle < 2 ^ 64) × IsShortValue value
 IsEvent (Wait end handle millis) = (handle < 2 ^ 64) × (millis < 2 ^ 32)

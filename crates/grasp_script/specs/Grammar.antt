@@ -52,10 +52,10 @@ request_at ws = do
   name ← word_at (exactly (codes "'x")) ws
   value ← word_at short_value_of name.1
   loops ← word_at (number_of 255) value.1
-  timeout ← word_at (exactly (codes "60000")) loops.1
+  timeout ← word_at number32 loops.1
   wet ← word_at (exactly (codes "wet")) timeout.1
   peer ← word_at (exactly (codes "1")) wet.1
-  ending (event.Request value.0 loops.0) peer.1
+  ending (event.Request value.0 loops.0 timeout.0) peer.1
 
 unfoldable pub listen_at : List (List ℕ) → Parsed Event
 listen_at ws = do

@@ -1,6 +1,7 @@
 -- The line of a report. The layout is this project's own.
-use Rattle.std.specs.Prelude.{ℕ, List, [], ◌∷◌, ◌++◌, Some, None, codes, decimal}
+use Rattle.std.specs.Prelude.{◌≡◌, ℕ, List, [], ◌∷◌, ◌++◌, Some, None, codes, decimal}
 use Rattle.grasp_types.specs.Refusal.{refusal_number, refusal_name}
+use Rattle.grasp_types.specs.declared.objective.Objective.{Objective}
 use Rattle.grasp_types.specs.declared.session.By.{By}
 use Rattle.grasp_types.specs.declared.session.By.TheVariants.{Mine, Theirs}
 use Rattle.grasp_types.specs.declared.session.Outcome.{Outcome}
@@ -46,10 +47,16 @@ report_words (Refused refusal) = codes "refused" ∷ decimal (refusal_number ref
 report_words Taken = codes "taken" ∷ []
 report_words Nothing = codes "nothing" ∷ []
 
+-- a report whose words begin with `ended agreed` is that of a session that came to this agreement
+abbrev pub AgreedWordsTell : Type 0
+AgreedWordsTell = (r : Report) (by : By) (words : List (List ℕ)) → report_words r ≡ codes "ended" ∷ codes "agreed" ∷ by_word by ∷ words → (o : Objective) × (r ≡ Polled (progress.Ended (outcome.Agreed by o))) × (words ≡ objective_words o)
+
 -- a report is the event's line, ` = ` and the words of what it came to, ended by LF
 abbrev pub report_line : List ℕ → Report → List ℕ
 report_line line report = line ++ spaced (codes "=" ∷ report_words report) ++ 10 ∷ []
 
--- what a run writes for the header of its script: those of its lines that are events, with their reports
+-- what a run writes for the header of its script: the calls by agents that its lines make, each with what it came to. At
+-- each node an agent registers, which is agent 2 there, and then its objective, and that of node 1 listens; of these calls
+-- only the listening is an event
 unfoldable pub header_text : List ℕ
 header_text = codes "api 1 0 asa 'a = asa 2\napi 1 2 objective 'x 2 = done\napi 1 2 listen 'x = notyet\napi 2 0 asa 'b = asa 2\napi 2 2 objective 'x 2 = done\n"

@@ -33,7 +33,7 @@ header = lines_of header_script
 
 -- whether an event is a request
 abbrev pub is_request : Event → Bool
-is_request (Request value loops) = true
+is_request (Request value loops timeout) = true
 is_request event = false
 
 -- one where an event is a request, and else none
@@ -112,3 +112,7 @@ TextsHaveOneBadLine = (text : List ℕ) (m n : ℕ) → IsBadLine text m → IsB
 -- and none where it is a script
 abbrev pub ScriptsHaveNoBadLine : Type 0
 ScriptsHaveNoBadLine = (text : List ℕ) (lines : List Line) (n : ℕ) → IsScript text lines → ¬ IsBadLine text n
+
+-- a text that is no script has a bad line
+abbrev pub TextsAreScriptsOrBad : Type 0
+TextsAreScriptsOrBad = (text : List ℕ) → ((lines : List Line) × IsScript text lines) ⊎ ((n : ℕ) × IsBadLine text n)

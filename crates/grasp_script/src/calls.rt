@@ -42,11 +42,15 @@ fn read_request(alloc: Global, words: &mut Words<'_>) -> Result<Event, WordFault
     words.exactly(b"'x")?;
     let value = read_value(alloc, words)?;
     let loops = words.number(255)? as u8;
-    words.exactly(b"60000")?;
+    let timeout = words.u32()?;
     words.exactly(b"wet")?;
     words.exactly(b"1")?;
     words.end()?;
-    Ok(Event::Request { value, loops })
+    Ok(Event::Request {
+        value,
+        loops,
+        timeout,
+    })
 }
 
 #[tactic(auto, unfolding(crate::specs::Grammar::listen_at))]

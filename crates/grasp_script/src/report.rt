@@ -4,7 +4,7 @@ ghost use Rattle.std.specs.Prelude.{◌≡◌, ◌++◌, ◌∷◌, [], OnOk, If
 ghost use Rattle.grasp_text.specs.Line.{objective_words};
 ghost use Rattle.grasp_text.specs.Words.{spaced};
 ghost use Rattle.grasp_world.specs.declared.report.Report.TheVariants.{Refused};
-ghost use Rattle.grasp_script.specs.Report.{by_word, outcome_words, progress_words, report_words, report_line, header_text};
+ghost use Rattle.grasp_script.specs.Report.{by_word, outcome_words, progress_words, report_words, report_line, header_text, AgreedWordsTell};
 
 use grasp_cbor::OutOfMemory;
 use grasp_text::{push_number, push_objective, push_text, push_word};
@@ -170,8 +170,14 @@ pub fn push_report(
     Ok(())
 }
 
-/// What a run writes for the header of its script, which is the same for all scripts: the header's events with
-/// their reports.
+/// A report that tells of an agreement is that of a session that came to it, and its words are those of what was
+/// agreed.
+pub fn agreed_words_tell()
+    ensures { AgreedWordsTell }
+{}
+
+/// What a run writes for the header of its script, which is the same for all scripts: the header's calls by agents,
+/// each with what it came to.
 #[tactic(auto, unfolding(crate::specs::Report::header_text))]
 pub fn header_reports() -> &'static [u8]
     ensures { result.now ≡ header_text }

@@ -3,7 +3,7 @@
 ghost use Rattle.std.specs.Prelude.{◌≡◌, ◌++◌, ◌+◌, ◌≤◌, ◌&&◌, ◌||◌, Bool, true, false, length, List, IfOk, IfSome, IfNone};
 ghost use Rattle.grasp_world.specs.declared.event.Event.{Event};
 ghost use Rattle.grasp_script.specs.Event.{IsEventLine};
-ghost use Rattle.grasp_script.specs.Script.{is_request, IsScript, IsNoScript, IsBadLine, IfBadScript, TextsHaveOneScript, TextsHaveOneBadLine, ScriptsHaveNoBadLine};
+ghost use Rattle.grasp_script.specs.Script.{is_request, IsScript, IsNoScript, IsBadLine, IfBadScript, TextsHaveOneScript, TextsHaveOneBadLine, ScriptsHaveNoBadLine, TextsAreScriptsOrBad};
 ghost use Rattle.grasp_script.specs.declared.line.Line.{Line};
 
 use crate::event::event_of;
@@ -94,4 +94,9 @@ pub fn texts_have_one_bad_line()
 /// A text that is a script has no bad line.
 pub fn scripts_have_no_bad_line()
     ensures { ScriptsHaveNoBadLine }
+{}
+
+/// A text is a script or has a bad line.
+pub fn texts_are_scripts_or_bad()
+    ensures { TextsAreScriptsOrBad }
 {}

@@ -18,7 +18,7 @@ fn is_bad(alloc: Global, line: &[u8]) -> bool {
 #[test]
 fn lines_of_events(rt: HostRuntime) {
     let alloc = rt.alloc();
-    let good: [&[u8]; 17] = [
+    let good: [&[u8]; 19] = [
         b"arrive 1",
         b"bytes 1 near 0",
         b"bytes 1 far 18446744073709551615",
@@ -26,7 +26,9 @@ fn lines_of_events(rt: HostRuntime) {
         b"cut 1 far",
         b"clock 1 0",
         b"clock 2 18446744073709551615",
-        b"api 2 2 request 'x x01 255 60000 wet 1",
+        b"api 2 2 request 'x x01 255 0 wet 1",
+        b"api 2 2 request 'x x01 255 1000 wet 1",
+        b"api 2 2 request 'x x01 255 4294967295 wet 1",
         b"api 1 2 listen 'x",
         b"api 1 2 step 1 x02",
         b"api 2 2 wait 0 4294967295",
@@ -40,7 +42,7 @@ fn lines_of_events(rt: HostRuntime) {
     for line in good {
         assert!(rt; is_good(alloc, line));
     }
-    let bad: [&[u8]; 21] = [
+    let bad: [&[u8]; 22] = [
         b"",
         b"arrive 2",
         b"arrive 1 ",
@@ -51,7 +53,8 @@ fn lines_of_events(rt: HostRuntime) {
         b"clock 1 01",
         b"api 1 2 request 'x x01 6 60000 wet 1",
         b"api 2 2 request 'x x01 256 60000 wet 1",
-        b"api 2 2 request 'x x01 6 1000 wet 1",
+        b"api 2 2 request 'x x01 6 4294967296 wet 1",
+        b"api 2 2 request 'x x01 6 01 wet 1",
         b"api 2 2 request 'x x01 6 60000 dry 1",
         b"api 2 2 listen 'x",
         b"api 1 1 poll 1",

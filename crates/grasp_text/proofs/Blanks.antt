@@ -1,6 +1,6 @@
 -- No word of a message holds a blank, so a line has its message's words.
-use Rattle.std.proofs.Common.{◌≡◌, ◌≢◌, ℕ, zero, suc, ◌+◌, ◌/◌, ◌%◌, ◌^◌, ◌<◌, ◌≤◌, Bool, true, false, cond, not, ◌&&◌, eqb, leb, List, [], ◌∷◌, ◌++◌, length, get_or, Option, Some, None, refl, sym, ap, subst, ◌∙◌, arith}
-use Rattle.std.specs.List.{slice_split, AllByRecursion}
+use Rattle.std.proofs.Common.{◌≡◌, ◌≢◌, ℕ, zero, suc, ◌/◌, ◌%◌, ◌^◌, ◌<◌, ◌≤◌, Bool, true, false, cond, not, ◌&&◌, eqb, leb, List, [], ◌∷◌, ◌++◌, length, get_or, Option, Some, None, refl, sym, ap, subst, ◌∙◌, arith}
+use Rattle.std.specs.List.{AllByRecursion}
 use Rattle.std.specs.Prelude.{IfSome, codes, decimal, slice_index, All}
 use Rattle.std.specs.Int.{to_be_bytes, w32, w128}
 use Rattle.std.proofs.lemmas.Bool.{ne_eqb, and_parts, leb-true}
@@ -10,7 +10,7 @@ use Rattle.hex.specs.Hex.{encode_with, encode_lower, lower_digits}
 use Rattle.grasp_cbor.specs.DataItem.{DataItem}
 use Rattle.grasp_cbor.specs.Shortest.{shortest}
 use Rattle.grasp_types.specs.Address.{IsLocator}
-use Rattle.grasp_types.specs.Message.{IsFloodPart}
+use Rattle.grasp_types.specs.Message.{IsMessage, IsFloodPart}
 use Rattle.grasp_types.specs.Objective.{IsObjective}
 use Rattle.grasp_types.specs.declared.address.Address.{Address}
 use Rattle.grasp_types.specs.declared.address.Address.TheVariants as address
@@ -19,14 +19,13 @@ use Rattle.grasp_types.specs.declared.address.Locator.TheVariants.{V6, V4, Fqdn,
 use Rattle.grasp_types.specs.declared.address.Proto.{Proto}
 use Rattle.grasp_types.specs.declared.address.Proto.TheVariants.{Tcp, Udp}
 use Rattle.grasp_types.specs.declared.flood.FloodPart.{FloodPart}
-use Rattle.grasp_types.specs.declared.message.Answer.{Answer}
 use Rattle.grasp_types.specs.declared.message.Answer.TheVariants.{Locators, Divert}
 use Rattle.grasp_types.specs.declared.message.Message.{Message}
 use Rattle.grasp_types.specs.declared.message.Message.TheVariants.{Noop, Discovery, Response, ReqNeg, ReqSyn, Negotiate, End, Wait, Synch, Flood, Invalid}
 use Rattle.grasp_types.specs.declared.message.Verdict.{Verdict}
 use Rattle.grasp_types.specs.declared.message.Verdict.TheVariants.{Accept, Decline}
 use Rattle.grasp_types.specs.declared.objective.Objective.{Objective}
-use Rattle.grasp_text.specs.Line.{v4_word, v6_word, address_word, escaped, all_escaped, text_word, value_word, or_dash, proto_word, locator_words, all_locator_words, objective_words, optional_objective_words, verdict_words, answer_words, locator_or_none, flood_part_words, all_flood_part_words, message_words, line_of, IsWhole}
+use Rattle.grasp_text.specs.Line.{address_word, escaped, all_escaped, text_word, value_word, or_dash, proto_word, locator_words, all_locator_words, objective_words, optional_objective_words, verdict_words, locator_or_none, flood_part_words, all_flood_part_words, message_words, line_of}
 use Rattle.grasp_text.specs.Reading.{is_plain}
 use Rattle.grasp_text.specs.Words.{words_of, joined}
 use Rattle.grasp_text.proofs.MessageLaws.{message_all, message_name, message_tail}
@@ -191,19 +190,19 @@ verdict_blank (Decline (Some reason)) = (spelled_blank (codes "decline") refl, (
 session_blank : (n : ℕ) → n < 2 ^ 32 → NoBlank (decimal n)
 session_blank n lt = number_blank n (omega arith)
 
-message_blank : (m : Message) → IsWhole m → AreBlankless (message_words m)
+message_blank : (m : Message) → IsMessage m → AreBlankless (message_words m)
 unfolding no_blank
 message_blank Noop h = (spelled_blank (codes "noop") refl, tt)
-message_blank (Discovery session initiator o) h = (spelled_blank (codes "discovery") refl, (session_blank session h.ranges.0, (address_blank initiator, objective_blank o h.ranges.2)))
+message_blank (Discovery session initiator o) h = (spelled_blank (codes "discovery") refl, (session_blank session h.0, (address_blank initiator, objective_blank o h.2)))
 message_blank (Response session initiator ttl (Locators ls) o) h = (
   spelled_blank (codes "response") refl,
   (
-    session_blank session h.ranges.0,
+    session_blank session h.0,
     (
       address_blank initiator,
       (
-        session_blank ttl h.ranges.2,
-        (spelled_blank (codes "locators") refl, both_blankless (all_locator_words ls) (optional_objective_words o) (locators_blank ls h.ranges.3.each) (optional_objective_blank o h.ranges.4)),
+        session_blank ttl h.2,
+        (spelled_blank (codes "locators") refl, both_blankless (all_locator_words ls) (optional_objective_words o) (locators_blank ls h.3.each) (optional_objective_blank o h.4)),
       ),
     ),
   ),
@@ -211,24 +210,24 @@ message_blank (Response session initiator ttl (Locators ls) o) h = (
 message_blank (Response session initiator ttl (Divert ls) o) h = (
   spelled_blank (codes "response") refl,
   (
-    session_blank session h.ranges.0,
+    session_blank session h.0,
     (
       address_blank initiator,
       (
-        session_blank ttl h.ranges.2,
-        (spelled_blank (codes "divert") refl, both_blankless (all_locator_words ls) (optional_objective_words o) (locators_blank ls h.ranges.3.each) (optional_objective_blank o h.ranges.4)),
+        session_blank ttl h.2,
+        (spelled_blank (codes "divert") refl, both_blankless (all_locator_words ls) (optional_objective_words o) (locators_blank ls h.3.each) (optional_objective_blank o h.4)),
       ),
     ),
   ),
 )
-message_blank (ReqNeg session o) h = (spelled_blank (codes "request-neg") refl, (session_blank session h.ranges.0, objective_blank o h.ranges.1))
-message_blank (ReqSyn session o) h = (spelled_blank (codes "request-syn") refl, (session_blank session h.ranges.0, objective_blank o h.ranges.1))
-message_blank (Negotiate session o) h = (spelled_blank (codes "negotiate") refl, (session_blank session h.ranges.0, objective_blank o h.ranges.1))
-message_blank (End session v) h = (spelled_blank (codes "end") refl, (session_blank session h.ranges.0, verdict_blank v))
-message_blank (Wait session millis) h = (spelled_blank (codes "wait") refl, (session_blank session h.ranges.0, (session_blank millis h.ranges.1, tt)))
-message_blank (Synch session o) h = (spelled_blank (codes "synch") refl, (session_blank session h.ranges.0, objective_blank o h.ranges.1))
-message_blank (Flood session initiator ttl parts) h = (spelled_blank (codes "flood") refl, (session_blank session h.ranges.0, (address_blank initiator, (session_blank ttl h.ranges.2, parts_blank parts h.ranges.3.each))))
-message_blank (Invalid session detail) h = (spelled_blank (codes "invalid") refl, (session_blank session h.ranges.0, (maybe_value_blank detail, tt)))
+message_blank (ReqNeg session o) h = (spelled_blank (codes "request-neg") refl, (session_blank session h.0, objective_blank o h.1))
+message_blank (ReqSyn session o) h = (spelled_blank (codes "request-syn") refl, (session_blank session h.0, objective_blank o h.1))
+message_blank (Negotiate session o) h = (spelled_blank (codes "negotiate") refl, (session_blank session h.0, objective_blank o h.1))
+message_blank (End session v) h = (spelled_blank (codes "end") refl, (session_blank session h.0, verdict_blank v))
+message_blank (Wait session millis) h = (spelled_blank (codes "wait") refl, (session_blank session h.0, (session_blank millis h.1, tt)))
+message_blank (Synch session o) h = (spelled_blank (codes "synch") refl, (session_blank session h.0, objective_blank o h.1))
+message_blank (Flood session initiator ttl parts) h = (spelled_blank (codes "flood") refl, (session_blank session h.0, (address_blank initiator, (session_blank ttl h.2, parts_blank parts h.3.each))))
+message_blank (Invalid session detail) h = (spelled_blank (codes "invalid") refl, (session_blank session h.0, (maybe_value_blank detail, tt)))
 
 -- ---- words joined and divided again
 
@@ -254,5 +253,5 @@ words_again_at w ws vs e h =
     ap (λ (x : List (List ℕ)). words_of (joined x)) e ∙ words_again w ws k.0 k.1 ∙ sym e
 
 -- the words of a message's line are its words
-pub line_words : (m : Message) → IsWhole m → words_of (line_of m) ≡ message_words m
+pub line_words : (m : Message) → IsMessage m → words_of (line_of m) ≡ message_words m
 line_words m h = let e = message_all m in words_again_at (name_word (message_name m)) (message_tail m) (message_words m) e (message_blank m h)

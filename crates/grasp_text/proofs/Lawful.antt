@@ -1,6 +1,6 @@
 -- What makes reading from left to right exact: it finds what is there, it finds nothing else, and where it stops, the words
 -- before that word can go on, and with it they can't.
-use Rattle.std.proofs.Common.{◌≡◌, ℕ, zero, suc, ◌+◌, ◌<◌, ◌≤◌, ◌⊎◌, inl, inr, Bool, true, false, cond, List, [], ◌∷◌, ◌++◌, length, Option, Some, None, Result, Ok, Err, refl, sym, ap, subst, ◌∙◌, append_assoc, arith, length-append}
+use Rattle.std.proofs.Common.{◌≡◌, ℕ, suc, ◌<◌, ◌≤◌, ◌⊎◌, inl, inr, Bool, true, false, cond, List, [], ◌∷◌, ◌++◌, length, Option, Some, None, Ok, Err, refl, sym, ap, subst, ◌∙◌, append_assoc, arith, length-append}
 use Rattle.grasp_text.specs.Reading.{Parsed, ◌>>=◌, or_unfit, word_at, end_at, or_end, branch}
 use Rattle.grasp_text.specs.Words.{joined}
 

@@ -1,14 +1,14 @@
 -- The words that are read: each kind is read where it is one, and nowhere else.
-use Rattle.std.proofs.Common.{◌≡◌, ℕ, zero, suc, ◌+◌, ◌-◌, ◌*◌, ◌/◌, ◌%◌, ◌^◌, ◌<◌, ◌≤◌, Bool, true, false, cond, eqb, leb, ltb, not, ◌&&◌, ◌⊎◌, inl, inr, List, [], ◌∷◌, ◌++◌, length, length-append, get_or, Option, Some, None, refl, sym, ap, subst, ◌∙◌, append_assoc, arith}
+use Rattle.std.proofs.Common.{◌≡◌, ℕ, zero, suc, ◌+◌, ◌-◌, ◌*◌, ◌/◌, ◌%◌, ◌<◌, ◌≤◌, Bool, true, false, cond, eqb, leb, ◌&&◌, inl, inr, List, [], ◌∷◌, ◌++◌, length, length-append, Option, Some, None, refl, sym, ap, subst, ◌∙◌, arith}
 use lib.Utf8.{scalar, scalars, encode, encodes, scalar_cases}
 use Rattle.std.specs.List.{AllByRecursion}
-use Rattle.std.specs.Prelude.{slice_index, IfSome, codes, decimal}
+use Rattle.std.specs.Prelude.{slice_index}
 use Rattle.std.specs.Str.{IsUtf8, is_utf8, bytes_eq}
-use Rattle.std.proofs.lemmas.Bool.{cases_lt, cases_eq, lt-ltb, le-ltb, eqb-true, leb-true, le-leb, and_parts, false≢true}
+use Rattle.std.proofs.lemmas.Bool.{cases_lt, lt-ltb, le-ltb, eqb-true, leb-true, and_parts}
 use Rattle.std.proofs.lemmas.Slice.Eq.{bytes_eq-Decides}
 use Rattle.std.proofs.lemmas.Str.{is_utf8-from_IsUtf8, IsUtf8-from_is_utf8}
-use Rattle.hex.specs.Hex.{IsBytes, encode_lower, lower_digits}
-use Rattle.grasp_text.specs.Line.{escaped, all_escaped, text_word, or_dash}
+use Rattle.hex.specs.Hex.{lower_digits}
+use Rattle.grasp_text.specs.Line.{escaped, all_escaped, text_word}
 use Rattle.grasp_text.specs.Reading.{unescaped, first_unescaped, behind_percent, paired, onto, as_text, byte_of, escaped_byte, is_plain, digit_of, text_of, text_behind, behind_byte, absent_or, some_of, exactly}
 use Rattle.grasp_text.proofs.Lawful.{Exact}
 use Rattle.grasp_text.proofs.NumberWords.{some, some_is}

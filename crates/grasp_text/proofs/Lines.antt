@@ -1,22 +1,21 @@
 -- The line of a message is read as that message, no other line is, and a line that is refused is refused at its place.
-use Rattle.std.proofs.Common.{◌≡◌, ℕ, zero, suc, ◌+◌, ◌-◌, ◌<◌, ◌≤◌, ◌⊎◌, inl, inr, List, [], ◌∷◌, ◌++◌, length, Option, Some, None, Result, Ok, Err, refl, sym, ap, subst, ◌∙◌, append_assoc, arith, length-append}
+use Rattle.std.proofs.Common.{◌≡◌, ℕ, suc, ◌+◌, ◌-◌, ◌≤◌, inl, inr, List, [], ◌∷◌, ◌++◌, length, Ok, Err, refl, sym, ap, subst, ◌∙◌, append_assoc, arith, length-append}
 use Rattle.std.proofs.lemmas.List.{append-nil}
+use Rattle.grasp_types.specs.Message.{IsMessage}
 use Rattle.grasp_types.specs.declared.message.Message.{Message}
-use Rattle.grasp_types.specs.declared.message.Message.TheVariants.{Noop}
 use Rattle.grasp_text.specs.Grammar.{message_at}
-use Rattle.grasp_text.specs.Laws.{EachHasOneLine, LinesHaveOneMessage, LinesAreTheirWords}
-use Rattle.grasp_text.specs.Line.{message_words, line_of, IsWhole, IsLineOf, IsNoLine, CanBegin}
-use Rattle.grasp_text.specs.Place.{IsUnfit, IsUnfitAt, IsMissingAt, IsPlace}
-use Rattle.grasp_text.specs.Reading.{Parsed}
+use Rattle.grasp_text.specs.Laws.{EachHasOneLine}
+use Rattle.grasp_text.specs.Line.{message_words, IsLineOf, IsNoLine, CanBegin}
+use Rattle.grasp_text.specs.Place.{IsPlace}
 use Rattle.grasp_text.specs.Words.{words_of, joined}
 use Rattle.grasp_text.proofs.Blanks.{line_words}
-use Rattle.grasp_text.proofs.Lawful.{Lawful, Stops, okay, ok_is}
+use Rattle.grasp_text.proofs.Lawful.{Stops, ok_is}
 use Rattle.grasp_text.proofs.MessageLaws.{MessageWords, message_lawful}
 use Rattle.grasp_text.proofs.Splitting.{joined_again}
 
 -- what its words are read as
 
-read_words : (m : Message) → IsWhole m → message_at (message_words m) ≡ Ok (m, [])
+read_words : (m : Message) → IsMessage m → message_at (message_words m) ≡ Ok (m, [])
 read_words m h =
     let f = (message_lawful (suc (length (message_words m ++ [])))).found m (message_words m) [] (record { whole = h; spelled = refl }) refl (omega arith) in
     ap message_at (sym (append-nil (message_words m))) ∙ f

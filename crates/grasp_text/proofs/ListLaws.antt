@@ -1,5 +1,5 @@
 -- Lists of locators and parts of floods are read where their words are, and nowhere else.
-use Rattle.std.proofs.Common.{◌≡◌, ℕ, zero, suc, ◌+◌, ◌<◌, ◌≤◌, ◌⊎◌, inl, inr, Bool, true, false, cond, List, [], ◌∷◌, ◌++◌, length, Option, Some, None, Ok, Err, refl, sym, ap, subst, ◌∙◌, append_assoc, arith, length-append}
+use Rattle.std.proofs.Common.{◌≡◌, ℕ, zero, suc, ◌<◌, ◌≤◌, ◌⊎◌, inl, inr, Bool, true, false, cond, List, [], ◌∷◌, ◌++◌, length, Option, Some, None, Ok, Err, refl, sym, ap, subst, ◌∙◌, append_assoc, arith, length-append}
 use Rattle.std.specs.List.{AllByRecursion}
 use Rattle.std.specs.Prelude.{IfSome, codes, All}
 use Rattle.std.proofs.lemmas.List.{append-nil}
@@ -9,13 +9,13 @@ use Rattle.grasp_types.specs.Message.{AreLocators, AreFloodParts, IsFloodPart}
 use Rattle.grasp_types.specs.declared.address.Locator.{Locator}
 use Rattle.grasp_types.specs.declared.flood.FloodPart.{FloodPart}
 use Rattle.grasp_types.specs.declared.objective.Objective.{Objective}
-use Rattle.grasp_text.specs.Grammar.{ending, objective_at, final_objective_at, last_objective, locator_at, begins_objective, locators_step, locators_at, answers_at, until, optional_locator_at, flood_part_at, parts_step, parts_at, flood_parts_at}
-use Rattle.grasp_text.specs.Line.{FloodPartHasEncoding, ObjectiveHasEncoding, objective_words, locator_words, locator_or_none, all_locator_words, optional_objective_words, flood_part_words, all_flood_part_words}
-use Rattle.grasp_text.specs.Reading.{Parsed, ◌>>=◌, Fails, or_end, branch}
+use Rattle.grasp_text.specs.Grammar.{ending, objective_at, final_objective_at, last_objective, locator_at, begins_objective, locators_step, locators_at, answers_at, optional_locator_at, flood_part_at, parts_step, parts_at, flood_parts_at}
+use Rattle.grasp_text.specs.Line.{objective_words, locator_words, locator_or_none, all_locator_words, optional_objective_words, flood_part_words, all_flood_part_words}
+use Rattle.grasp_text.specs.Reading.{Parsed, ◌>>=◌, Fails}
 use Rattle.grasp_text.specs.Words.{is_over, is_next}
 use Rattle.grasp_text.specs.declared.fault.WordFault.{WordFault}
 use Rattle.grasp_text.specs.declared.fault.WordFault.TheVariants as faults
-use Rattle.grasp_text.proofs.Lawful.{Anything, Nothing, Lawful, Only, Then, Made, Starts, given_lawful, or_end_lawful, branch_lawful, then_lawful, then_all, made_lawful, restated, rewritten, none_lawful}
+use Rattle.grasp_text.proofs.Lawful.{Anything, Nothing, Lawful, Only, Then, Made, Starts, or_end_lawful, branch_lawful, then_lawful, then_all, made_lawful, restated, rewritten, none_lawful}
 use Rattle.grasp_text.proofs.PartLaws.{ending_lawful, ObjectiveWords, objective_lawful, objective_takes, objective_starts, LocatorWords, locator_lawful, locator_takes, locator_starts, locator_shorter, OptionalLocatorWords, optional_lawful}
 use Rattle.grasp_text.proofs.Until.{IsLocal, until_step}
 
@@ -25,7 +25,7 @@ final_to : (o : Objective) (ws : List (List ℕ)) → Then ObjectiveWords (λ a.
 final_to o ws t =
     let w : ObjectiveWords t.first t.front = t.is in
     let whole : ws ≡ objective_words t.first = t.parts ∙ ap (λ (x : List (List ℕ)). t.front ++ x) t.others.words ∙ append-nil t.front ∙ w.spelled in
-    subst (λ (x : Objective). ObjectiveWords x ws) (sym t.others.value) (record { ranges = w.ranges; encoding = w.encoding; spelled = whole })
+    subst (λ (x : Objective). ObjectiveWords x ws) (sym t.others.value) (record { ranges = w.ranges; spelled = whole })
 
 final_from : (o : Objective) (ws : List (List ℕ)) → ObjectiveWords o ws → Then ObjectiveWords (λ a. Only a) o ws
 final_from o ws w = record { first = o; front = ws; rest = []; is = w; others = record { value = refl; words = refl }; parts = sym (append-nil ws) }
@@ -58,7 +58,7 @@ unfolding with_objective
 answers_to before x ws (inl o) = subst (λ (y : Answers). MoreAnswers before y ws) (sym o.value) (record { others = []; locators = sym (append-nil before); ranges = tt; objective = tt; spelled = o.words })
 answers_to before x ws (inr (inl m)) =
     let w : ObjectiveWords m.from ws = m.words in
-    subst (λ (y : Answers). MoreAnswers before y ws) (sym m.is) (record { others = []; locators = sym (append-nil before); ranges = tt; objective = record { ranges = w.ranges; encoding = w.encoding; spelled = refl }; spelled = w.spelled })
+    subst (λ (y : Answers). MoreAnswers before y ws) (sym m.is) (record { others = []; locators = sym (append-nil before); ranges = tt; objective = record { ranges = w.ranges; spelled = refl }; spelled = w.spelled })
 answers_to before x ws (inr (inr t)) =
     let w : LocatorWords t.first t.front = t.is in
     let m = t.others in
@@ -73,7 +73,7 @@ answers_to before x ws (inr (inr t)) =
 answers_from_none : (before : List Locator) (ls : List Locator) (o : Option Objective) (ws : List (List ℕ)) → ls ≡ before → IfSome o (λ o. ObjectiveWords o (objective_words o)) → ws ≡ optional_objective_words o → AnswersStep before (ls, o) ws
 unfolding with_objective
 answers_from_none before ls None ws e w spelled = inl (record { value = ap (λ (y : List Locator). (y, None)) e; words = spelled })
-answers_from_none before ls (Some o) ws e w spelled = inr (inl (record { from = o; is = ap (λ (y : List Locator). (y, Some o)) e; words = record { ranges = w.ranges; encoding = w.encoding; spelled = spelled } }))
+answers_from_none before ls (Some o) ws e w spelled = inr (inl (record { from = o; is = ap (λ (y : List Locator). (y, Some o)) e; words = record { ranges = w.ranges; spelled = spelled } }))
 
 answers_from_at : (before : List Locator) (x : Answers) (ws : List (List ℕ)) (others : List Locator) → x.0 ≡ before ++ others → AllByRecursion IsLocator others → IfSome x.1 (λ o. ObjectiveWords o (objective_words o)) → ws ≡ all_locator_words others ++ optional_objective_words x.1 → AnswersStep before x ws
 answers_from_at before x ws [] e r w spelled = answers_from_none before x.0 x.1 ws (e ∙ append-nil before) w spelled
@@ -184,7 +184,6 @@ answers_lawful k = restated k Nothing (Then LocatorWords (λ l. MoreAnswers (l �
 -- the words of this part, each within its range
 pub record PartWords (part : FloodPart) (ws : List (List ℕ)) : Type 0 where
   pub ranges : IsFloodPart part
-  pub encoding : FloodPartHasEncoding part
   pub spelled : ws ≡ flood_part_words part
 
 part_of : Objective → Option Locator → FloodPart
@@ -201,7 +200,6 @@ part_to part ws t =
     let l : OptionalLocatorWords m.from t.rest = m.words in
     subst (λ (x : FloodPart). PartWords x ws) (sym m.is) (record {
       ranges = record { objective = w.ranges; locator = l.ranges };
-      encoding = w.encoding;
       spelled = t.parts ∙ ap (λ (y : List (List ℕ)). y ++ t.rest) w.spelled ∙ ap (λ (y : List (List ℕ)). objective_words t.first ++ y) l.spelled;
     })
 
@@ -211,7 +209,7 @@ part_from part ws w = record {
   first = part.objective;
   front = objective_words part.objective;
   rest = locator_or_none part.locator;
-  is = record { ranges = w.ranges.objective; encoding = w.encoding; spelled = refl };
+  is = record { ranges = w.ranges.objective; spelled = refl };
   others = record { from = part.locator; is = refl; words = record { ranges = w.ranges.locator; spelled = refl } };
   parts = w.spelled;
 }
@@ -237,14 +235,13 @@ record MoreParts (before : List FloodPart) (parts : List FloodPart) (ws : List (
   others : List FloodPart
   parts_are : parts ≡ before ++ others
   ranges : AllByRecursion IsFloodPart others
-  encoding : AllByRecursion FloodPartHasEncoding others
   spelled : ws ≡ all_flood_part_words others
 
 abbrev PartsStep : List FloodPart → List FloodPart → List (List ℕ) → Type 0
 PartsStep before parts ws = Only before parts ws ⊎ Then PartWords (λ p. MoreParts (before ++ p ∷ [])) parts ws
 
 parts_to : (before parts : List FloodPart) (ws : List (List ℕ)) → PartsStep before parts ws → MoreParts before parts ws
-parts_to before parts ws (inl o) = record { others = []; parts_are = o.value ∙ sym (append-nil before); ranges = tt; encoding = tt; spelled = o.words }
+parts_to before parts ws (inl o) = record { others = []; parts_are = o.value ∙ sym (append-nil before); ranges = tt; spelled = o.words }
 parts_to before parts ws (inr t) =
     let w : PartWords t.first t.front = t.is in
     let m = t.others in
@@ -252,23 +249,22 @@ parts_to before parts ws (inr t) =
       others = t.first ∷ m.others;
       parts_are = m.parts_are ∙ append_assoc before (t.first ∷ []) m.others;
       ranges = (w.ranges, m.ranges);
-      encoding = (w.encoding, m.encoding);
       spelled = t.parts ∙ ap (λ (y : List (List ℕ)). y ++ t.rest) w.spelled ∙ ap (λ (y : List (List ℕ)). flood_part_words t.first ++ y) m.spelled;
     }
 
-parts_from_at : (before parts : List FloodPart) (ws : List (List ℕ)) (others : List FloodPart) → parts ≡ before ++ others → AllByRecursion IsFloodPart others → AllByRecursion FloodPartHasEncoding others → ws ≡ all_flood_part_words others → PartsStep before parts ws
-parts_from_at before parts ws [] e r n spelled = inl (record { value = e ∙ append-nil before; words = spelled })
-parts_from_at before parts ws (p ∷ others) e r n spelled = inr (record {
+parts_from_at : (before parts : List FloodPart) (ws : List (List ℕ)) (others : List FloodPart) → parts ≡ before ++ others → AllByRecursion IsFloodPart others → ws ≡ all_flood_part_words others → PartsStep before parts ws
+parts_from_at before parts ws [] e r spelled = inl (record { value = e ∙ append-nil before; words = spelled })
+parts_from_at before parts ws (p ∷ others) e r spelled = inr (record {
   first = p;
   front = flood_part_words p;
   rest = all_flood_part_words others;
-  is = record { ranges = r.0; encoding = n.0; spelled = refl };
-  others = record { others = others; parts_are = e ∙ sym (append_assoc before (p ∷ []) others); ranges = r.1; encoding = n.1; spelled = refl };
+  is = record { ranges = r.0; spelled = refl };
+  others = record { others = others; parts_are = e ∙ sym (append_assoc before (p ∷ []) others); ranges = r.1; spelled = refl };
   parts = spelled;
 })
 
 parts_from : (before parts : List FloodPart) (ws : List (List ℕ)) → MoreParts before parts ws → PartsStep before parts ws
-parts_from before parts ws m = parts_from_at before parts ws m.others m.parts_are m.ranges m.encoding m.spelled
+parts_from before parts ws m = parts_from_at before parts ws m.others m.parts_are m.ranges m.spelled
 
 parts_local_at : (f g : List FloodPart → List (List ℕ) → Parsed (List FloodPart)) (before : List FloodPart) (ws : List (List ℕ)) (r : Parsed FloodPart) → ((t : List FloodPart) (us : List (List ℕ)) → length us < length ws → f t us ≡ g t us) → flood_part_at ws ≡ r → (r >>= λ next. f (before ++ next.0 ∷ []) next.1) ≡ (r >>= λ next. g (before ++ next.0 ∷ []) next.1)
 parts_local_at f g before ws (Err n) same e = refl
@@ -285,7 +281,7 @@ more_takes : (before parts : List FloodPart) → ¬ (Then PartWords (λ p. MoreP
 more_takes before parts t = absurd (omega (arith, ap length t.parts, length-append t.front t.rest, part_long t.first t.front t.is))
 
 parts_lawful : (k : ℕ) (before : List FloodPart) → Lawful k Nothing (MoreParts before) (parts_at before)
-parts_lawful zero before = none_lawful Nothing (MoreParts before) (parts_at before) before [] (record { others = []; parts_are = sym (append-nil before); ranges = tt; encoding = tt; spelled = refl })
+parts_lawful zero before = none_lawful Nothing (MoreParts before) (parts_at before) before [] (record { others = []; parts_are = sym (append-nil before); ranges = tt; spelled = refl })
 parts_lawful (suc k) before =
     rewritten (suc k) Nothing (MoreParts before) (λ ws. parts_step parts_at before ws) (parts_at before)
     (restated (suc k) Nothing (PartsStep before) (MoreParts before) (λ ws. parts_step parts_at before ws)
@@ -298,7 +294,6 @@ parts_lawful (suc k) before =
 -- the words of one or more parts
 pub record PartsWords (parts : List FloodPart) (ws : List (List ℕ)) : Type 0 where
   pub ranges : AreFloodParts parts
-  pub encoding : AllByRecursion FloodPartHasEncoding parts
   pub spelled : ws ≡ all_flood_part_words parts
 
 parts_all : (ps : List FloodPart) → All IsFloodPart ps → AllByRecursion IsFloodPart ps
@@ -312,7 +307,6 @@ flood_to parts ws t =
     let some : 1 ≤ length parts = omega (arith, ap length m.parts_are) in
     record {
       ranges = record { some = some; each = subst (λ (y : List FloodPart). All IsFloodPart y) (sym m.parts_are) (All-from_recursion IsFloodPart (t.first ∷ m.others) (w.ranges, m.ranges)) };
-      encoding = subst (λ (y : List FloodPart). AllByRecursion FloodPartHasEncoding y) (sym m.parts_are) (w.encoding, m.encoding);
       spelled = t.parts ∙ ap (λ (y : List (List ℕ)). y ++ t.rest) w.spelled ∙ ap (λ (y : List (List ℕ)). flood_part_words t.first ++ y) m.spelled ∙ ap all_flood_part_words (sym m.parts_are);
     }
 
@@ -322,8 +316,8 @@ flood_from (p ∷ ps) ws a = record {
   first = p;
   front = flood_part_words p;
   rest = all_flood_part_words ps;
-  is = record { ranges = All-head IsFloodPart p ps a.ranges.each; encoding = a.encoding.0; spelled = refl };
-  others = record { others = ps; parts_are = refl; ranges = parts_all ps (All-tail IsFloodPart p ps a.ranges.each); encoding = a.encoding.1; spelled = refl };
+  is = record { ranges = All-head IsFloodPart p ps a.ranges.each; spelled = refl };
+  others = record { others = ps; parts_are = refl; ranges = parts_all ps (All-tail IsFloodPart p ps a.ranges.each); spelled = refl };
   parts = a.spelled;
 }
 

@@ -1,28 +1,25 @@
 -- A message is read where its words are, and nowhere else.
-use Rattle.std.proofs.Common.{◌≡◌, ℕ, zero, suc, ◌+◌, ◌^◌, ◌<◌, ◌≤◌, ◌⊎◌, inl, inr, Bool, true, false, List, [], ◌∷◌, ◌++◌, length, Option, Some, None, Ok, Err, refl, sym, ap, subst, ◌∙◌, arith}
-use Rattle.std.specs.Prelude.{IfSome, codes, decimal}
+use Rattle.std.proofs.Common.{◌≡◌, ℕ, ◌^◌, ◌<◌, ◌≤◌, ◌⊎◌, inl, inr, Bool, true, false, List, [], ◌∷◌, ◌++◌, Option, Some, None, refl, sym, ap, subst, ◌∙◌, arith}
+use Rattle.std.specs.Prelude.{IfSome, decimal}
 use Rattle.std.specs.Str.{IsUtf8}
 use Rattle.std.proofs.lemmas.List.{append-nil}
-use Rattle.grasp_cbor.specs.DataItem.{DataItem}
 use Rattle.grasp_types.specs.Address.{IsAddress}
-use Rattle.grasp_types.specs.Message.{IsVerdict, AreLocators}
+use Rattle.grasp_types.specs.Message.{IsMessage, IsVerdict, AreLocators}
 use Rattle.grasp_types.specs.Objective.{IsObjective}
 use Rattle.grasp_types.specs.declared.address.Address.{Address}
 use Rattle.grasp_types.specs.declared.address.Locator.{Locator}
-use Rattle.grasp_types.specs.declared.flood.FloodPart.{FloodPart}
-use Rattle.grasp_types.specs.declared.message.Answer.{Answer}
 use Rattle.grasp_types.specs.declared.message.Answer.TheVariants.{Locators, Divert}
 use Rattle.grasp_types.specs.declared.message.Message.{Message}
 use Rattle.grasp_types.specs.declared.message.Message.TheVariants as message
 use Rattle.grasp_types.specs.declared.message.Verdict.{Verdict}
 use Rattle.grasp_types.specs.declared.message.Verdict.TheVariants.{Accept, Decline}
 use Rattle.grasp_types.specs.declared.objective.Objective.{Objective}
-use Rattle.grasp_text.specs.Grammar.{number32, ending, objective_at, name_of, named_at, discovery_at, response_at, answers_at, answer_of, are_locators, objective_of_session_at, with_objective, reason_at, verdict_at, is_accept, end_message_at, wait_at, flood_parts_at, flood_at, invalid_at, message_at}
-use Rattle.grasp_text.specs.Line.{IsWhole, ObjectiveHasEncoding, address_word, text_word, value_word, or_dash, objective_words, optional_objective_words, all_locator_words, answer_words, all_flood_part_words, verdict_words, message_words}
-use Rattle.grasp_text.specs.Reading.{Parsed, ◌>>=◌, word_at, end_at, or_end, number_of, text_of, value_of, maybe_of, address_of}
+use Rattle.grasp_text.specs.Grammar.{number32, ending, objective_at, name_of, named_at, discovery_at, response_at, answers_at, answer_of, are_locators, objective_of_session_at, reason_at, verdict_at, is_accept, end_message_at, wait_at, flood_parts_at, flood_at, invalid_at, message_at}
+use Rattle.grasp_text.specs.Line.{address_word, text_word, value_word, or_dash, objective_words, optional_objective_words, all_locator_words, answer_words, all_flood_part_words, verdict_words, message_words}
+use Rattle.grasp_text.specs.Reading.{◌>>=◌, text_of, value_of, maybe_of, address_of}
 use Rattle.grasp_text.specs.declared.names.MessageName.{MessageName}
 use Rattle.grasp_text.specs.declared.names.MessageName.TheVariants as name
-use Rattle.grasp_text.proofs.Lawful.{Anything, Nothing, Lawful, Exact, WordThen, Then, Only, Made, then_all, word_then_all, made_lawful, or_end_lawful, restated}
+use Rattle.grasp_text.proofs.Lawful.{Nothing, Lawful, Exact, WordThen, Then, Only, Made, then_all, word_then_all, made_lawful, or_end_lawful, restated}
 use Rattle.grasp_text.proofs.Leaves.{Spelled, IsText, text_exact}
 use Rattle.grasp_text.proofs.ListLaws.{AnswersWords, answers_lawful, PartsWords, flood_parts_lawful}
 use Rattle.grasp_text.proofs.NumberWords.{IsNumber, number_exact}
@@ -79,13 +76,13 @@ message_all (message.Invalid session detail) = refl
 -- the words behind the name of this message
 record NamedWords (n : MessageName) (m : Message) (ws : List (List ℕ)) : Type 0 where
   kind : message_name m ≡ n
-  whole : IsWhole m
+  whole : IsMessage m
   spelled : ws ≡ message_tail m
 
 -- ---- noop
 
 noop_to : (m : Message) (ws : List (List ℕ)) → Only message.Noop m ws → NamedWords name.Noop m ws
-noop_to m ws o = subst (λ (x : Message). NamedWords name.Noop x ws) (sym o.value) (record { kind = refl; whole = record { ranges = tt; values = tt }; spelled = o.words })
+noop_to m ws o = subst (λ (x : Message). NamedWords name.Noop x ws) (sym o.value) (record { kind = refl; whole = tt; spelled = o.words })
 
 noop_from : (m : Message) (ws : List (List ℕ)) → NamedWords name.Noop m ws → Only message.Noop m ws
 noop_from message.Noop ws h = record { value = refl; words = h.spelled }
@@ -115,7 +112,6 @@ pair_of session o = (session, o)
 record PairWords (x : ℕ × Objective) (ws : List (List ℕ)) : Type 0 where
   session : x.0 < 2 ^ 32
   ranges : IsObjective x.1
-  encoding : ObjectiveHasEncoding x.1
   spelled : ws ≡ decimal x.0 ∷ objective_words x.1
 
 abbrev PairThen : ℕ × Objective → List (List ℕ) → Type 0
@@ -127,13 +123,13 @@ pair_to x ws t =
     let m = t.others in
     let w : ObjectiveWords m.from t.rest = m.words in
     let le : t.first ≤ 4294967295 = t.is.within in
-    subst (λ (y : ℕ × Objective). PairWords y ws) (sym m.is) (record { session = omega arith; ranges = w.ranges; encoding = w.encoding; spelled = t.parts ∙ (λ i. t.is.digits i ∷ w.spelled i) })
+    subst (λ (y : ℕ × Objective). PairWords y ws) (sym m.is) (record { session = omega arith; ranges = w.ranges; spelled = t.parts ∙ (λ i. t.is.digits i ∷ w.spelled i) })
 
 pair_from : (x : ℕ × Objective) (ws : List (List ℕ)) → PairWords x ws → PairThen x ws
 unfolding pair_of
 pair_from x ws p =
     let lt : x.0 < 2 ^ 32 = p.session in
-    record { first = x.0; word = decimal x.0; rest = objective_words x.1; is = record { within = omega arith; digits = refl }; parts = p.spelled; others = record { from = x.1; is = refl; words = record { ranges = p.ranges; encoding = p.encoding; spelled = refl } } }
+    record { first = x.0; word = decimal x.0; rest = objective_words x.1; is = record { within = omega arith; digits = refl }; parts = p.spelled; others = record { from = x.1; is = refl; words = record { ranges = p.ranges; spelled = refl } } }
 
 pair_lawful : (k : ℕ) → Lawful k Nothing PairWords objective_of_session_at
 unfolding objective_of_session_at pair_of
@@ -145,11 +141,11 @@ req_neg x = message.ReqNeg x.0 x.1
 
 req_neg_to : (m : Message) (ws : List (List ℕ)) → Made req_neg PairWords m ws → NamedWords name.RequestNegotiation m ws
 unfolding req_neg
-req_neg_to m ws d = subst (λ (y : Message). NamedWords name.RequestNegotiation y ws) (sym d.is) (let p = d.words in record { kind = refl; whole = record { ranges = (p.session, p.ranges); values = p.encoding }; spelled = p.spelled })
+req_neg_to m ws d = subst (λ (y : Message). NamedWords name.RequestNegotiation y ws) (sym d.is) (let p = d.words in record { kind = refl; whole = (p.session, p.ranges); spelled = p.spelled })
 
 req_neg_from : (m : Message) (ws : List (List ℕ)) → NamedWords name.RequestNegotiation m ws → Made req_neg PairWords m ws
 unfolding req_neg
-req_neg_from (message.ReqNeg session o) ws h = record { from = (session, o); is = refl; words = record { session = h.whole.ranges.0; ranges = h.whole.ranges.1; encoding = h.whole.values; spelled = h.spelled } }
+req_neg_from (message.ReqNeg session o) ws h = record { from = (session, o); is = refl; words = record { session = h.whole.0; ranges = h.whole.1; spelled = h.spelled } }
 req_neg_from m ws h = absurd (let e = h.kind in cc)
 
 req_syn : ℕ × Objective → Message
@@ -157,11 +153,11 @@ req_syn x = message.ReqSyn x.0 x.1
 
 req_syn_to : (m : Message) (ws : List (List ℕ)) → Made req_syn PairWords m ws → NamedWords name.RequestSynchronization m ws
 unfolding req_syn
-req_syn_to m ws d = subst (λ (y : Message). NamedWords name.RequestSynchronization y ws) (sym d.is) (let p = d.words in record { kind = refl; whole = record { ranges = (p.session, p.ranges); values = p.encoding }; spelled = p.spelled })
+req_syn_to m ws d = subst (λ (y : Message). NamedWords name.RequestSynchronization y ws) (sym d.is) (let p = d.words in record { kind = refl; whole = (p.session, p.ranges); spelled = p.spelled })
 
 req_syn_from : (m : Message) (ws : List (List ℕ)) → NamedWords name.RequestSynchronization m ws → Made req_syn PairWords m ws
 unfolding req_syn
-req_syn_from (message.ReqSyn session o) ws h = record { from = (session, o); is = refl; words = record { session = h.whole.ranges.0; ranges = h.whole.ranges.1; encoding = h.whole.values; spelled = h.spelled } }
+req_syn_from (message.ReqSyn session o) ws h = record { from = (session, o); is = refl; words = record { session = h.whole.0; ranges = h.whole.1; spelled = h.spelled } }
 req_syn_from m ws h = absurd (let e = h.kind in cc)
 
 negotiate : ℕ × Objective → Message
@@ -169,11 +165,11 @@ negotiate x = message.Negotiate x.0 x.1
 
 negotiate_to : (m : Message) (ws : List (List ℕ)) → Made negotiate PairWords m ws → NamedWords name.Negotiate m ws
 unfolding negotiate
-negotiate_to m ws d = subst (λ (y : Message). NamedWords name.Negotiate y ws) (sym d.is) (let p = d.words in record { kind = refl; whole = record { ranges = (p.session, p.ranges); values = p.encoding }; spelled = p.spelled })
+negotiate_to m ws d = subst (λ (y : Message). NamedWords name.Negotiate y ws) (sym d.is) (let p = d.words in record { kind = refl; whole = (p.session, p.ranges); spelled = p.spelled })
 
 negotiate_from : (m : Message) (ws : List (List ℕ)) → NamedWords name.Negotiate m ws → Made negotiate PairWords m ws
 unfolding negotiate
-negotiate_from (message.Negotiate session o) ws h = record { from = (session, o); is = refl; words = record { session = h.whole.ranges.0; ranges = h.whole.ranges.1; encoding = h.whole.values; spelled = h.spelled } }
+negotiate_from (message.Negotiate session o) ws h = record { from = (session, o); is = refl; words = record { session = h.whole.0; ranges = h.whole.1; spelled = h.spelled } }
 negotiate_from m ws h = absurd (let e = h.kind in cc)
 
 synch : ℕ × Objective → Message
@@ -181,11 +177,11 @@ synch x = message.Synch x.0 x.1
 
 synch_to : (m : Message) (ws : List (List ℕ)) → Made synch PairWords m ws → NamedWords name.Synch m ws
 unfolding synch
-synch_to m ws d = subst (λ (y : Message). NamedWords name.Synch y ws) (sym d.is) (let p = d.words in record { kind = refl; whole = record { ranges = (p.session, p.ranges); values = p.encoding }; spelled = p.spelled })
+synch_to m ws d = subst (λ (y : Message). NamedWords name.Synch y ws) (sym d.is) (let p = d.words in record { kind = refl; whole = (p.session, p.ranges); spelled = p.spelled })
 
 synch_from : (m : Message) (ws : List (List ℕ)) → NamedWords name.Synch m ws → Made synch PairWords m ws
 unfolding synch
-synch_from (message.Synch session o) ws h = record { from = (session, o); is = refl; words = record { session = h.whole.ranges.0; ranges = h.whole.ranges.1; encoding = h.whole.values; spelled = h.spelled } }
+synch_from (message.Synch session o) ws h = record { from = (session, o); is = refl; words = record { session = h.whole.0; ranges = h.whole.1; spelled = h.spelled } }
 synch_from m ws h = absurd (let e = h.kind in cc)
 
 -- ---- discovery
@@ -201,13 +197,13 @@ discovery_to m ws t =
     let le : t.first ≤ 4294967295 = t.is.within in
     subst (λ (y : Message). NamedWords name.Discovery y ws) (sym d.is) (record {
       kind = refl;
-      whole = record { ranges = (omega arith, a.is.within, w.ranges); values = w.encoding };
+      whole = (omega arith, a.is.within, w.ranges);
       spelled = t.parts ∙ (λ i. t.is.digits i ∷ (a.parts ∙ (λ i. a.is.spelled i ∷ w.spelled i)) i);
     })
 
 discovery_from : (m : Message) (ws : List (List ℕ)) → NamedWords name.Discovery m ws → DiscoveryThen m ws
 discovery_from (message.Discovery session initiator o) ws h =
-    let lt : session < 2 ^ 32 = h.whole.ranges.0 in
+    let lt : session < 2 ^ 32 = h.whole.0 in
     record {
       first = session;
       word = decimal session;
@@ -218,9 +214,9 @@ discovery_from (message.Discovery session initiator o) ws h =
         first = initiator;
         word = address_word initiator;
         rest = _;
-        is = record { within = h.whole.ranges.1; spelled = refl };
+        is = record { within = h.whole.1; spelled = refl };
         parts = refl;
-        others = record { from = o; is = refl; words = record { ranges = h.whole.ranges.2; encoding = h.whole.values; spelled = refl } };
+        others = record { from = o; is = refl; words = record { ranges = h.whole.2; spelled = refl } };
       };
     }
 discovery_from m ws h = absurd (let e = h.kind in cc)
@@ -240,10 +236,10 @@ abbrev ResponseThen : Message → List (List ℕ) → Type 0
 ResponseThen = WordThen IsNumber32 (λ session. WordThen IsAddressWord (λ initiator. WordThen IsNumber32 (λ ttl. WordThen (Spelled answer_word) (λ kind. Made (respond session initiator ttl kind) AnswersWords))))
 
 response_made : (session : ℕ) (initiator : Address) (ttl : ℕ) (kind : Bool) (ls : List Locator) (o : Option Objective) (ws : List (List ℕ)) → session < 2 ^ 32 → IsAddress initiator → ttl < 2 ^ 32 → AreLocators ls → IfSome o (λ o. ObjectiveWords o (objective_words o)) → ws ≡ decimal session ∷ address_word initiator ∷ decimal ttl ∷ answer_word kind ∷ (all_locator_words ls ++ optional_objective_words o) → NamedWords name.Response (message.Response session initiator ttl (answer_of kind ls) o) ws
-response_made session initiator ttl true ls None ws a b d r w e = record { kind = refl; whole = record { ranges = (a, b, d, r, tt); values = tt }; spelled = e }
-response_made session initiator ttl false ls None ws a b d r w e = record { kind = refl; whole = record { ranges = (a, b, d, r, tt); values = tt }; spelled = e }
-response_made session initiator ttl true ls (Some o) ws a b d r w e = record { kind = refl; whole = record { ranges = (a, b, d, r, w.ranges); values = w.encoding }; spelled = e }
-response_made session initiator ttl false ls (Some o) ws a b d r w e = record { kind = refl; whole = record { ranges = (a, b, d, r, w.ranges); values = w.encoding }; spelled = e }
+response_made session initiator ttl true ls None ws a b d r w e = record { kind = refl; whole = (a, b, d, r, tt); spelled = e }
+response_made session initiator ttl false ls None ws a b d r w e = record { kind = refl; whole = (a, b, d, r, tt); spelled = e }
+response_made session initiator ttl true ls (Some o) ws a b d r w e = record { kind = refl; whole = (a, b, d, r, w.ranges); spelled = e }
+response_made session initiator ttl false ls (Some o) ws a b d r w e = record { kind = refl; whole = (a, b, d, r, w.ranges); spelled = e }
 
 response_to : (m : Message) (ws : List (List ℕ)) → ResponseThen m ws → NamedWords name.Response m ws
 unfolding respond
@@ -259,9 +255,9 @@ response_to m ws t =
     (response_made t.first a.first l.first q.first d.from.0 d.from.1 ws (omega arith) a.is.within (omega arith) w.locators w.objective
     (t.parts ∙ (λ i. t.is.digits i ∷ (a.parts ∙ (λ i. a.is.spelled i ∷ (l.parts ∙ (λ i. l.is.digits i ∷ (q.parts ∙ (λ i. q.is.spelled i ∷ w.spelled i)) i)) i)) i)))
 
-some_objective : (o : Option Objective) → IfSome o IsObjective → IfSome o ObjectiveHasEncoding → IfSome o (λ o. ObjectiveWords o (objective_words o))
-some_objective None r e = tt
-some_objective (Some o) r e = record { ranges = r; encoding = e; spelled = refl }
+some_objective : (o : Option Objective) → IfSome o IsObjective → IfSome o (λ o. ObjectiveWords o (objective_words o))
+some_objective None r = tt
+some_objective (Some o) r = record { ranges = r; spelled = refl }
 
 response_of : (session : ℕ) (initiator : Address) (ttl : ℕ) (kind : Bool) (ls : List Locator) (o : Option Objective) (ws : List (List ℕ)) → session < 2 ^ 32 → IsAddress initiator → ttl < 2 ^ 32 → AreLocators ls → IfSome o (λ o. ObjectiveWords o (objective_words o)) → ws ≡ decimal session ∷ address_word initiator ∷ decimal ttl ∷ answer_word kind ∷ (all_locator_words ls ++ optional_objective_words o) → ResponseThen (message.Response session initiator ttl (answer_of kind ls) o) ws
 unfolding respond
@@ -296,8 +292,8 @@ response_of session initiator ttl kind ls o ws a b d r w e = record {
 }
 
 response_from : (m : Message) (ws : List (List ℕ)) → NamedWords name.Response m ws → ResponseThen m ws
-response_from (message.Response session initiator ttl (Locators ls) o) ws h = response_of session initiator ttl true ls o ws h.whole.ranges.0 h.whole.ranges.1 h.whole.ranges.2 h.whole.ranges.3 (some_objective o h.whole.ranges.4 h.whole.values) h.spelled
-response_from (message.Response session initiator ttl (Divert ls) o) ws h = response_of session initiator ttl false ls o ws h.whole.ranges.0 h.whole.ranges.1 h.whole.ranges.2 h.whole.ranges.3 (some_objective o h.whole.ranges.4 h.whole.values) h.spelled
+response_from (message.Response session initiator ttl (Locators ls) o) ws h = response_of session initiator ttl true ls o ws h.whole.0 h.whole.1 h.whole.2 h.whole.3 (some_objective o h.whole.4) h.spelled
+response_from (message.Response session initiator ttl (Divert ls) o) ws h = response_of session initiator ttl false ls o ws h.whole.0 h.whole.1 h.whole.2 h.whole.3 (some_objective o h.whole.4) h.spelled
 response_from m ws h = absurd (let e = h.kind in cc)
 
 response_lawful : (k : ℕ) → Lawful k Nothing (NamedWords name.Response) response_at
@@ -392,13 +388,13 @@ end_to m ws t =
     let le : t.first ≤ 4294967295 = t.is.within in
     subst (λ (y : Message). NamedWords name.End y ws) (sym d.is) (record {
       kind = refl;
-      whole = record { ranges = (omega arith, is_verdict d.from w.ranges); values = tt };
+      whole = (omega arith, is_verdict d.from w.ranges);
       spelled = t.parts ∙ (λ i. t.is.digits i ∷ (a.parts ∙ (λ i. (a.is.spelled ∙ ap verdict_word (sym w.kind)) i ∷ w.spelled i) ∙ sym (end_words d.from)) i);
     })
 
 end_from : (m : Message) (ws : List (List ℕ)) → NamedWords name.End m ws → EndThen m ws
 end_from (message.End session v) ws h =
-    let lt : session < 2 ^ 32 = h.whole.ranges.0 in
+    let lt : session < 2 ^ 32 = h.whole.0 in
     record {
       first = session;
       word = decimal session;
@@ -411,7 +407,7 @@ end_from (message.End session v) ws h =
         rest = verdict_tail v;
         is = record { spelled = refl };
         parts = end_words v;
-        others = record { from = v; is = refl; words = record { kind = refl; ranges = is_said v h.whole.ranges.1; spelled = refl } };
+        others = record { from = v; is = refl; words = record { kind = refl; ranges = is_said v h.whole.1; spelled = refl } };
       };
     }
 end_from m ws h = absurd (let e = h.kind in cc)
@@ -435,14 +431,14 @@ wait_to m ws t =
     let ge : a.first ≤ 4294967295 = a.is.within in
     subst (λ (y : Message). NamedWords name.Wait y ws) (sym a.others.value) (record {
       kind = refl;
-      whole = record { ranges = (omega arith, omega arith); values = tt };
+      whole = (omega arith, omega arith);
       spelled = t.parts ∙ (λ i. t.is.digits i ∷ (a.parts ∙ (λ i. a.is.digits i ∷ a.others.words i)) i);
     })
 
 wait_from : (m : Message) (ws : List (List ℕ)) → NamedWords name.Wait m ws → WaitThen m ws
 wait_from (message.Wait session millis) ws h =
-    let lt : session < 2 ^ 32 = h.whole.ranges.0 in
-    let gt : millis < 2 ^ 32 = h.whole.ranges.1 in
+    let lt : session < 2 ^ 32 = h.whole.0 in
+    let gt : millis < 2 ^ 32 = h.whole.1 in
     record {
       first = session;
       word = decimal session;
@@ -475,14 +471,14 @@ flood_to m ws t =
     let ge : l.first ≤ 4294967295 = l.is.within in
     subst (λ (y : Message). NamedWords name.Flood y ws) (sym d.is) (record {
       kind = refl;
-      whole = record { ranges = (omega arith, a.is.within, omega arith, w.ranges); values = w.encoding };
+      whole = (omega arith, a.is.within, omega arith, w.ranges);
       spelled = t.parts ∙ (λ i. t.is.digits i ∷ (a.parts ∙ (λ i. a.is.spelled i ∷ (l.parts ∙ (λ i. l.is.digits i ∷ w.spelled i)) i)) i);
     })
 
 flood_from : (m : Message) (ws : List (List ℕ)) → NamedWords name.Flood m ws → FloodThen m ws
 flood_from (message.Flood session initiator ttl parts) ws h =
-    let lt : session < 2 ^ 32 = h.whole.ranges.0 in
-    let gt : ttl < 2 ^ 32 = h.whole.ranges.2 in
+    let lt : session < 2 ^ 32 = h.whole.0 in
+    let gt : ttl < 2 ^ 32 = h.whole.2 in
     record {
       first = session;
       word = decimal session;
@@ -493,7 +489,7 @@ flood_from (message.Flood session initiator ttl parts) ws h =
         first = initiator;
         word = address_word initiator;
         rest = _;
-        is = record { within = h.whole.ranges.1; spelled = refl };
+        is = record { within = h.whole.1; spelled = refl };
         parts = refl;
         others = record {
           first = ttl;
@@ -501,7 +497,7 @@ flood_from (message.Flood session initiator ttl parts) ws h =
           rest = all_flood_part_words parts;
           is = record { within = omega arith; digits = refl };
           parts = refl;
-          others = record { from = parts; is = refl; words = record { ranges = h.whole.ranges.3; encoding = h.whole.values; spelled = refl } };
+          others = record { from = parts; is = refl; words = record { ranges = h.whole.3; spelled = refl } };
         };
       };
     }
@@ -527,13 +523,13 @@ invalid_to m ws t =
     let le : t.first ≤ 4294967295 = t.is.within in
     subst (λ (y : Message). NamedWords name.Invalid y ws) (sym a.others.value) (record {
       kind = refl;
-      whole = record { ranges = (omega arith, told.shallow); values = told.encoding };
+      whole = (omega arith, told.ranges);
       spelled = t.parts ∙ (λ i. t.is.digits i ∷ (a.parts ∙ (λ i. told.spelled i ∷ a.others.words i)) i);
     })
 
 invalid_from : (m : Message) (ws : List (List ℕ)) → NamedWords name.Invalid m ws → InvalidThen m ws
 invalid_from (message.Invalid session detail) ws h =
-    let lt : session < 2 ^ 32 = h.whole.ranges.0 in
+    let lt : session < 2 ^ 32 = h.whole.0 in
     record {
       first = session;
       word = decimal session;
@@ -545,7 +541,7 @@ invalid_from (message.Invalid session detail) ws h =
         word = or_dash value_word detail;
         rest = [];
         parts = refl;
-        is = value_told detail (or_dash value_word detail) (record { encoding = h.whole.values; shallow = h.whole.ranges.1; spelled = refl });
+        is = value_told detail (or_dash value_word detail) (record { ranges = h.whole.1; spelled = refl });
         others = record { value = refl; words = refl };
       };
     }
@@ -576,7 +572,7 @@ named_lawful name.Invalid k = invalid_lawful k
 
 -- the words of this message
 pub record MessageWords (m : Message) (ws : List (List ℕ)) : Type 0 where
-  pub whole : IsWhole m
+  pub whole : IsMessage m
   pub spelled : ws ≡ message_words m
 
 abbrev NameThen : Message → List (List ℕ) → Type 0

@@ -1,5 +1,5 @@
 -- Objectives and locators are read where their words are, and nowhere else.
-use Rattle.std.proofs.Common.{◌≡◌, ℕ, zero, suc, ◌+◌, ◌^◌, ◌<◌, ◌≤◌, Bool, true, false, List, [], ◌∷◌, ◌++◌, length, Option, Some, None, Ok, Err, refl, sym, ap, subst, ◌∙◌, arith, length-append}
+use Rattle.std.proofs.Common.{◌≡◌, ℕ, suc, ◌^◌, ◌<◌, ◌≤◌, true, false, List, [], ◌∷◌, length, Option, Some, None, Ok, refl, sym, ap, subst, ◌∙◌, arith, length-append}
 use Rattle.std.specs.Prelude.{IfSome, codes, decimal, option_map}
 use Rattle.grasp_cbor.specs.DataItem.{DataItem}
 use Rattle.grasp_types.specs.Address.{IsLocator}
@@ -9,9 +9,8 @@ use Rattle.grasp_types.specs.declared.address.Locator.TheVariants.{V6, V4, Fqdn,
 use Rattle.grasp_types.specs.declared.address.Proto.{Proto}
 use Rattle.grasp_types.specs.declared.objective.Objective.{Objective}
 use Rattle.grasp_text.specs.Grammar.{ending, objective_at, locator_at, located, host_of, v6_at, v4_at, fqdn_at, uri_at, begins_objective, place_of, placed, optional_locator_at}
-use Rattle.grasp_text.specs.Line.{HasEncoding, ObjectiveHasEncoding, objective_words, locator_words, locator_or_none, or_dash, value_word, proto_word, text_word, v4_word, v6_word}
-use Rattle.grasp_text.specs.Reading.{Parsed, ◌>>=◌, word_at, end_at, exactly, number_of, text_of, value_of, maybe_of, absent_or, v4_of, v6_of, proto_of}
-use Rattle.grasp_text.specs.Words.{joined}
+use Rattle.grasp_text.specs.Line.{objective_words, locator_words, locator_or_none, or_dash, value_word, proto_word, text_word, v4_word, v6_word}
+use Rattle.grasp_text.specs.Reading.{◌>>=◌, word_at, end_at, exactly, number_of, text_of, value_of, maybe_of, v4_of, v6_of, proto_of}
 use Rattle.grasp_text.specs.declared.names.Host.{Host}
 use Rattle.grasp_text.specs.declared.names.Host.TheVariants.{Ipv6, Ipv4, Domain, Resource}
 use Rattle.grasp_text.proofs.HexWords.{IsHex, v4_exact, v6_exact}
@@ -19,7 +18,7 @@ use Rattle.grasp_text.proofs.Lawful.{Anything, Nothing, Lawful, Exact, WordThen,
 use Rattle.grasp_text.proofs.Leaves.{Spelled, exactly_exact, IsMaybe, maybe_exact, IsText, text_exact}
 use Rattle.grasp_text.proofs.SpelledWords.{host_word, host_exact, proto_exact, no_host, no_proto}
 use Rattle.grasp_text.proofs.NumberWords.{IsNumber, number_exact, number_no_dash, some, some_is}
-use Rattle.grasp_text.proofs.ValueWords.{IsValueWord, value_exact, is_value}
+use Rattle.grasp_text.proofs.ValueWords.{IsValueWord, value_exact}
 
 -- ---- the end
 
@@ -59,19 +58,18 @@ maybe_port_exact = maybe_exact (codes "-") (IsNumber 65535) (number_of 65535) (n
 
 -- what the word for a value says
 pub record ToldValue (value : Option DataItem) (word : List ℕ) : Type 0 where
-  pub encoding : IfSome value HasEncoding
-  pub shallow : IfSome value IsValue
+  pub ranges : IfSome value IsValue
   pub spelled : word ≡ or_dash value_word value
 
 pub told_value : (value : Option DataItem) (word : List ℕ) → IsMaybeValue value word → ToldValue value word
 unfolding IsMaybeValue IsMaybe
-told_value None word is = record { encoding = tt; shallow = tt; spelled = is }
-told_value (Some v) word is = record { encoding = is.encoding; shallow = is_value v is.encoding is.shallow; spelled = is.spelled }
+told_value None word is = record { ranges = tt; spelled = is }
+told_value (Some v) word is = record { ranges = is.value; spelled = is.spelled }
 
 pub value_told : (value : Option DataItem) (word : List ℕ) → ToldValue value word → IsMaybeValue value word
 unfolding IsMaybeValue IsMaybe
 value_told None word is = is.spelled
-value_told (Some v) word is = record { encoding = is.encoding; shallow = is.shallow.within; spelled = is.spelled }
+value_told (Some v) word is = record { value = is.ranges; spelled = is.spelled }
 
 told_proto : (p : Option Proto) (word : List ℕ) → IsMaybeProto p word → word ≡ or_dash proto_word p
 unfolding IsMaybeProto IsMaybe
@@ -102,7 +100,6 @@ port_told (Some p) word is = record { within = let lt : p < 2 ^ 16 = is.within i
 -- the words of this objective, each part within its range
 pub record ObjectiveWords (o : Objective) (ws : List (List ℕ)) : Type 0 where
   pub ranges : IsObjective o
-  pub encoding : ObjectiveHasEncoding o
   pub spelled : ws ≡ objective_words o
 
 abbrev IsObj : Unit {0} → List ℕ → Type 0
@@ -131,8 +128,7 @@ objective_to o ws t =
     let lw : l.first ≤ 255 = l.is.within in
     let spelled : ws ≡ objective_words made = t.parts ∙ (λ i. t.is.spelled i ∷ (n.parts ∙ (λ i. n.is.spelled i ∷ (f.parts ∙ (λ i. f.is.digits i ∷ (l.parts ∙ (λ i. l.is.digits i ∷ (v.parts ∙ (λ i. told.spelled i ∷ v.others.words i)) i)) i)) i)) i) in
     subst (λ (x : Objective). ObjectiveWords x ws) (sym v.others.value) (record {
-      ranges = record { name = n.is.utf8; flags = f.is.within; loops = omega arith; value = told.shallow };
-      encoding = told.encoding;
+      ranges = record { name = n.is.utf8; flags = f.is.within; loops = omega arith; value = told.ranges };
       spelled = spelled;
     })
 
@@ -168,7 +164,7 @@ objective_from o ws w =
               word = or_dash value_word o.value;
               rest = [];
               parts = refl;
-              is = value_told o.value (or_dash value_word o.value) (record { encoding = w.encoding; shallow = w.ranges.value; spelled = refl });
+              is = value_told o.value (or_dash value_word o.value) (record { ranges = w.ranges.value; spelled = refl });
               others = record { value = refl; words = refl };
             };
           };

@@ -1,5 +1,5 @@
 -- Prefixes as words.
-use Rattle.std.proofs.Common.{◌≡◌, ℕ, ◌+◌, ◌^◌, ◌<◌, ◌≤◌, Bool, true, false, cond, ltb, List, [], ◌∷◌, ◌++◌, length, take, drop, Option, Some, None, refl, sym, ap, subst, ◌∙◌, append_assoc, arith}
+use Rattle.std.proofs.Common.{◌≡◌, ℕ, ◌≤◌, Bool, true, false, cond, ltb, List, [], ◌∷◌, ◌++◌, length, take, drop, Option, Some, None, refl, sym, ap, subst, ◌∙◌, append_assoc, arith}
 use Rattle.std.specs.Int.{to_be_bytes, w128}
 use Rattle.std.specs.Prelude.{decimal, IfSome, IfNone}
 use Rattle.std.proofs.lemmas.Bool.{le-ltb}
@@ -9,9 +9,9 @@ use Rattle.hex.proofs.HexLemmas.{length-encode_with}
 use Rattle.grasp_types.specs.Prefix.{AddressBlock, IsPrefix}
 use Rattle.grasp_text.specs.Line.{v6_word, prefix_word}
 use Rattle.grasp_text.specs.Reading.{behind_byte, block_of, then_some, number_of, v6_of}
-use Rattle.grasp_text.proofs.HexWords.{IsHex, v6_exact}
+use Rattle.grasp_text.proofs.HexWords.{v6_exact}
 use Rattle.grasp_text.proofs.Leaves.{behind_only}
-use Rattle.grasp_text.proofs.NumberWords.{IsNumber, number_only, number_found, some, some_is}
+use Rattle.grasp_text.proofs.NumberWords.{number_only, number_found, some, some_is}
 
 -- a prefix's word has 32 digits before the slash
 v6_long : (n : ℕ) → length (v6_word n) ≡ 32

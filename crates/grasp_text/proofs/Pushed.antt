@@ -3,11 +3,12 @@ use Rattle.std.proofs.Common.{◌≡◌, ℕ, ◌+◌, ◌≤◌, List, [], ◌�
 use Rattle.std.proofs.lemmas.List.{append-nil, take_all, take_more}
 use Rattle.std.proofs.lemmas.Option.{slice_get_within, get_or_from_slice_get}
 use Rattle.std.specs.List.{AllByRecursion, slice_get}
+use Rattle.grasp_types.specs.Message.{IsMessage}
 use Rattle.grasp_types.specs.declared.address.Locator.{Locator}
 use Rattle.grasp_types.specs.declared.flood.FloodPart.{FloodPart}
 use Rattle.grasp_types.specs.declared.message.Message.{Message}
 use Rattle.grasp_types.specs.declared.message.Message.TheVariants.{Noop, Discovery, Response, ReqNeg, ReqSyn, Negotiate, End, Wait, Synch, Flood, Invalid}
-use Rattle.grasp_text.specs.Line.{locator_words, all_locator_words, flood_part_words, all_flood_part_words, message_words, IsWhole, IsLineOf}
+use Rattle.grasp_text.specs.Line.{locator_words, all_locator_words, flood_part_words, all_flood_part_words, message_words, IsLineOf}
 use Rattle.grasp_text.specs.Words.{spaced, joined}
 use Rattle.grasp_text.specs.Writing.{line_name, words_behind_name}
 
@@ -86,7 +87,7 @@ line_all (Flood session initiator ttl parts) = refl
 line_all (Invalid session detail) = refl
 
 -- a name and the words behind it are the line
-pub line_pushed : (m : Message) (name text : List ℕ) → IsWhole m → name ≡ line_name m → text ≡ name ++ spaced (words_behind_name m) → IsLineOf text m
+pub line_pushed : (m : Message) (name text : List ℕ) → IsMessage m → name ≡ line_name m → text ≡ name ++ spaced (words_behind_name m) → IsLineOf text m
 line_pushed m name text whole e f = record { whole = whole; spelled = f ∙ ap (λ (x : List ℕ). x ++ spaced (words_behind_name m)) e ∙ sym (ap joined (line_all m) ∙ joined_spaced (line_name m) (words_behind_name m)) }
 
 pub ruleset lines = (line_pushed)

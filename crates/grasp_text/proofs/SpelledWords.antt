@@ -1,5 +1,5 @@
 -- Words that are spelled out, and addresses.
-use Rattle.std.proofs.Common.{◌≡◌, ℕ, zero, suc, ◌*◌, ◌^◌, ◌<◌, Bool, true, false, cond, List, [], ◌∷◌, length, Option, Some, None, refl, sym, ap, subst, ◌∙◌, arith}
+use Rattle.std.proofs.Common.{◌≡◌, ℕ, Bool, true, false, List, length, Option, Some, None, refl, sym, ap, subst, ◌∙◌, arith}
 use Rattle.std.specs.Int.{w32, w128, to_be_bytes}
 use Rattle.std.specs.Prelude.{codes}
 use Rattle.hex.specs.Hex.{lower_digits}
@@ -16,7 +16,7 @@ use Rattle.grasp_text.specs.declared.names.Host.{Host}
 use Rattle.grasp_text.specs.declared.names.Host.TheVariants.{Ipv6, Ipv4, Domain, Resource}
 use Rattle.grasp_text.specs.declared.names.MessageName.{MessageName}
 use Rattle.grasp_text.specs.declared.names.MessageName.TheVariants.{Noop, Discovery, Response, RequestNegotiation, RequestSynchronization, Negotiate, End, Wait, Synch, Flood, Invalid}
-use Rattle.grasp_text.proofs.HexWords.{IsHex, v4_exact, v6_exact}
+use Rattle.grasp_text.proofs.HexWords.{v4_exact, v6_exact}
 use Rattle.grasp_text.proofs.Lawful.{Exact}
 use Rattle.grasp_text.proofs.Leaves.{Spelled, one_of, no_more}
 use Rattle.grasp_text.proofs.NumberWords.{some, some_is, is_none}

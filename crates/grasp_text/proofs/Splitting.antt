@@ -1,11 +1,10 @@
 -- The first word of a line, and a line as its words.
-use Rattle.std.proofs.Common.{◌≡◌, ℕ, suc, ◌+◌, ◌-◌, ◌<◌, Bool, true, false, eqb, List, [], ◌∷◌, ◌++◌, length, get_or, take, drop, Option, Some, None, is_some, cond, not, refl, sym, ap, ◌∙◌, arith}
-use Rattle.std.specs.List.{slice_split, onto_first, join_with_byte, All, position_or_len}
-use Rattle.std.specs.Option.{MatchOption}
+use Rattle.std.proofs.Common.{◌≡◌, ℕ, ◌+◌, ◌-◌, Bool, true, false, eqb, List, [], ◌∷◌, length, take, drop, Option, Some, None, is_some, cond, not, refl, sym, ap, ◌∙◌, arith}
+use Rattle.std.specs.List.{onto_first, position_or_len}
 use Rattle.std.proofs.lemmas.List.{get_or_default, take_all, length-drop}
 use Rattle.std.proofs.lemmas.List.Sums.{position_or_len_is}
 use Rattle.std.proofs.lemmas.List.Splits.{slice_split_none, slice_split_first, join_with_byte-slice_split}
-use Rattle.memchr.specs.Find.{IsFirstByte, is_byte, Passes, Nowhere}
+use Rattle.memchr.specs.Find.{IsFirstByte, is_byte}
 use Rattle.grasp_text.specs.Words.{words_of, words_left, joined, is_over}
 
 not_true : (b : Bool) → ¬ (b ≡ true) → b ≡ false

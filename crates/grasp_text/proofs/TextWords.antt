@@ -1,13 +1,13 @@
 -- Texts as words.
-use Rattle.std.proofs.Common.{◌≡◌, ℕ, zero, suc, ◌+◌, ◌-◌, ◌*◌, ◌/◌, ◌%◌, ◌<◌, ◌≤◌, Bool, true, false, cond, eqb, leb, List, [], ◌∷◌, ◌++◌, length, get_or, take, Option, Some, None, Result, Ok, Err, refl, sym, ap, subst, ◌∙◌, append_assoc, arith}
+use Rattle.std.proofs.Common.{◌≡◌, ℕ, zero, suc, ◌+◌, ◌/◌, ◌%◌, ◌<◌, Bool, true, false, cond, eqb, List, [], ◌∷◌, ◌++◌, length, get_or, take, Option, Some, None, Result, Ok, Err, refl, sym, ap, ◌∙◌, append_assoc, arith}
 use Rattle.std.proofs.lemmas.List.{append-nil, take_more}
 use Rattle.std.specs.Prelude.{slice_index, IfOk, IfSome, IfNone}
 use Rattle.std.specs.Str.{IsUtf8, is_utf8}
 use Rattle.std.proofs.lemmas.Str.{IsUtf8-from_is_utf8, is_utf8-from_IsUtf8}
-use Rattle.grasp_text.proofs.NumberWords.{some, some_is}
+use Rattle.grasp_text.proofs.NumberWords.{some}
 use Rattle.hex.specs.Hex.{lower_digits}
-use Rattle.grasp_text.specs.Line.{escaped, all_escaped, text_word}
-use Rattle.grasp_text.specs.Reading.{unescaped, first_unescaped, behind_percent, paired, onto, as_text, byte_of, is_plain, digit_of}
+use Rattle.grasp_text.specs.Line.{escaped, all_escaped}
+use Rattle.grasp_text.specs.Reading.{unescaped, first_unescaped, paired, onto, as_text, byte_of, is_plain}
 
 pub lower_digit_small : (i : ℕ) → i < 16 → slice_index lower_digits i < 128
 lower_digit_small zero lt = omega arith

@@ -1,5 +1,5 @@
 -- A reader that goes on as long as there are words does its step, and goes on.
-use Rattle.std.proofs.Common.{◌≡◌, ℕ, zero, suc, ◌+◌, ◌<◌, ◌≤◌, List, [], ◌∷◌, length, refl, sym, ap, ◌∙◌, arith}
+use Rattle.std.proofs.Common.{◌≡◌, ℕ, zero, suc, ◌<◌, List, length, arith}
 use Rattle.grasp_text.specs.Reading.{Parsed}
 use Rattle.grasp_text.specs.Grammar.{many, until}
 

@@ -1,6 +1,6 @@
 -- Values as words.
-use Rattle.std.proofs.Common.{◌≡◌, ℕ, zero, suc, ◌+◌, ◌<◌, ◌≤◌, inl, Bool, true, false, cond, List, [], ◌∷◌, ◌++◌, length, take, Option, Some, None, Result, Ok, Err, refl, sym, ap, subst, ◌∙◌, arith}
-use Rattle.std.specs.Prelude.{slice_index, IfSome}
+use Rattle.std.proofs.Common.{◌≡◌, ℕ, ◌+◌, ◌<◌, ◌≤◌, inl, Bool, true, false, cond, List, [], ◌∷◌, length, Option, Some, None, Result, Ok, Err, refl, sym, ap, subst, ◌∙◌, arith}
+use Rattle.std.specs.Prelude.{IfSome}
 use Rattle.std.specs.Str.{bytes_eq}
 use Rattle.std.proofs.lemmas.List.{append-nil, take_all}
 use Rattle.std.proofs.lemmas.Slice.Eq.{bytes_eq-Decides}
@@ -10,22 +10,23 @@ use Rattle.hex.proofs.HexLemmas.{decode_of-encode_lower, decode_of-ok}
 use Rattle.grasp_cbor.specs.Build.{item_at}
 use Rattle.grasp_cbor.specs.DataItem.{DataItem, simple_value, depth_of}
 use Rattle.grasp_cbor.specs.Encodes.{IsEncoding, Encodes}
-use Rattle.grasp_cbor.specs.Ending.{Ending, whole, IsEnding, IsWhole}
-use Rattle.grasp_cbor.specs.ReadItem.{ending_of, fault_ending}
+use Rattle.grasp_cbor.specs.Ending.{Ending, whole, IsEnding}
+use Rattle.grasp_cbor.specs.ReadItem.{fault_ending}
 use Rattle.grasp_cbor.specs.Shortest.{shortest}
 use Rattle.grasp_cbor.specs.declared.read.ItemFault.{ItemFault}
 use Rattle.grasp_cbor.specs.declared.read.ItemFault.TheVariants as faults
 use Rattle.grasp_cbor.proofs.Again.{item_again}
 use Rattle.grasp_cbor.proofs.Encoded.{encoded}
 use Rattle.grasp_cbor.proofs.Found.{item_found}
-use Rattle.grasp_cbor.proofs.HeadBytes.{AllBytes-from}
+use Rattle.grasp_cbor.proofs.HeadBytes.{AllBytes-at, AllBytes-from}
 use Rattle.grasp_cbor.proofs.Shortest.{Encodes-shortest}
 use Rattle.grasp_cbor.proofs.Whole.{one_encodes}
 use Rattle.grasp_types.specs.Objective.{IsValue}
-use Rattle.grasp_text.specs.Line.{HasEncoding, value_word}
+use Rattle.grasp_text.specs.Line.{value_word}
 use Rattle.grasp_text.specs.Reading.{decoded, bytes_of, whole_value, as_value, item_of_bytes, value_behind, value_of, behind_byte}
 use Rattle.grasp_text.proofs.Lawful.{Exact}
 use Rattle.grasp_text.proofs.NumberWords.{some, some_is, is_none}
+use Rattle.grasp_cbor.proofs.ShortestBytes.{shortest_bytes}
 use Rattle.grasp_text.proofs.Leaves.{behind_only}
 
 -- ---- lower-case digits
@@ -57,14 +58,17 @@ bytes_only word bytes e = bytes_only_at word bytes (decode_of word) refl e
 
 -- ---- values
 
--- what nests at most 13 deep and has an encoding of bytes is a value
-pub is_value : (item : DataItem) → HasEncoding item → depth_of item ≤ 13 → IsValue item
-is_value item e d = record { within = d; encodable = encoded item (shortest item) (AllBytes-from (shortest item) e.bytes) e.encodes }
+-- a value's shortest encoding is one
+value_encodes : (item : DataItem) → IsValue item → Encodes item (shortest item)
+value_encodes item v = let d = v.within in Encodes-shortest item v.encodable (omega arith)
+
+-- and it is of bytes
+value_bytes : (item : DataItem) → IsValue item → IsBytes (shortest item)
+value_bytes item v = AllBytes-at (shortest item) (shortest_bytes item v.encodable)
 
 -- a word of this value
 pub record IsValueWord (item : DataItem) (word : List ℕ) : Type 0 where
-  pub encoding : HasEncoding item
-  pub shallow : depth_of item ≤ 13
+  pub value : IsValue item
   pub spelled : word ≡ value_word item
 
 pub value_again : (item : DataItem) (bytes : List ℕ) → Encodes item (shortest item) → depth_of item ≤ 13 → shortest item ≡ bytes → as_value bytes (item_at 13 bytes) ≡ Some item
@@ -74,8 +78,7 @@ value_again item bytes enc shallow e =
     ∙ ap (λ (b : Bool). cond b (some item) None) ((bytes_eq-Decides (shortest item) bytes).1 e)
 
 record IsValueOf (bytes : List ℕ) (item : DataItem) : Type 0 where
-  encoding : HasEncoding item
-  shallow : depth_of item ≤ 13
+  value : IsValue item
   spelled : bytes ≡ shortest item
 
 whole_only : (bytes : List ℕ) (found : DataItem) (rest : List ℕ) (item : DataItem) → IsBytes bytes → item_at 13 bytes ≡ Some (found, rest) → whole_value bytes found rest ≡ Some item → IsValueOf bytes item
@@ -89,7 +92,7 @@ whole_only bytes found [] item fits is e = by_test (bytes_eq (shortest found) by
         let same : shortest found ≡ bytes = (bytes_eq-Decides (shortest found) bytes).0 t in
         let front : built.front ≡ shortest found = sym (built.parts ∙ append-nil built.front) ∙ sym same in
         let enc : Encodes found (shortest found) = record { encoding = subst (λ (x : List ℕ). IsEncoding found x) front built.encoding; within = omega (arith, built.within) } in
-        subst (λ (x : DataItem). IsValueOf bytes x) (some_is found item f) (record { encoding = record { encodes = enc; bytes = subst IsBytes (sym same) fits }; shallow = built.within; spelled = sym same })
+        subst (λ (x : DataItem). IsValueOf bytes x) (some_is found item f) (record { value = record { within = built.within; encodable = encoded found (shortest found) (AllBytes-from (shortest found) (subst IsBytes (sym same) fits)) enc }; spelled = sym same })
 
 value_only_at : (bytes : List ℕ) (o : Option (DataItem × List ℕ)) (item : DataItem) → IsBytes bytes → item_at 13 bytes ≡ o → as_value bytes o ≡ Some item → IsValueOf bytes item
 value_only_at bytes None item fits is e = absurd (let z : None ≡ some item = e in cc)
@@ -99,7 +102,7 @@ value_only_at bytes (Some x) item fits is e = whole_only bytes x.0 x.1 item fits
 pub value_none : (bytes : List ℕ) → IsBytes bytes → ((item : DataItem) → Encodes item (shortest item) → depth_of item ≤ 13 → ¬ (shortest item ≡ bytes)) → as_value bytes (item_at 13 bytes) ≡ None
 value_none bytes fits h = is_none (as_value bytes (item_at 13 bytes)) (λ item e.
     let v = value_only_at bytes (item_at 13 bytes) item fits refl e in
-    h item v.encoding.encodes v.shallow (sym v.spelled))
+    h item (value_encodes item v.value) v.value.within (sym v.spelled))
 
 -- no item has them, as none has these bytes as its encoding
 pub value_none_encoded : (bytes : List ℕ) → IsBytes bytes → ((item : DataItem) → ¬ (Encodes item bytes)) → as_value bytes (item_at 13 bytes) ≡ None
@@ -126,15 +129,15 @@ value_found : (item : DataItem) (word : List ℕ) → IsValueWord item word → 
 unfolding value_of
 value_found item word is =
     ap (λ (x : List ℕ). value_behind (behind_byte 120 x)) is.spelled
-    ∙ ap item_of_bytes (bytes_again (shortest item) is.encoding.bytes)
-    ∙ value_again item (shortest item) is.encoding.encodes is.shallow refl
+    ∙ ap item_of_bytes (bytes_again (shortest item) (value_bytes item is.value))
+    ∙ value_again item (shortest item) (value_encodes item is.value) is.value.within refl
 
 value_word_at : (word digits : List ℕ) (item : DataItem) (o : Option (List ℕ)) → word ≡ 120 ∷ digits → bytes_of digits ≡ o → item_of_bytes o ≡ Some item → IsValueWord item word
 value_word_at word digits item None w b e = absurd (let z : None ≡ some item = e in cc)
 value_word_at word digits item (Some bytes) w b e =
     let d = bytes_only digits bytes b in
     let v = value_only_at bytes (item_at 13 bytes) item d.fits refl e in
-    record { encoding = v.encoding; shallow = v.shallow; spelled = w ∙ ap (λ (x : List ℕ). 120 ∷ x) (d.spelled ∙ ap encode_lower v.spelled) }
+    record { value = v.value; spelled = w ∙ ap (λ (x : List ℕ). 120 ∷ x) (d.spelled ∙ ap encode_lower v.spelled) }
 
 value_only_behind : (word : List ℕ) (item : DataItem) (o : Option (List ℕ)) → behind_byte 120 word ≡ o → value_behind o ≡ Some item → IsValueWord item word
 value_only_behind word item None b e = absurd (let z : None ≡ some item = e in cc)
@@ -144,19 +147,15 @@ value_only : (word : List ℕ) (item : DataItem) → value_of word ≡ Some item
 unfolding value_of
 value_only word item e = value_only_behind word item (behind_byte 120 word) refl e
 
-null_bytes : IsBytes (246 ∷ [])
-null_bytes zero = omega arith
-null_bytes (suc i) = omega arith
-
 -- null is a value
-null_encoding : HasEncoding (simple_value 22)
-null_encoding = record { encodes = Encodes-shortest (simple_value 22) (inl (omega arith), omega arith) (omega arith); bytes = null_bytes }
+null_value : IsValue (simple_value 22)
+null_value = record { within = omega arith; encodable = (inl (omega arith), omega arith) }
 
 pub value_exact : Exact IsValueWord value_of
 value_exact = record {
   value = simple_value 22;
   word = value_word (simple_value 22);
-  some = record { encoding = null_encoding; shallow = omega arith; spelled = refl };
+  some = record { value = null_value; spelled = refl };
   found = value_found;
   only = value_only;
 }

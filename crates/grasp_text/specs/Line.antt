@@ -1,10 +1,8 @@
 -- The line of a message, as words. The layout is this project's own.
-use Rattle.std.specs.Prelude.{◌≡◌, ℕ, ◌<◌, ◌≤◌, ◌/◌, ◌%◌, ◌==◌, ◌&&◌, nat_le, not, if◌then◌else◌, List, [], ◌∷◌, ◌++◌, Option, Some, None, IfSome, codes, decimal, slice_index}
+use Rattle.std.specs.Prelude.{◌≡◌, ℕ, ◌/◌, ◌%◌, ◌==◌, ◌&&◌, nat_le, not, if◌then◌else◌, List, [], ◌∷◌, ◌++◌, Option, Some, None, codes, decimal, slice_index}
 use Rattle.std.specs.Int.{to_be_bytes, w32, w128}
-use Rattle.std.specs.List.{AllByRecursion}
-use Rattle.hex.specs.Hex.{encode_lower, lower_digits, IsBytes}
+use Rattle.hex.specs.Hex.{encode_lower, lower_digits}
 use Rattle.grasp_cbor.specs.DataItem.{DataItem}
-use Rattle.grasp_cbor.specs.Encodes.{Encodes}
 use Rattle.grasp_cbor.specs.Shortest.{shortest}
 use Rattle.grasp_types.specs.Message.{IsMessage}
 use Rattle.grasp_types.specs.declared.address.Address.{Address}
@@ -126,40 +124,9 @@ message_words (Invalid session detail) = codes "invalid" ∷ decimal session ∷
 abbrev pub line_of : Message → List ℕ
 line_of message = joined (message_words message)
 
--- the item's shortest encoding is one, and it is of bytes: what is in the item is within its range, as in every item that
--- the code holds
-pub record HasEncoding (item : DataItem) : Type 0 where
-  pub encodes : Encodes item (shortest item)
-  pub bytes : IsBytes (shortest item)
-
-abbrev pub ObjectiveHasEncoding : Objective → Type 0
-ObjectiveHasEncoding o = IfSome o.value HasEncoding
-
-abbrev pub FloodPartHasEncoding : FloodPart → Type 0
-FloodPartHasEncoding part = ObjectiveHasEncoding part.objective
-
--- each value of the message has an encoding
-abbrev pub ValuesHaveEncodings : Message → Type 0
-ValuesHaveEncodings Noop = Unit {0}
-ValuesHaveEncodings (Discovery session initiator objective) = ObjectiveHasEncoding objective
-ValuesHaveEncodings (Response session initiator ttl answer objective) = IfSome objective ObjectiveHasEncoding
-ValuesHaveEncodings (ReqNeg session objective) = ObjectiveHasEncoding objective
-ValuesHaveEncodings (ReqSyn session objective) = ObjectiveHasEncoding objective
-ValuesHaveEncodings (Negotiate session objective) = ObjectiveHasEncoding objective
-ValuesHaveEncodings (End session verdict) = Unit {0}
-ValuesHaveEncodings (Wait session millis) = Unit {0}
-ValuesHaveEncodings (Synch session objective) = ObjectiveHasEncoding objective
-ValuesHaveEncodings (Flood session initiator ttl parts) = AllByRecursion FloodPartHasEncoding parts
-ValuesHaveEncodings (Invalid session detail) = IfSome detail HasEncoding
-
--- each part of the message is within the range of its type, as in every message that the code holds
-pub record IsWhole (message : Message) : Type 0 where
-  pub ranges : IsMessage message
-  pub values : ValuesHaveEncodings message
-
--- the line is the message's
+-- the line is the message's, each part of which is within its range
 pub record IsLineOf (line : List ℕ) (message : Message) : Type 0 where
-  pub whole : IsWhole message
+  pub whole : IsMessage message
   pub spelled : line ≡ line_of message
 
 -- the line is no message's
@@ -170,5 +137,5 @@ IsNoLine line = (message : Message) → ¬ IsLineOf line message
 pub record CanBegin (front : List (List ℕ)) : Type 0 where
   pub message : Message
   pub more : List (List ℕ)
-  pub whole : IsWhole message
+  pub whole : IsMessage message
   pub words : message_words message ≡ front ++ more

@@ -3,7 +3,7 @@ use Rattle.std.specs.Prelude.{◌≡◌, ℕ, ◌⊎◌, List, [], ◌∷◌, �
 use Rattle.grasp_text.specs.declared.fault.TextFault.{TextFault}
 use Rattle.grasp_text.specs.declared.fault.TextFault.TheVariants.{BadText, OutOfMemory}
 use Rattle.grasp_text.specs.Words.{words_of, joined}
-use Rattle.grasp_text.specs.Line.{CanBegin, IsNoLine}
+use Rattle.grasp_text.specs.Line.{CanBegin}
 
 -- the words before this one begin some message's line, and with it none
 pub record IsUnfit (words front : List (List ℕ)) (word : List ℕ) (rest : List (List ℕ)) : Type 0 where

@@ -1,7 +1,7 @@
 -- Reading words from left to right, as functions: a value and the words after it, or how many bytes the line has from
 -- the word on that doesn't fit.
-use Rattle.std.specs.Prelude.{◌≡◌, ℕ, zero, suc, ◌+◌, ◌-◌, ◌*◌, ◌≤◌, ◌==◌, Bool, not, nat_le, nat_lt, ◌&&◌, if◌then◌else◌, List, [], ◌∷◌, ◌++◌, length, take, drop, Option, Some, None, Result, Ok, Err, codes, decimal}
-use Rattle.std.specs.Int.{Width, w32, w128, byte_len, from_be_bytes}
+use Rattle.std.specs.Prelude.{◌≡◌, ℕ, ◌+◌, ◌-◌, ◌*◌, ◌==◌, Bool, not, nat_le, nat_lt, ◌&&◌, if◌then◌else◌, List, [], ◌∷◌, length, take, drop, Option, Some, None, Result, Ok, Err, codes, decimal}
+use Rattle.std.specs.Int.{Width, w32, w128, from_be_bytes}
 use Rattle.std.specs.Str.{is_utf8, bytes_eq}
 use Rattle.std.specs.Str.Parse.{digits_value}
 use Rattle.hex.specs.Hex.{decode_of, decode_sized, encode_lower}
@@ -11,19 +11,8 @@ use Rattle.grasp_cbor.specs.DataItem.{DataItem}
 use Rattle.grasp_cbor.specs.Shortest.{shortest}
 use Rattle.grasp_types.specs.declared.address.Address.{Address}
 use Rattle.grasp_types.specs.declared.address.Address.TheVariants as address
-use Rattle.grasp_types.specs.declared.address.Locator.{Locator}
-use Rattle.grasp_types.specs.declared.address.Locator.TheVariants.{V6, V4, Fqdn, Uri}
 use Rattle.grasp_types.specs.declared.address.Proto.{Proto}
 use Rattle.grasp_types.specs.declared.address.Proto.TheVariants.{Tcp, Udp}
-use Rattle.grasp_types.specs.declared.flood.FloodPart.{FloodPart}
-use Rattle.grasp_types.specs.declared.message.Answer.{Answer}
-use Rattle.grasp_types.specs.declared.message.Answer.TheVariants.{Locators, Divert}
-use Rattle.grasp_types.specs.declared.message.Message.{Message}
-use Rattle.grasp_types.specs.declared.message.Message.TheVariants as message
-use Rattle.grasp_types.specs.declared.message.Verdict.{Verdict}
-use Rattle.grasp_types.specs.declared.message.Verdict.TheVariants.{Accept, Decline}
-use Rattle.grasp_types.specs.declared.objective.Objective.{Objective}
-use Rattle.grasp_text.specs.Line.{all_escaped, text_word, value_word}
 use Rattle.grasp_text.specs.Words.{joined}
 use Rattle.grasp_text.specs.declared.fault.WordFault.{WordFault}
 use Rattle.grasp_text.specs.declared.fault.WordFault.TheVariants as faults

@@ -7,7 +7,7 @@ ghost use Rattle.grasp_cbor.specs.DataItem.{DataItem};
 ghost use Rattle.grasp_cbor.specs.Encodes.{Encodes};
 ghost use Rattle.grasp_cbor.specs.Item.{data_item_of};
 ghost use Rattle.grasp_types.specs.Objective.{IsValue};
-ghost use Rattle.grasp_text.specs.Line.{value_word, HasEncoding};
+ghost use Rattle.grasp_text.specs.Line.{value_word};
 ghost use Rattle.grasp_text.specs.Reading.{value_of, as_value, bytes_of};
 ghost use Rattle.grasp_text.specs.Words.{spaced};
 
@@ -92,8 +92,7 @@ pub fn value(alloc: Global, word: &[u8]) -> Result<Option<Value>, OutOfMemory>
 /// Appends a blank and a value. After an `Err` the text may end in a part of them.
 pub fn push_value(alloc: Global, out: &mut String, value: &Value) -> Result<(), OutOfMemory>
     ensures text { OnOk result (string_bytes out.new ≡ string_bytes out.old ++ spaced (value_word value.now ∷ [])) }
-    ensures shallow { OnOk result (IsValue value.now) }
-    ensures encoding { OnOk result (HasEncoding value.now) }
+    ensures ranges { OnOk result (IsValue value.now) }
 {
     let mut bytes = Vec::new(alloc);
     write_item(value.item(), &mut bytes)?;

@@ -1,11 +1,10 @@
 //! Writing the line of a message, word by word.
 
 ghost use Rattle.std.specs.Prelude.{◌≡◌, ◌++◌, ◌∷◌, [], OnOk, IfOk, IfSome, ◌<◌, ◌^◌, decimal, string_bytes};
-ghost use Rattle.std.specs.List.{AllByRecursion};
 ghost use Rattle.grasp_types.specs.Address.{IsAddress, IsLocator};
-ghost use Rattle.grasp_types.specs.Message.{IsVerdict, AreLocators, IsAnswer, AreFloodParts, IsFloodPart};
+ghost use Rattle.grasp_types.specs.Message.{IsMessage, IsVerdict, AreLocators, IsAnswer, AreFloodParts, IsFloodPart};
 ghost use Rattle.grasp_types.specs.Objective.{IsObjective, IsValue};
-ghost use Rattle.grasp_text.specs.Line.{proto_word, address_word, or_dash, value_word, locator_words, all_locator_words, objective_words, optional_objective_words, verdict_words, answer_words, locator_or_none, flood_part_words, all_flood_part_words, HasEncoding, ObjectiveHasEncoding, FloodPartHasEncoding, IsWhole, IsLineOf};
+ghost use Rattle.grasp_text.specs.Line.{proto_word, address_word, or_dash, value_word, locator_words, all_locator_words, objective_words, optional_objective_words, verdict_words, answer_words, locator_or_none, flood_part_words, all_flood_part_words, IsLineOf};
 ghost use Rattle.grasp_text.specs.Words.{spaced};
 ghost use Rattle.grasp_text.specs.Writing.{line_name, words_behind_name};
 
@@ -68,7 +67,6 @@ pub fn push_optional_value(
 ) -> Result<(), OutOfMemory>
     ensures text { OnOk result (string_bytes out.new ≡ string_bytes out.old ++ spaced (or_dash value_word value.now ∷ [])) }
     ensures ranges { OnOk result (IfSome value.now IsValue) }
-    ensures encoding { OnOk result (IfSome value.now HasEncoding) }
 {
     match value {
         Some(value) => push_value(alloc, out, value),
@@ -134,7 +132,6 @@ pub fn push_objective(
 ) -> Result<(), OutOfMemory>
     ensures text { OnOk result (string_bytes out.new ≡ string_bytes out.old ++ spaced (objective_words objective.now)) }
     ensures ranges { OnOk result (IsObjective objective.now) }
-    ensures encoding { OnOk result (ObjectiveHasEncoding objective.now) }
 {
     push_word(out, "obj")?;
     push_text(out, &objective.name)?;
@@ -183,7 +180,6 @@ fn push_optional_objective(
 ) -> Result<(), OutOfMemory>
     ensures text { OnOk result (string_bytes out.new ≡ string_bytes out.old ++ spaced (optional_objective_words objective.now)) }
     ensures ranges { OnOk result (IfSome objective.now IsObjective) }
-    ensures encoding { OnOk result (IfSome objective.now ObjectiveHasEncoding) }
 {
     match objective {
         Some(objective) => push_objective(alloc, out, objective),
@@ -227,7 +223,6 @@ pub fn push_optional_locator(
 fn push_flood_part(alloc: Global, out: &mut String, part: &FloodPart) -> Result<(), OutOfMemory>
     ensures text { OnOk result (string_bytes out.new ≡ string_bytes out.old ++ spaced (flood_part_words part.now)) }
     ensures ranges { OnOk result (IsFloodPart part.now) }
-    ensures encoding { OnOk result (FloodPartHasEncoding part.now) }
 {
     push_objective(alloc, out, &part.objective)?;
     push_optional_locator(alloc, out, &part.locator)
@@ -237,7 +232,6 @@ fn push_flood_part(alloc: Global, out: &mut String, part: &FloodPart) -> Result<
 fn push_flood_parts(alloc: Global, out: &mut String, parts: &FloodParts) -> Result<(), OutOfMemory>
     ensures text { OnOk result (string_bytes out.new ≡ string_bytes out.old ++ spaced (all_flood_part_words parts.now)) }
     ensures ranges { OnOk result (AreFloodParts parts.now) }
-    ensures encoding { OnOk result (AllByRecursion FloodPartHasEncoding parts.now) }
 {
     for i in 0..parts.len() {
         let Some(part) = parts.at(i) else {
@@ -259,7 +253,6 @@ fn push_session_objective(
     ensures text { OnOk result (string_bytes out.new ≡ string_bytes out.old ++ spaced (decimal session ∷ objective_words objective.now)) }
     ensures session { session < 2 ^ 32 }
     ensures ranges { OnOk result (IsObjective objective.now) }
-    ensures encoding { OnOk result (ObjectiveHasEncoding objective.now) }
 {
     push_number(out, u64::from(session))?;
     push_objective(alloc, out, objective)
@@ -304,7 +297,7 @@ fn name_of(message: &Message) -> &'static str
 #[tactic(auto, using(crate::proofs::Pushed::pushes))]
 fn push_behind_name(alloc: Global, out: &mut String, message: &Message) -> Result<(), OutOfMemory>
     ensures text { OnOk result (string_bytes out.new ≡ string_bytes out.old ++ spaced (words_behind_name message.now)) }
-    ensures whole { OnOk result (IsWhole message.now) }
+    ensures ranges { OnOk result (IsMessage message.now) }
 {
     match message {
         Message::Noop => Ok(()),

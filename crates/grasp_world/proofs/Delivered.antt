@@ -17,7 +17,7 @@ use Rattle.grasp_world.specs.Node.{NodeState, node_at, at_end, heard_all, fresh_
 use Rattle.grasp_world.specs.Stands.{Ran}
 use Rattle.grasp_world.proofs.Prefixes.{Parts, parts}
 use Rattle.grasp_world.proofs.Untaken.{absent_untaken}
-use Rattle.grasp_world.proofs.Hearings.{Keeps, hearing_keeps, Takes, hearing_takes, closed_hears_none}
+use Rattle.grasp_world.proofs.TalkHearing.{Keeps, hearing_keeps, Takes, hearing_takes, closed_hears_none}
 
 -- the talk after so many bytes were delivered
 abbrev heard_talk : EndState → Talk → Side → ℕ → Talk

@@ -19,7 +19,7 @@ use Rattle.grasp_wire.specs.Wire.{AreWireForms}
 use Rattle.grasp_wire.specs.declared.cutter.Cutter.{Cutter}
 use Rattle.grasp_wire.specs.declared.fault.CutFault.{CutFault}
 use Rattle.grasp_wire.specs.declared.fault.CutFault.TheVariants.{Malformed, Indefinite, NotText, TooDeep, TooLong, NotMessage, OutOfMemory}
-use Rattle.grasp_world.proofs.Hearing.{heard_all-more}
+use Rattle.grasp_world.proofs.SeatHearing.{heard_all-more}
 use Rattle.grasp_world.proofs.Wholes.{whole_fronts, given_whole}
 use Rattle.grasp_world.specs.Delivery.{IsFed}
 use Rattle.grasp_world.specs.Node.{heard_by, heard_all}

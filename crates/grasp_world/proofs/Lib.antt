@@ -1,11 +1,11 @@
 pub mod Delivering
 pub mod Feeding
-pub mod Hearing
+pub mod SeatHearing
 pub mod Runs
 pub mod Wholes
 pub mod Prefixes
 pub mod Untaken
-pub mod Hearings
+pub mod TalkHearing
 pub mod Delivered
 pub mod Sizes
 pub mod Names
@@ -23,3 +23,5 @@ pub mod WorldSays
 pub mod WorldRequests
 pub mod WorldPolls
 pub mod WorldStreams
+pub mod Onward
+pub mod Once

@@ -13,7 +13,7 @@ use Rattle.grasp_session.specs.Laws.{IsBounded, Agreement}
 use Rattle.grasp_session.proofs.Ends.{bounded, agree}
 use Rattle.grasp_world.specs.declared.event.Event.{Event}
 use Rattle.grasp_world.specs.declared.event.Event.TheVariants as event
-use Rattle.grasp_world.specs.World.{EndState, WorldState, first_world, end_at, with_end, the_timeout, began, expiry, held, waiting_in, sent_to, whole_in, is_reached, hearing}
+use Rattle.grasp_world.specs.World.{EndState, WorldState, first_world, end_at, with_end, began, expiry, held, waiting_in, sent_to, whole_in, is_reached, hearing}
 use Rattle.grasp_world.specs.Steps.{Answer, side_of, asked, requests, listens, says, polls, arrives, delivered_to, delivers, closes, step, after_all}
 use Rattle.grasp_world.specs.Laws.{IsSafe}
 use Rattle.grasp_world.specs.Stands.{Ran}
@@ -43,8 +43,8 @@ pub began_ran : (w : WorldState) (side : Side) (millis : ℕ) → Ran w.talk →
 began_ran w Near millis r = ran_more w.talk (expiry Near (max w.near.reading millis) w.talk.near.stage) r
 began_ran w Far millis r = ran_more w.talk (expiry Far (max w.far.reading millis) w.talk.far.stage) r
 
-requests_ran : (w : WorldState) (value : DataItem) (loops : ℕ) → Ran w.talk → Ran (requests w value loops).world.talk
-requests_ran w value loops r = either_ran w.dialled _ _ r (ran_one w.talk (Requests w.near.reading the_timeout 1 (asked value loops)) r)
+requests_ran : (w : WorldState) (value : DataItem) (loops timeout : ℕ) → Ran w.talk → Ran (requests w value loops timeout).world.talk
+requests_ran w value loops timeout r = either_ran w.dialled _ _ r (ran_one w.talk (Requests w.near.reading timeout 1 (asked value loops)) r)
 
 listens_ran : (w : WorldState) (o : Option Transcript) → waiting_in w.far w.talk.far.stage ≡ o → Ran w.talk → Ran (listens w).world.talk
 listens_ran w None e r = rw e r
@@ -78,7 +78,7 @@ closes_ran w side r = either_ran (is_reached w side) _ _ (end_ran w side _ _ (ra
 
 pub step_ran : (w : WorldState) (e : Event) → Ran w.talk → Ran (step w e).world.talk
 step_ran w (event.Clock end millis) r = began_ran w (side_of end) millis r
-step_ran w (event.Request value loops) r = requests_ran (began w Near 0) value loops (began_ran w Near 0 r)
+step_ran w (event.Request value loops timeout) r = requests_ran (began w Near 0) value loops timeout (began_ran w Near 0 r)
 step_ran w event.Listen r = listens_ran (began w Far 0) _ refl (began_ran w Far 0 r)
 step_ran w (event.Step end handle value) r = says_ran (began w (side_of end) 0) (side_of end) handle (SayStep value) _ refl (began_ran w (side_of end) 0 r)
 step_ran w (event.Wait end handle millis) r = says_ran (began w (side_of end) 0) (side_of end) handle (SayWait millis) _ refl (began_ran w (side_of end) 0 r)

@@ -27,6 +27,10 @@ head_within : (major n : ℕ) → length (shortest_head major n) ≤ 9
 unfolding shortest_head
 head_within major n = sized_within (shortest_size n) major n
 
+-- a number is a short value
+pub unsigned_short : (n : ℕ) → IsShortValue (unsigned n)
+unsigned_short n = omega (arith, head_within 0 n)
+
 -- what follows a head
 after_head : (major n : ℕ) (bytes : List ℕ) (most : ℕ) → length bytes ≤ most → length (shortest_head major n ++ bytes) ≤ 9 + most
 after_head major n bytes most h = omega (arith, head_within major n, length-append (shortest_head major n) bytes)

@@ -11,6 +11,7 @@ use Rattle.grasp_cbor.specs.Ending.{IsPartial}
 use Rattle.grasp_cbor.specs.Shortest.{shortest}
 use Rattle.grasp_cbor.proofs.Cases.{item_here}
 use Rattle.grasp_cbor.proofs.HeadBytes.{AllBytes-drop, AllBytes-take}
+use Rattle.grasp_cbor.proofs.ShortestBytes.{shortest_bytes}
 use Rattle.grasp_types.specs.Message.{item_of}
 use Rattle.grasp_types.specs.declared.message.Message.{Message}
 use Rattle.grasp_wire.specs.Wire.{IsWireForm}
@@ -20,7 +21,6 @@ use Rattle.grasp_wire.specs.Laws.{encoded, IsSendable}
 use Rattle.grasp_wire.proofs.Dividing.{all_given_at_none}
 use Rattle.grasp_wire.proofs.Joins.{divides_more, divides_alone}
 use Rattle.grasp_wire.proofs.ReadingOn.{nothing_waits}
-use Rattle.grasp_wire.proofs.ShortestBytes.{shortest_bytes}
 use Rattle.grasp_wire.proofs.ShortestForm.{shortest_form, sendable_encodable}
 use Rattle.grasp_world.specs.World.{whole_in}
 

@@ -30,7 +30,7 @@ polled (Some progress) = report.Polled progress
 polled_is : (w : WorldState) (side : Side) (number : ℕ) (told : Option Progress) (o : Option Transcript) → told ≡ polled_at (seat_of (node_at w side)) number → held w side number ≡ o → told ≡ option_map progress_of o
 polled_is w side number told o e h = e ∙ ap (option_map progress_of) (held_same w side number ∙ h)
 
-report_held : (w : WorldState) (side : Side) (number : ℕ) (o : Option Transcript) → held w side number ≡ o → polled (option_map progress_of o) ≡ (polls w side number).report
+pub report_held : (w : WorldState) (side : Side) (number : ℕ) (o : Option Transcript) → held w side number ≡ o → polled (option_map progress_of o) ≡ (polls w side number).report
 report_held w side number None h = rw h refl
 report_held w side number (Some v) h = rw h refl
 

@@ -8,7 +8,7 @@ use Rattle.grasp_session.specs.Messages.{Near}
 use Rattle.grasp_session.specs.Transcript.{opening}
 use Rattle.grasp_session.specs.Sessions.{Sessions}
 use Rattle.grasp_session.specs.Talk.{Stage, Absent, Refused, Present, Talk, Requests, requests, moved}
-use Rattle.grasp_world.specs.World.{WorldState, with_taken, the_timeout}
+use Rattle.grasp_world.specs.World.{WorldState, with_taken}
 use Rattle.grasp_world.specs.Steps as step
 use Rattle.grasp_world.specs.Steps.{asked}
 use Rattle.grasp_world.specs.Seat.{SeatState, is_begun, requested_at, Holds}
@@ -44,44 +44,44 @@ pub begun_not : (world : World) (w : WorldState) → Stands world w → world.di
 begun_not world w s d = sym s.begun ∙ (sym s.dialled ∙ d)
 
 -- the world after it
-abbrev asking : WorldState → DataItem → ℕ → WorldState
-asking w value loops = having_spoken w true Near (with_taken w.near) (ReqNeg 1 (asked value loops)) (Present (opening Negotiation Near the_timeout w.near.reading 1 (asked value loops)))
+abbrev asking : WorldState → DataItem → ℕ → ℕ → WorldState
+asking w value loops timeout = having_spoken w true Near (with_taken w.near) (ReqNeg 1 (asked value loops)) (Present (opening Negotiation Near timeout w.near.reading 1 (asked value loops)))
 
-asks_talk : (w : WorldState) (value : DataItem) (loops : ℕ) → w.talk.near.stage ≡ Absent → moved w.talk (Requests w.near.reading the_timeout 1 (asked value loops)) ≡ (asking w value loops).talk
-asks_talk w value loops e = ap (requests w.talk w.near.reading the_timeout 1 (asked value loops)) e
+asks_talk : (w : WorldState) (value : DataItem) (loops timeout : ℕ) → w.talk.near.stage ≡ Absent → moved w.talk (Requests w.near.reading timeout 1 (asked value loops)) ≡ (asking w value loops timeout).talk
+asks_talk w value loops timeout e = ap (requests w.talk w.near.reading timeout 1 (asked value loops)) e
 
-asks_world : (w : WorldState) (value : DataItem) (loops : ℕ) → w.dialled ≡ false → w.talk.near.stage ≡ Absent → (step.requests w value loops).world ≡ asking w value loops
-asks_world w value loops d e =
+asks_world : (w : WorldState) (value : DataItem) (loops timeout : ℕ) → w.dialled ≡ false → w.talk.near.stage ≡ Absent → (step.requests w value loops timeout).world ≡ asking w value loops timeout
+asks_world w value loops timeout d e =
     rw d
-    (ap (λ (t : Talk). record { near = with_taken w.near; far = w.far; dialled = true; arrived = w.arrived; talk = t }) (asks_talk w value loops e))
+    (ap (λ (t : Talk). record { near = with_taken w.near; far = w.far; dialled = true; arrived = w.arrived; talk = t }) (asks_talk w value loops timeout e))
 
-asks_sound : (w : WorldState) (value : DataItem) (loops : ℕ) → w.talk.near.stage ≡ Absent → Ran w.talk → Sound (asking w value loops)
-asks_sound w value loops e r = record {
+asks_sound : (w : WorldState) (value : DataItem) (loops timeout : ℕ) → w.talk.near.stage ≡ Absent → Ran w.talk → Sound (asking w value loops timeout)
+asks_sound w value loops timeout e r = record {
   begun = refl;
   named = λ _. refl;
-  ran = subst Ran (asks_talk w value loops e) (ran_one w.talk (Requests w.near.reading the_timeout 1 (asked value loops)) r);
+  ran = subst Ran (asks_talk w value loops timeout e) (ran_one w.talk (Requests w.near.reading timeout 1 (asked value loops)) r);
 }
 
 abbrev pub having_dialled : World → Node → World
 having_dialled world n = record { near = n; far = world.far; dialled = true; arrived = world.arrived }
 
 -- the node's seat was not told before
-asks_near : (n : Node) (w : WorldState) (value : DataItem) (loops : ℕ) → w.near.told ≡ false
-    → node.Stands n (having_sent (with_seat (node_at w Near) (requested_at w.near.reading (asked value loops))) (ReqNeg 1 (asked value loops)))
-    → node.Stands n (having_sent (staged (node_at w Near) (with_taken w.near) (Present (opening Negotiation Near the_timeout w.near.reading 1 (asked value loops)))) (ReqNeg 1 (asked value loops)))
-asks_near n w value loops t s = rw t s
+asks_near : (n : Node) (w : WorldState) (value : DataItem) (loops timeout : ℕ) → w.near.told ≡ false
+    → node.Stands n (having_sent (with_seat (node_at w Near) (requested_at w.near.reading timeout (asked value loops))) (ReqNeg 1 (asked value loops)))
+    → node.Stands n (having_sent (staged (node_at w Near) (with_taken w.near) (Present (opening Negotiation Near timeout w.near.reading 1 (asked value loops)))) (ReqNeg 1 (asked value loops)))
+asks_near n w value loops timeout t s = rw t s
 
-pub asks_stands : (world : World) (n : Node) (w : WorldState) (value : DataItem) (loops : ℕ) → Stands world w → world.dialled ≡ false
-    → node.Stands n (having_sent (with_seat (node_at w Near) (requested_at w.near.reading (asked value loops))) (ReqNeg 1 (asked value loops)))
-    → Stands (having_dialled world n) (step.requests w value loops).world
-asks_stands world n w value loops s d near =
+pub asks_stands : (world : World) (n : Node) (w : WorldState) (value : DataItem) (loops timeout : ℕ) → Stands world w → world.dialled ≡ false
+    → node.Stands n (having_sent (with_seat (node_at w Near) (requested_at w.near.reading timeout (asked value loops))) (ReqNeg 1 (asked value loops)))
+    → Stands (having_dialled world n) (step.requests w value loops timeout).world
+asks_stands world n w value loops timeout s d near =
     let first : w.dialled ≡ false = sym s.dialled ∙ d in
     let e = near_absent world w s first in
-    let o = asks_sound w value loops e s.ran in
-    let here = asks_near n w value loops (holds_untold s.near.seat.sessions world.near.seat.handle (seat_of (node_at w Near)) e s.near.seat.holds) near in
-    subst (Stands (having_dialled world n)) (sym (asks_world w value loops first e)) (record {
-      near = near_spoke n w true (with_taken w.near) (ReqNeg 1 (asked value loops)) (Present (opening Negotiation Near the_timeout w.near.reading 1 (asked value loops))) here;
-      far = far_spoken world.far w true (with_taken w.near) (ReqNeg 1 (asked value loops)) (Present (opening Negotiation Near the_timeout w.near.reading 1 (asked value loops))) s.far;
+    let o = asks_sound w value loops timeout e s.ran in
+    let here = asks_near n w value loops timeout (holds_untold s.near.seat.sessions world.near.seat.handle (seat_of (node_at w Near)) e s.near.seat.holds) near in
+    subst (Stands (having_dialled world n)) (sym (asks_world w value loops timeout first e)) (record {
+      near = near_spoke n w true (with_taken w.near) (ReqNeg 1 (asked value loops)) (Present (opening Negotiation Near timeout w.near.reading 1 (asked value loops))) here;
+      far = far_spoken world.far w true (with_taken w.near) (ReqNeg 1 (asked value loops)) (Present (opening Negotiation Near timeout w.near.reading 1 (asked value loops))) s.far;
       dialled = refl;
       arrived = s.arrived;
       begun = o.begun;
@@ -89,5 +89,5 @@ asks_stands world n w value loops s d near =
       ran = o.ran;
     })
 
-pub asks_report : (w : WorldState) (value : DataItem) (loops : ℕ) → w.dialled ≡ false → report.Started 1 ≡ (step.requests w value loops).report
-asks_report w value loops d = rw d refl
+pub asks_report : (w : WorldState) (value : DataItem) (loops timeout : ℕ) → w.dialled ≡ false → report.Started 1 ≡ (step.requests w value loops timeout).report
+asks_report w value loops timeout d = rw d refl

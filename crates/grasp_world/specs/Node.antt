@@ -34,18 +34,18 @@ seat_of n = record { stage = n.stage; taken = n.end.taken; told = n.end.told }
 
 -- the node with this seat
 abbrev pub with_seat : NodeState → SeatState → NodeState
-with_seat n s = record { end = record { reading = n.end.reading; taken = s.taken; told = s.told; closed = n.end.closed; delivered = n.end.delivered }; stage = s.stage; taken = n.taken; mine = n.mine; theirs = n.theirs }
+with_seat n s = record n { end = record n.end { taken = s.taken; told = s.told }; stage = s.stage }
 
 abbrev pub at_end : NodeState → EndState → NodeState
-at_end n e = record { end = e; stage = n.stage; taken = n.taken; mine = n.mine; theirs = n.theirs }
+at_end n e = record n { end = e }
 
 -- the node where the other end sent these in all
 abbrev pub with_theirs : NodeState → List Message → NodeState
-with_theirs n ms = record { end = n.end; stage = n.stage; taken = n.taken; mine = n.mine; theirs = ms }
+with_theirs n ms = record n { theirs = ms }
 
 -- the node has sent this, too
 abbrev pub having_sent : NodeState → Message → NodeState
-having_sent n m = record { end = n.end; stage = n.stage; taken = n.taken; mine = n.mine ++ m ∷ []; theirs = n.theirs }
+having_sent n m = record n { mine = n.mine ++ m ∷ [] }
 
 -- no session, and nothing sent
 abbrev pub first_node : EndState → NodeState
@@ -55,7 +55,7 @@ first_node e = record { end = e; stage = Absent; taken = []; mine = []; theirs =
 abbrev pub after_beginning : NodeState → ℕ → NodeState
 after_beginning n millis = at_reading (max n.end.reading millis) where
   at_reading : ℕ → NodeState
-  at_reading now = record { end = with_reading n.end now; stage = expired now n.stage; taken = n.taken; mine = n.mine; theirs = n.theirs }
+  at_reading now = record n { end = with_reading n.end now; stage = expired now n.stage }
 
 -- what an agent is answered that said something
 abbrev pub reply_of : Result Message SessionRefused → Result (Unit {0}) SessionRefused
@@ -88,7 +88,7 @@ fresh_in n count = drop (length n.taken) (whole_in count n.theirs)
 -- after so many bytes of the other end were delivered in all
 abbrev pub after_delivery : NodeState → ℕ → NodeState
 after_delivery n count =
-    if is_open n.stage then record { end = with_delivered n.end count; stage = heard_all n.end.reading (fresh_in n count) n.stage; taken = reverse (whole_in count n.theirs); mine = n.mine; theirs = n.theirs }
+    if is_open n.stage then record n { end = with_delivered n.end count; stage = heard_all n.end.reading (fresh_in n count) n.stage; taken = reverse (whole_in count n.theirs) }
     else at_end n (with_delivered n.end count)
 
 -- the bytes delivered after the next so many, of which there may be fewer

@@ -27,11 +27,11 @@ abbrev pub empty_seat : SeatState
 empty_seat = record { stage = Absent; taken = false; told = false }
 
 abbrev pub at_stage : SeatState → Stage → SeatState
-at_stage s stage = record { stage = stage; taken = s.taken; told = s.told }
+at_stage s stage = record s { stage = stage }
 
--- the session that begins with a request of this end
-abbrev pub requested_at : ℕ → Objective → SeatState
-requested_at now o = record { stage = Present (opening Negotiation Near the_timeout now 1 o); taken = true; told = false }
+-- the session that begins with a request of this end, with this timeout
+abbrev pub requested_at : ℕ → ℕ → Objective → SeatState
+requested_at now timeout o = record { stage = Present (opening Negotiation Near timeout now 1 o); taken = true; told = false }
 
 -- the session that begins with a request that came
 abbrev pub opened_at : ℕ → ℕ → Objective → SeatState
@@ -102,7 +102,7 @@ polled_at s number = option_map progress_of (held_at s number)
 
 abbrev pub after_polling : SeatState → Option Progress → SeatState
 after_polling s None = s
-after_polling s (Some progress) = record { stage = s.stage; taken = s.taken; told = tells progress }
+after_polling s (Some progress) = record s { told = tells progress }
 
 -- the request that waits for an agent, which takes it
 abbrev pub waiting_at : SeatState → Option Objective
@@ -110,7 +110,7 @@ waiting_at s = option_map request_of (waiting_in (end_of s) s.stage)
 
 abbrev pub after_listening : SeatState → Option Objective → SeatState
 after_listening s None = s
-after_listening s (Some objective) = record { stage = s.stage; taken = true; told = s.told }
+after_listening s (Some objective) = record s { taken = true }
 
 -- ---- what the code keeps
 

@@ -40,7 +40,7 @@ IsShortSaying (SayInvalid detail) = IsShortDetail detail
 
 -- each value and text of the event is short
 abbrev pub IsShort : Event → Type 0
-IsShort (Request value loops) = IsShortValue value
+IsShort (Request value loops timeout) = IsShortValue value
 IsShort (Step end handle value) = IsShortValue value
 IsShort (Finish end handle verdict) = IsShortVerdict verdict
 IsShort (Invalid end handle detail) = IsShortValue detail

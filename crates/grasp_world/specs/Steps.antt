@@ -19,7 +19,7 @@ use Rattle.grasp_world.specs.declared.event.Event.{Event}
 use Rattle.grasp_world.specs.declared.event.Event.TheVariants as event
 use Rattle.grasp_world.specs.declared.report.Report.{Report}
 use Rattle.grasp_world.specs.declared.report.Report.TheVariants.{Reading, Started, Incoming, NotYet, Done, Polled, Refused, Taken, Nothing}
-use Rattle.grasp_world.specs.World.{WorldState, end_at, with_end, with_talk, with_taken, with_told, with_closed, with_delivered, the_name, the_timeout, began, held, waiting_in, sent_to, whole_in, is_reached, hearing}
+use Rattle.grasp_world.specs.World.{WorldState, end_at, with_end, with_talk, with_taken, with_told, with_closed, with_delivered, the_name, began, held, waiting_in, sent_to, whole_in, is_reached, hearing}
 
 -- the agent knows the outcome from this progress
 abbrev pub tells : Progress → Bool
@@ -47,11 +47,11 @@ clocks w side = answer (Reading (end_at w side).reading) w
 abbrev pub asked : DataItem → ℕ → Objective
 asked value loops = record { name = the_name; flags = 2; loops = loops; value = Some value }
 
--- the first request begins the near session and dials the stream; another changes nothing
-abbrev pub requests : WorldState → DataItem → ℕ → Answer
-requests w value loops =
+-- the first request begins the near session, with its timeout, and dials the stream; another changes nothing
+abbrev pub requests : WorldState → DataItem → ℕ → ℕ → Answer
+requests w value loops timeout =
     if w.dialled then answer Nothing w
-    else answer (Started 1) (record { near = with_taken w.near; far = w.far; dialled = true; arrived = w.arrived; talk = moved w.talk (Requests w.near.reading the_timeout 1 (asked value loops)) })
+    else answer (Started 1) (record w { near = with_taken w.near; dialled = true; talk = moved w.talk (Requests w.near.reading timeout 1 (asked value loops)) })
 
 -- the far agent takes the session that waits
 abbrev pub listens : WorldState → Answer
@@ -90,7 +90,7 @@ polls w side number = by_session (held w side number) where
 -- the stream is opened at the far end, once
 abbrev pub arrives : WorldState → Answer
 arrives w =
-    if w.dialled && not w.arrived then answer Taken (record { near = w.near; far = w.far; dialled = w.dialled; arrived = true; talk = w.talk }) else answer Nothing w
+    if w.dialled && not w.arrived then answer Taken (record w { arrived = true }) else answer Nothing w
 
 -- after so many bytes of the other side were delivered to this one: it takes the messages that are whole now and weren't before
 abbrev pub delivered_to : WorldState → Side → ℕ → WorldState
@@ -111,7 +111,7 @@ closes w side =
 -- what an event comes to, after the beginning at its end
 abbrev pub step : WorldState → Event → Answer
 step w (event.Clock end millis) = clocks (began w (side_of end) millis) (side_of end)
-step w (event.Request value loops) = requests (began w Near 0) value loops
+step w (event.Request value loops timeout) = requests (began w Near 0) value loops timeout
 step w event.Listen = listens (began w Far 0)
 step w (event.Step end handle value) = says (began w (side_of end) 0) (side_of end) handle (SayStep value)
 step w (event.Wait end handle millis) = says (began w (side_of end) 0) (side_of end) handle (SayWait millis)

@@ -38,33 +38,33 @@ end_at w Far = w.far
 
 -- the world with this end and this conversation
 abbrev pub with_end : WorldState → Side → EndState → Talk → WorldState
-with_end w Near e talk = record { near = e; far = w.far; dialled = w.dialled; arrived = w.arrived; talk = talk }
-with_end w Far e talk = record { near = w.near; far = e; dialled = w.dialled; arrived = w.arrived; talk = talk }
+with_end w Near e talk = record w { near = e; talk = talk }
+with_end w Far e talk = record w { far = e; talk = talk }
 
 abbrev pub with_talk : WorldState → Talk → WorldState
-with_talk w talk = record { near = w.near; far = w.far; dialled = w.dialled; arrived = w.arrived; talk = talk }
+with_talk w talk = record w { talk = talk }
 
 -- ends that differ in one thing
 abbrev pub with_reading : EndState → ℕ → EndState
-with_reading e reading = record { reading = reading; taken = e.taken; told = e.told; closed = e.closed; delivered = e.delivered }
+with_reading e reading = record e { reading = reading }
 
 abbrev pub with_taken : EndState → EndState
-with_taken e = record { reading = e.reading; taken = true; told = e.told; closed = e.closed; delivered = e.delivered }
+with_taken e = record e { taken = true }
 
 abbrev pub with_told : EndState → Bool → EndState
-with_told e told = record { reading = e.reading; taken = e.taken; told = told; closed = e.closed; delivered = e.delivered }
+with_told e told = record e { told = told }
 
 abbrev pub with_closed : EndState → EndState
-with_closed e = record { reading = e.reading; taken = e.taken; told = e.told; closed = true; delivered = e.delivered }
+with_closed e = record e { closed = true }
 
 abbrev pub with_delivered : EndState → ℕ → EndState
-with_delivered e delivered = record { reading = e.reading; taken = e.taken; told = e.told; closed = e.closed; delivered = delivered }
+with_delivered e delivered = record e { delivered = delivered }
 
 -- the name of the objective
 abbrev pub the_name : List ℕ
 the_name = 120 ∷ []
 
--- the milliseconds after which a session times out
+-- the milliseconds after which the listener's session times out (RFC 8990, section 2.5.5)
 abbrev pub the_timeout : ℕ
 the_timeout = 60000
 

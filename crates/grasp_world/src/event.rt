@@ -1,6 +1,7 @@
 //! What happens in a world of two nodes.
 
 ghost use Rattle.std.specs.Prelude.{◌≡◌, IfOk};
+ghost use Rattle.grasp_world.specs.Saying.{IsSaying};
 
 use grasp_cbor::OutOfMemory;
 use grasp_types::{Value, Verdict};
@@ -22,10 +23,11 @@ pub enum Event {
         end: End,
         millis: u64,
     },
-    /// The agent of the near node requests a negotiation, with this value and loop count and a timeout of 60000 ms.
+    /// The agent of the near node requests a negotiation, with this value, loop count and timeout in milliseconds.
     Request {
         value: Value,
         loops: u8,
+        timeout: u32,
     },
     /// The agent of the far node asks for a request that came.
     Listen,
@@ -65,7 +67,8 @@ pub enum Event {
         end: End,
         count: u64,
     },
-    /// This end is told that the stream is closed, and gets nothing more.
+    /// This end is told that the stream is closed, and gets nothing more. Nothing happens where the stream has not this
+    /// end: before the stream arrives the far end can't be told.
     Cut {
         end: End,
     },
@@ -78,11 +81,36 @@ impl Event {
     {
         match *self {
             Event::Clock { end, millis } => Ok(Event::Clock { end, millis }),
-            Event::Request { ref value, loops } => {
+            Event::Request {
+                ref value,
+                loops,
+                timeout,
+            } => {
                 let value = value.copy()?;
-                Ok(Event::Request { value, loops })
+                Ok(Event::Request {
+                    value,
+                    loops,
+                    timeout,
+                })
             }
             Event::Listen => Ok(Event::Listen),
+            Event::Poll { end, handle } => Ok(Event::Poll { end, handle }),
+            Event::Arrive => Ok(Event::Arrive),
+            Event::Bytes { end, count } => Ok(Event::Bytes { end, count }),
+            Event::Cut { end } => Ok(Event::Cut { end }),
+            Event::Step { .. }
+            | Event::Wait { .. }
+            | Event::Finish { .. }
+            | Event::Invalid { .. } => self.copy_saying(),
+        }
+    }
+
+    /// Another of the same, of what an agent says in its session.
+    fn copy_saying(&self) -> Result<Event, OutOfMemory>
+        requires { IsSaying self.now }
+        ensures { IfOk result (λ r. r ≡ self.now) }
+    {
+        match *self {
             Event::Step {
                 end,
                 handle,
@@ -124,10 +152,7 @@ impl Event {
                     detail,
                 })
             }
-            Event::Poll { end, handle } => Ok(Event::Poll { end, handle }),
-            Event::Arrive => Ok(Event::Arrive),
-            Event::Bytes { end, count } => Ok(Event::Bytes { end, count }),
-            Event::Cut { end } => Ok(Event::Cut { end }),
+            _ => unreachable!(),
         }
     }
 }

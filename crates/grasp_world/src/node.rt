@@ -83,11 +83,16 @@ impl Node {
         self.sent.as_slice()
     }
 
-    /// The agent requests, for the first time.
-    pub(crate) fn request(&mut self, value: Value, loops: u8) -> Result<(), OutOfMemory>
+    /// The agent requests, for the first time, with this timeout in milliseconds.
+    pub(crate) fn request(
+        &mut self,
+        value: Value,
+        loops: u8,
+        timeout: u32,
+    ) -> Result<(), OutOfMemory>
         requires first { (n : NodeState) × Stands self.old n × (is_begun n.stage ≡ false) }
         requires fits { Fits (Message.ReqNeg 1 (asked value loops)) }
-        ensures { OnOk result ((n : NodeState) → Stands self.old n → Stands self.new (having_sent (with_seat n (requested_at n.end.reading (asked value loops))) (Message.ReqNeg 1 (asked value loops)))) }
+        ensures { OnOk result ((n : NodeState) → Stands self.old n → Stands self.new (having_sent (with_seat n (requested_at n.end.reading timeout (asked value loops))) (Message.ReqNeg 1 (asked value loops)))) }
     {
         let objective = objective_of(self.alloc, value, loops)?;
         let message = Message::ReqNeg {
@@ -95,7 +100,8 @@ impl Node {
             objective,
         };
         self.send(&message)?;
-        self.seat.request(self.reading, requested_by(message));
+        self.seat
+            .request(self.reading, timeout, requested_by(message));
         Ok(())
     }
 

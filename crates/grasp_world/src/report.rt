@@ -21,6 +21,7 @@ pub enum Report {
     Refused(ApiRefused),
     /// What was delivered or told was taken.
     Taken,
-    /// There is no such stream or end, or it was told before that the stream is closed.
+    /// Nothing came of it: the stream has not this end or the end was told before that it is closed, or it is a second
+    /// request, or a second arrival.
     Nothing,
 }

@@ -19,7 +19,7 @@ const AGENT: u32 = 1;
 /// The one stream, by its number.
 const STREAM: u64 = 1;
 
-/// The milliseconds after which the session times out.
+/// The milliseconds after which the session of a request that came times out.
 const TIMEOUT: u32 = 60000;
 
 /// A table of sessions that has at most one, and the handle of that one since it began.
@@ -43,10 +43,10 @@ impl Seat {
         })
     }
 
-    /// Begins the session with a request that this end sends, which is the agent's.
-    pub(crate) fn request(&mut self, now: u64, objective: Objective)
+    /// Begins the session with a request that this end sends, which is the agent's, with this timeout in milliseconds.
+    pub(crate) fn request(&mut self, now: u64, timeout: u32, objective: Objective)
         requires { Stands self.old empty_seat }
-        ensures { Stands self.new (requested_at now objective) }
+        ensures { Stands self.new (requested_at now timeout objective) }
     {
         self.begin(
             now,
@@ -56,7 +56,7 @@ impl Seat {
                 requester: true,
                 session: 1,
                 stream: STREAM,
-                timeout: TIMEOUT,
+                timeout,
                 objective,
                 taken: true,
             },

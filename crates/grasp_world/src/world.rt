@@ -49,7 +49,11 @@ impl World {
     {
         match event {
             Event::Clock { end, millis } => Ok(self.clock(end, millis)),
-            Event::Request { value, loops } => self.request(value, loops),
+            Event::Request {
+                value,
+                loops,
+                timeout,
+            } => self.request(value, loops, timeout),
             Event::Listen => self.listen(),
             Event::Step { end, handle, value } => self.say(end, handle, Saying::Step(value)),
             Event::Wait {
@@ -95,17 +99,17 @@ impl World {
         }
     }
 
-    fn request(&mut self, value: Value, loops: u8) -> Result<Report, OutOfMemory>
+    fn request(&mut self, value: Value, loops: u8, timeout: u32) -> Result<Report, OutOfMemory>
         requires stands { (w : WorldState) × Stands self.old w }
         requires short { IsShortValue value }
-        ensures report { IfOk result (λ report. (w : WorldState) → Stands self.old w → report ≡ (requests (began w Near 0) value loops).report) }
-        ensures world { OnOk result ((w : WorldState) → Stands self.old w → Stands self.new (requests (began w Near 0) value loops).world) }
+        ensures report { IfOk result (λ report. (w : WorldState) → Stands self.old w → report ≡ (requests (began w Near 0) value loops timeout).report) }
+        ensures world { OnOk result ((w : WorldState) → Stands self.old w → Stands self.new (requests (began w Near 0) value loops timeout).world) }
     {
         self.begin(End::Near, 0);
         if self.dialled {
             return Ok(Report::Nothing);
         }
-        self.near.request(value, loops)?;
+        self.near.request(value, loops, timeout)?;
         self.dialled = true;
         Ok(Report::Started(1))
     }

@@ -1,5 +1,5 @@
 use Rattle.std.proofs.Common.{rules, ◌≤◌, ◌+◌, length}
-use Rattle.grasp_replay.proofs.Packing.{room_for_one, more_packed, packed_to}
+use Rattle.grasp_replay.proofs.Packing.{room_for_one, more_packed, packed_to, all_packed}
 use Rattle.grasp_replay.proofs.pack.pack.Goals as goal
 
 pub overflow_add-line : goal.overflow_add-line
@@ -12,3 +12,6 @@ returns-in-Some c = packed_to c.args.limit c.args.input.now c.loop-rest.rest.now
 
 pub loop-rest-preserved : goal.loop-rest-preserved
 loop-rest-preserved c = more_packed c.args.limit c.args.input.now c.loop-rest.rest.now c.split_line.result.0.now c.split_line.result.1.now _ _ _ c.loop-rest.invariant c.split_line.ensures.first (rw c.in_default.is at c.in_ok-finding.ensures)
+
+pub returns : goal.returns
+returns c = all_packed c.args.limit c.args.input.now c.loop-rest.rest.now c.loop-rest.output.items c.loop-rest.line c.loop-rest.invariant (search rules)

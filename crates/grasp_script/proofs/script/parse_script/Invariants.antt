@@ -1,10 +1,11 @@
 use Rattle.std.proofs.Common.{◌+◌, ◌≤◌, length}
+use Rattle.grasp_script.specs.Script.{lines_of}
 use Rattle.grasp_script.proofs.LinesRead.{LinesRead}
 use Rattle.grasp_script.proofs.script.parse_script.Given as goal
 
 abbrev pub invariant-loop-line : goal.invariant-loop-line
 invariant-loop-line l = record {
-  read : LinesRead l.text l.rest l.script l.number l.requested;
+  read : LinesRead l.text (lines_of l.rest) l.script l.number l.requested;
   room : l.number + length l.rest ≤ length l.text;
 }
 

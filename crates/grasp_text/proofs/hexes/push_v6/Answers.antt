@@ -1,4 +1,4 @@
-use Rattle.std.proofs.Common.{rules, arith, ◌≡◌, ◌++◌, ◌∷◌, [], string_bytes, sym, ap, ◌∙◌}
+use Rattle.std.proofs.Common.{rules, ◌≡◌, ◌++◌, ◌∷◌, [], string_bytes, ap, ◌∙◌}
 use Rattle.hex.specs.Hex.{encode_lower}
 use Rattle.grasp_text.specs.Line.{v6_word}
 use Rattle.grasp_text.proofs.HexWords.{word_pushed}

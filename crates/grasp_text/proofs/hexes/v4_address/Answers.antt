@@ -1,8 +1,8 @@
-use Rattle.std.proofs.Common.{rules, arith, ◌≡◌, Bool, true, false, List, ℕ, Some, None, cond, sym, ap, ◌∙◌}
+use Rattle.std.proofs.Common.{rules, ◌≡◌, Bool, true, false, None, cond, sym, ap, ◌∙◌}
 use Rattle.std.specs.Int.{w32, from_be_bytes}
 use Rattle.std.specs.Str.{bytes_eq}
 use Rattle.hex.specs.Hex.{decode_sized, encode_lower}
-use Rattle.grasp_text.specs.Reading.{number_of_hex, v4_of}
+use Rattle.grasp_text.specs.Reading.{v4_of}
 use Rattle.grasp_text.proofs.HexWords.{refused, taken}
 use Rattle.grasp_text.proofs.NumberWords.{some}
 use Rattle.grasp_text.proofs.hexes.v4_address.Goals as goal

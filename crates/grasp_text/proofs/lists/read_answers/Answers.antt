@@ -1,9 +1,8 @@
-use Rattle.std.proofs.Common.{rules, arith, ◌≡◌, ◌++◌, ◌∷◌, [], List, ℕ, false, true, Some, None, Ok, sym, ap, ◌∙◌}
+use Rattle.std.proofs.Common.{rules, ◌++◌, ◌∷◌, [], List, ℕ, Some, Ok, sym, ap, ◌∙◌}
 use Rattle.grasp_types.specs.declared.address.Locator.{Locator}
 use Rattle.grasp_types.specs.declared.objective.Objective.{Objective}
-use Rattle.grasp_text.specs.Grammar.{answers_at, final_objective_at, locator_at, locators_at}
+use Rattle.grasp_text.specs.Grammar.{answers_at, locators_at}
 use Rattle.grasp_text.specs.Reading.{Parsed, ◌>>=◌}
-use Rattle.grasp_text.specs.Words.{is_over, is_next}
 use Rattle.grasp_text.proofs.ListLaws.{answers_over, answers_objective, answers_locator}
 use Rattle.grasp_text.proofs.PartLaws.{locator_shorter}
 use Rattle.grasp_text.proofs.lists.read_answers.Goals as goal

@@ -1,8 +1,7 @@
-use Rattle.std.proofs.Common.{rules, arith, ◌≡◌, ◌++◌, ◌∷◌, [], List, ℕ, false, true, Ok, sym, ap, ◌∙◌}
+use Rattle.std.proofs.Common.{rules, ◌++◌, ◌∷◌, [], List, ℕ, sym, ap, ◌∙◌}
 use Rattle.grasp_types.specs.declared.flood.FloodPart.{FloodPart}
-use Rattle.grasp_text.specs.Grammar.{flood_part_at, flood_parts_at, parts_at}
+use Rattle.grasp_text.specs.Grammar.{flood_parts_at, parts_at}
 use Rattle.grasp_text.specs.Reading.{Parsed, ◌>>=◌}
-use Rattle.grasp_text.specs.Words.{is_over}
 use Rattle.grasp_text.proofs.ListLaws.{parts_over, parts_next, part_shorter}
 use Rattle.grasp_text.proofs.lists.read_flood_parts.Goals as goal
 

@@ -1,4 +1,4 @@
-use Rattle.std.proofs.Common.{◌≡◌, Err, Ok, sym, ap, subst, ◌∙◌}
+use Rattle.std.proofs.Common.{◌≡◌, Err, sym, ap, subst, ◌∙◌}
 use Rattle.grasp_text.specs.Grammar.{message_at}
 use Rattle.grasp_text.specs.Reading.{Fails}
 use Rattle.grasp_text.specs.Words.{words_of}

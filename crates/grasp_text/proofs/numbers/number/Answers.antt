@@ -1,4 +1,4 @@
-use Rattle.std.proofs.Common.{arith, ◌≡◌, refl, sym, ◌∙◌}
+use Rattle.std.proofs.Common.{arith, sym, ◌∙◌}
 use Rattle.grasp_text.proofs.NumberWords.{number_by, number_by_none, chosen}
 use Rattle.grasp_text.proofs.numbers.number.Goals as goal
 

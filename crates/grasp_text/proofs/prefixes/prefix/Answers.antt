@@ -1,6 +1,5 @@
-use Rattle.std.proofs.Common.{rules, ◌≡◌, ℕ, Option, Some, None, sym, ap, ◌∙◌}
-use Rattle.grasp_text.specs.Reading.{block_of}
-use Rattle.grasp_text.proofs.PrefixWords.{block_only, none_by_word, none_by_range, prefix_found, prefix_none}
+use Rattle.std.proofs.Common.{sym}
+use Rattle.grasp_text.proofs.PrefixWords.{none_by_word, prefix_found, prefix_none}
 use Rattle.grasp_text.proofs.prefixes.prefix.Goals as goal
 
 pub returns-in-Some-clause-found : goal.returns-in-Some-clause-found

@@ -1,4 +1,4 @@
-use Rattle.std.proofs.Common.{arith, ◌≡◌, ◌++◌, ◌∷◌, [], List, ℕ, get_or, string_bytes, sym, ap, ◌∙◌, append_assoc, take}
+use Rattle.std.proofs.Common.{◌++◌, ◌∷◌, List, ℕ, get_or, string_bytes, sym, ap, ◌∙◌, append_assoc, take}
 use Rattle.grasp_text.specs.Line.{all_escaped, escaped}
 use Rattle.grasp_text.proofs.TextWords.{escaped_more}
 use Rattle.grasp_text.proofs.texts.push_text.Goals as goal

@@ -1,5 +1,5 @@
-use Rattle.std.proofs.Common.{rules, arith, ◌≡◌, Option, List, ℕ, Some, sym, ap, subst, ◌∙◌}
-use Rattle.grasp_text.specs.Reading.{text_of, text_behind, as_text, unescaped}
+use Rattle.std.proofs.Common.{rules, ◌≡◌, Some, sym, ap}
+use Rattle.grasp_text.specs.Reading.{text_of, text_behind, unescaped}
 use Rattle.grasp_text.proofs.TextWords.{text_by}
 use Rattle.grasp_text.proofs.texts.text.Goals as goal
 

@@ -1,4 +1,4 @@
-use Rattle.std.proofs.Common.{rules, arith, ◌≡◌, List, ℕ, sym, ap, ◌∙◌}
+use Rattle.std.proofs.Common.{rules, List, ℕ, sym, ap, ◌∙◌}
 use Rattle.grasp_text.specs.Reading.{unescaped}
 use Rattle.grasp_text.proofs.TextWords.{with_front, goes_on, ends, is_done}
 use Rattle.grasp_text.proofs.texts.unescape.Goals as goal

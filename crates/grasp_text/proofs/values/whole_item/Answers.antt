@@ -1,4 +1,4 @@
-use Rattle.std.proofs.Common.{rules, arith, ◌≡◌, ◌+◌, length, Some, Ok, sym, ap, ◌∙◌}
+use Rattle.std.proofs.Common.{rules, ◌≡◌, length, Ok, ap}
 use Rattle.grasp_cbor.specs.Ending.{whole, partial}
 use Rattle.grasp_cbor.specs.Item.{data_item_of}
 use Rattle.grasp_cbor.specs.ReadItem.{ending_of}

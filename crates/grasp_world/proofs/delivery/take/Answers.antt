@@ -1,5 +1,5 @@
 use Rattle.std.proofs.Common.{sym, ◌∙◌}
-use Rattle.grasp_world.proofs.Hearing.{empty_stands, nothing_begins}
+use Rattle.grasp_world.proofs.SeatHearing.{empty_stands, nothing_begins}
 use Rattle.grasp_world.proofs.delivery.take.Goals as goal
 
 pub open-requires : goal.open-requires

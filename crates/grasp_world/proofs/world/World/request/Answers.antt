@@ -12,4 +12,4 @@ pub returns-clause-world : goal.returns-clause-world
 returns-clause-world c = λ v t.
     let w = began v Near 0 in
     let s = c.begin.ensures v t in
-    asks_stands c.begin.new.self c.request.new.self w c.args.value c.args.loops s c.if-self.false (c.in_ok-request.ensures (node_at w Near) s.near)
+    asks_stands c.begin.new.self c.request.new.self w c.args.value c.args.loops c.args.timeout s c.if-self.false (c.in_ok-request.ensures (node_at w Near) s.near)

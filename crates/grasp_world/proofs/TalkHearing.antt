@@ -1,4 +1,4 @@
--- What an end is that takes messages of its inbox, one after the other, and what this leaves as it was.
+-- What an end of a talk is that takes messages of its inbox, one after the other, and what this leaves as it was.
 use Rattle.std.proofs.Common.{◌≡◌, ℕ, zero, suc, Bool, true, false, cond, inl, inr, List, [], ◌∷◌, ◌++◌, length, replicate, reverse, append_assoc, refl, sym, ap, ◌∙◌, subst}
 use Rattle.std.proofs.lemmas.Grind.{reverse_onto}
 use Rattle.grasp_types.specs.declared.objective.Objective.{Objective}

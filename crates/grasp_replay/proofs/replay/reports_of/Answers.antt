@@ -1,6 +1,6 @@
 use Rattle.std.proofs.Common.{sym, arith}
 use Rattle.grasp_replay.proofs.Replaying.{has_line, line_at, more_replayed, all_replayed}
-use Rattle.grasp_replay.proofs.scripts.reports_of.Goals as goal
+use Rattle.grasp_replay.proofs.replay.reports_of.Goals as goal
 
 pub replay_line-requires-clause-is_line : goal.replay_line-requires-clause-is_line
 replay_line-requires-clause-is_line c = line_at c.args.script.now c.loop-i.i c.in-Some.line.now c.requires.events (sym c.in-Some.ensures)

@@ -1,5 +1,5 @@
 use Rattle.std.proofs.Common.{rules}
-use Rattle.grasp_replay.proofs.replay.run.Goals as goal
+use Rattle.grasp_replay.proofs.program.run.Goals as goal
 
 pub returns-clause-begun : goal.returns-clause-begun
 returns-clause-begun g c = λ e. record {

@@ -1,7 +1,7 @@
 use Rattle.std.proofs.Common.{arith}
 use Rattle.grasp_cbor.proofs.HeadBytes.{AllBytes-from}
 use Rattle.grasp_replay.proofs.Tasks.{made_whole}
-use Rattle.grasp_replay.proofs.replay.make.Goals as goal
+use Rattle.grasp_replay.proofs.program.make.Goals as goal
 
 pub returns-in_ok-show-in-Show-clause-whole : goal.returns-in_ok-show-in-Show-clause-whole
 returns-in_ok-show-in-Show-clause-whole c =
