@@ -1,0 +1,12 @@
+pub mod Reading
+pub mod Deciding
+pub mod Offers
+pub mod OfferPools
+pub mod KeepDecisions
+pub mod Keeping
+pub mod KeepForms
+pub mod LawEffects
+pub mod LawOffers
+pub mod LawGains
+pub mod LawDuties
+pub mod LawKept

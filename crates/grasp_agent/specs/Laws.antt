@@ -1,0 +1,107 @@
+-- What the decisions of an agent of PrefixManager mean for addresses.
+use Rattle.std.specs.Prelude.{◌≡◌, ◌↔◌, ◌⊎◌, ℕ, ◌<◌, ◌≤◌, ◌^◌, Bool, false, List, [], ◌∷◌, ◌++◌, Option, Some, None, IsSome, Contains, slice_get}
+use Rattle.std.specs.Int.{to_be_bytes, w128}
+use Rattle.grasp_cbor.specs.DataItem.{DataItem, unsigned, byte_string, array_of}
+use Rattle.grasp_types.specs.Objective.{IsValue}
+use Rattle.grasp_types.specs.Prefix.{AddressBlock as Prefix, span_of, IsPrefix}
+use Rattle.grasp_types.specs.declared.reply.Reply.{Reply}
+use Rattle.grasp_types.specs.declared.reply.Reply.TheVariants as reply
+use Rattle.grasp_types.specs.declared.reply.ApiAnswer.TheVariants as answer
+use Rattle.grasp_types.specs.declared.session.By.TheVariants.{Theirs}
+use Rattle.grasp_types.specs.declared.session.Handle.{Handle}
+use Rattle.grasp_types.specs.declared.session.Outcome.{Outcome}
+use Rattle.grasp_types.specs.declared.session.Outcome.TheVariants as outcome
+use Rattle.grasp_types.specs.declared.session.Progress.{Progress}
+use Rattle.grasp_types.specs.declared.session.Progress.TheVariants as progress
+use Rattle.grasp_pool.specs.Answers.{IsOpened}
+use Rattle.grasp_pool.specs.Canonical.{IsLowestFree, HasNoFree}
+use Rattle.grasp_pool.specs.Holdings.{Holding, IsFree, IsListed}
+use Rattle.grasp_pool.specs.Pools.{IsPool, room_of}
+use Rattle.grasp_pool.specs.Functions.{pool_of}
+use Rattle.grasp_pool.specs.declared.roots.RootPrefix.{RootPrefix}
+use Rattle.grasp_agent.specs.Decisions.{candidates, give}
+use Rattle.grasp_agent.specs.Kept.{IsKept}
+use Rattle.grasp_agent.specs.Replies.{AgentEvent, answer_in, refused_in, is_again, progress_in, after_reply, agent_after}
+use Rattle.grasp_agent.specs.States.{AgentState, duties, duty_of}
+use Rattle.grasp_agent.specs.Values.{asked_in, offered_in, length_value, prefix_value}
+use Rattle.grasp_agent.specs.declared.act.Act.TheVariants as act
+use Rattle.grasp_agent.specs.declared.decision.Decision.TheVariants.{Offer}
+use Rattle.grasp_agent.specs.declared.duty.Duty.TheVariants.{Give}
+use Rattle.grasp_agent.specs.declared.giving.Giving.{Giving}
+
+-- a value that asks for this length: [length], or [length, the 16 bytes of any address]
+abbrev pub AsksFor : DataItem → ℕ → Type 0
+AsksFor v n = (1 ≤ n) × (n ≤ 128) × ((v ≡ length_value n) ⊎ ((a : ℕ) × (a < 2 ^ 128) × (v ≡ array_of (unsigned n ∷ byte_string (to_be_bytes w128 a) ∷ []))))
+
+-- a length is read exactly from a value that asks for it
+abbrev pub LengthsAreRead : Type 0
+LengthsAreRead = (v : DataItem) (n : ℕ) → IsValue v → (asked_in (Some v) ≡ Some n) ↔ AsksFor v n
+
+-- a prefix is read exactly from the value that offers it
+abbrev pub PrefixesAreRead : Type 0
+PrefixesAreRead = (v : DataItem) (p : Prefix) → IsValue v → (offered_in (Some v) ≡ Some p) ↔ (IsPrefix p.address p.length × (v ≡ prefix_value p))
+
+-- of the lengths that a giver tries none before this one is free, and this one is
+pub record IsFirstFree (h : Holding) (ns : List ℕ) (p : Prefix) : Type 0 where
+  pub tried : Contains ns p.length
+  pub least : IsLowestFree h.free p.length p
+  pub before : (front : List ℕ) (rest : List ℕ) → ns ≡ front ++ p.length ∷ rest → ¬ Contains front p.length → (m : ℕ) → Contains front m → HasNoFree h.free m
+
+-- a giver that is asked for a length, with loops and room enough and something free, offers the least free prefix of the first length that is free
+abbrev pub GiversOffer : Type 0
+GiversOffer = (h : Holding) (v : DataItem) (n loops m : ℕ) (first : Bool) → IsPool h → asked_in (Some v) ≡ Some n → 2 ≤ loops → 128 ≤ room_of h
+    → Contains (candidates n loops first) m → ¬ HasNoFree h.free m
+    → (p : Prefix) × (give h (Some v) loops first ≡ Offer p) × IsFirstFree h (candidates n loops first) p
+
+-- whatever happens to an agent of good roots, what is reserved is exactly what it offers
+abbrev pub AgentsAreKept : Type 0
+AgentsAreKept = (roots : List RootPrefix) (events : List AgentEvent) → IsOpened roots (pool_of roots) → IsKept (agent_after roots events)
+
+-- and there is a next duty
+abbrev pub ThereIsADuty : Type 0
+ThereIsADuty = (roots : List RootPrefix) (events : List AgentEvent) → (agent_after roots events).cursor < duties (agent_after roots events)
+
+-- the outcome is the peer's acceptance or its decline
+abbrev pub IsPeersEnd : Outcome → Type 0
+IsPeersEnd (outcome.Agreed Theirs o) = Unit {0}
+IsPeersEnd (outcome.Declined Theirs reason) = Unit {0}
+IsPeersEnd _ = ⊥
+
+-- the session ended by the peer's acceptance or its decline, or the turn is the giver's again
+abbrev pub MayEnd : Option Progress → Type 0
+MayEnd None = ⊥
+MayEnd (Some progress.NotYet) = ⊥
+MayEnd (Some (progress.Turn o)) = Unit {0}
+MayEnd (Some (progress.Ended outcome)) = IsPeersEnd outcome
+
+-- the reply tells of the giving session that offers p
+pub record IsTold (s : AgentState) (r : Reply) (p : Prefix) : Type 0 where
+  pub place : ℕ
+  pub giving : Giving
+  pub idle : s.act ≡ None
+  pub duty : duty_of s ≡ Give place giving.handle
+  pub entry : slice_get s.giving place ≡ Some giving
+  pub offer : giving.offer ≡ Some p
+  pub told : MayEnd (progress_in (answer_in r))
+
+-- p was to be offered, and the node refused it, so that it was never sent
+pub record IsUnsent (s : AgentState) (r : Reply) (p : Prefix) : Type 0 where
+  pub place : ℕ
+  pub handle : Handle
+  pub act : s.act ≡ Some (act.Offer place handle p)
+  pub refused : IsSome (refused_in r)
+  pub last : is_again r ≡ false
+
+-- a doubtful prefix stays in doubt
+abbrev pub DoubtsStay : Type 0
+DoubtsStay = (s : AgentState) (r : Reply) (p : Prefix) → IsKept s → Contains s.pool.doubtful p → Contains (after_reply s r).pool.doubtful p
+
+-- an offer stays reserved, or is in doubt, until its session tells what became of it: where the session breaks, times out or
+-- becomes invalid it stays so
+abbrev pub OffersStayListed : Type 0
+OffersStayListed = (s : AgentState) (r : Reply) (p : Prefix) → IsKept s → Contains s.pool.reserved p → IsListed (after_reply s r).pool p ⊎ (IsTold s r p ⊎ IsUnsent s r p)
+
+-- an address that becomes free was an offer's, or lies in the prefix whose acceptance is done
+abbrev pub GainsAreAccepted : Type 0
+GainsAreAccepted = (s : AgentState) (r : Reply) (a : ℕ) → IsKept s → IsFree (after_reply s r).pool a
+    → IsFree s.pool a ⊎ (((p : Prefix) × Contains s.pool.reserved p × span_of p a) ⊎ ((h : Handle) × (p : Prefix) × (s.act ≡ Some (act.Accept h p)) × (r ≡ reply.Api answer.Done) × span_of p a))

@@ -1,0 +1,9 @@
+pub mod Values
+pub mod Decisions
+pub mod States
+pub mod Calls
+pub mod Replies
+pub mod Kept
+pub mod Stored
+pub mod Laws
+pub mod Announcing

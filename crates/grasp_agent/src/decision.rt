@@ -1,0 +1,49 @@
+//! What an agent of PrefixManager decides in its turn.
+
+ghost use Rattle.std.specs.Prelude.{◌≡◌};
+ghost use Rattle.grasp_agent.specs.Calls.{reason_text};
+
+use grasp_types::Prefix;
+
+/// Why an agent declines.
+#[derive(Clone, Copy, Debug, PartialEq, Eq)]
+pub(crate) enum Reason {
+    /// The value isn't one of PrefixManager.
+    BadValue,
+    /// There is no loop left for an offer.
+    NoLoops,
+    /// No prefix is free.
+    NoPrefix,
+    /// The prefix is longer than the longest that is wanted.
+    TooSmall,
+    /// The prefix can't be gained.
+    NotTaken,
+}
+
+impl Reason {
+    /// What the peer is told.
+    pub(crate) fn text(self) -> &'static str
+        ensures { result.now ≡ reason_text self }
+    {
+        match self {
+            Reason::BadValue => "bad-value",
+            Reason::NoLoops => "no-loops",
+            Reason::NoPrefix => "no-prefix",
+            Reason::TooSmall => "too-small",
+            Reason::NotTaken => "not-taken",
+        }
+    }
+}
+
+/// What an agent decides.
+#[derive(Clone, Copy, Debug, PartialEq, Eq)]
+pub(crate) enum Decision {
+    /// A giver offers this prefix.
+    Offer(Prefix),
+    /// A requester asks again for this length.
+    Counter(u8),
+    /// A requester accepts this prefix.
+    Accept(Prefix),
+    /// Either declines.
+    Decline(Reason),
+}

@@ -1,0 +1,515 @@
+//! The agent that manages prefixes (RFC 8992).
+
+ghost use Rattle.std.specs.Prelude.{◌≡◌, ◌≤◌, Some, None, IfOk, IfSome, MatchResult, Contains, slice_get};
+ghost use Rattle.grasp_pool.specs.Answers.{IsOpened, IsRootFault};
+ghost use Rattle.grasp_pool.specs.Functions.{pool_of};
+ghost use Rattle.grasp_agent.specs.Calls.{next_call, opening_call, asking_call};
+ghost use Rattle.grasp_agent.specs.Decisions.{give, after_give};
+ghost use Rattle.grasp_agent.specs.Kept.{IsKept};
+ghost use Rattle.grasp_agent.specs.Replies.{want_reply, after_want, after_reply, after_opening, after_incoming, after_act, after_dropping, after_doing, after_asking, after_duty, after_want_progress, after_give_progress, after_giver_turn, after_giver_end, finished, giving_back, settled, settling, advanced, incoming_in, answer_in};
+ghost use Rattle.grasp_agent.specs.States.{first_agent, duties, duty_of, giving_duty, want_session};
+
+use crate::act::Act;
+use crate::agent::Agent;
+use crate::decision::Decision;
+use crate::duty::{Duty, objective_name};
+use crate::giver::give;
+use crate::giving::Giving;
+use crate::replies::{
+    incoming, is_again, is_answered, is_done, number, progress, refused, started,
+};
+use crate::requester::ask;
+use crate::stage::Stage;
+use crate::want::{Want, WantEnd, WantFault, is_asking, session_of};
+use grasp_cbor::{Chars, OutOfMemory};
+use grasp_pool::{Pool, PoolFault, RootPrefix};
+use grasp_types::{By, Call, Flags, Handle, Locator, Objective, Outcome, Prefix, Progress, Reply};
+use std::alloc::Global;
+use std::marker::Model;
+
+/// An agent gives in at most so many sessions at once.
+const MOST_GIVING: usize = 64;
+
+/// F_DISC and F_NEG (RFC 8990, section 2.10.2).
+const FLAGS: u8 = 3;
+
+/// The agent that manages the prefixes of a node: it gives prefixes to the agents of other nodes, and asks for one where
+/// it is told to want one.
+///
+/// `open` takes all the memory that it will need, but for what a call holds.
+#[derive(Drop)]
+pub struct PrefixAgent {
+    alloc: Global,
+    pool: Pool,
+    asa: u32,
+    stage: Stage,
+    want: Option<Want>,
+    giving: Vec<Giving>,
+    act: Option<Act>,
+    cursor: u64,
+    last: Option<WantEnd>,
+}
+
+impl Model for PrefixAgent {
+    ghost use Rattle.grasp_agent.specs.States.{AgentState};
+    ghost use Rattle.grasp_agent.specs.Stored.{state_of, IsStored};
+
+    ghost Value = { AgentState };
+
+    ghost view = { state_of };
+
+    ghost invariant = { IsStored };
+}
+
+impl PrefixAgent {
+    /// An agent whose pool is that of the roots, and that has made no call.
+    ///
+    /// The faults are those of `Pool::open`, in its order.
+    pub fn open(alloc: Global, roots: &[RootPrefix]) -> Result<PrefixAgent, PoolFault>
+        ensures agent { IfOk result (λ agent. agent ≡ first_agent (pool_of roots.now)) }
+        ensures opened { MatchResult result (λ _. IsOpened roots.now (pool_of roots.now)) (λ fault. IsRootFault roots.now fault) }
+        ensures kept { IfOk result IsKept }
+    {
+        let pool = Pool::open(alloc, roots)?;
+        let Ok(giving) = Vec::with_capacity(alloc, MOST_GIVING) else {
+            return Err(PoolFault::OutOfMemory);
+        };
+        Ok(PrefixAgent {
+            alloc,
+            pool,
+            asa: 0,
+            stage: Stage::Registering,
+            want: None,
+            giving,
+            act: None,
+            cursor: 0,
+            last: None,
+        })
+    }
+
+    /// Wants a prefix of this length, or one that is longer, up to the longest, and asks this peer for it.
+    ///
+    /// `Busy` exactly where a want isn't finished, then `Full` exactly where the pool has no room. It takes no memory.
+    pub fn want(&mut self, length: u8, longest: u8, peer: Locator) -> Result<(), WantFault>
+        requires least { 1 ≤ length }
+        requires ordered { length ≤ longest }
+        requires most { longest ≤ 128 }
+        ensures reply { result ≡ want_reply self.old }
+        ensures after { self.new ≡ after_want self.old length longest peer result }
+        ensures kept { IsKept self.new }
+    {
+        if let Some(want) = &self.want {
+            return Err(WantFault::Busy {
+                length: want.length,
+                longest: want.longest,
+            });
+        }
+        if self.pool.room() == 0 {
+            return Err(WantFault::Full);
+        }
+        self.want = Some(Want {
+            length,
+            longest,
+            peer,
+            session: None,
+        });
+        Ok(())
+    }
+
+    /// The pool of the agent's prefixes. Those that are free are held by the node.
+    pub fn pool(&self) -> &Pool
+        ensures pool { result.now ≡ self.now.pool }
+        ensures kept { IsKept self.now }
+    {
+        &self.pool
+    }
+
+    /// How the want that was finished last ended, or `None` where none was.
+    pub fn last(&self) -> Option<WantEnd>
+        ensures { result ≡ self.now.last }
+    {
+        self.last
+    }
+
+    /// The opening call that is next.
+    #[tactic(auto, unfolding(crate::specs::Calls::agent_name))]
+    fn opening_call(&self) -> Result<Call, OutOfMemory>
+        ensures { IfOk result (λ call. call ≡ opening_call self.now.stage) }
+    {
+        match self.stage {
+            Stage::Registering => Ok(Call::RegisterAsa {
+                name: Chars::of(self.alloc, "prefix agent")?,
+            }),
+            Stage::Declaring => Ok(Call::RegisterObjective {
+                name: objective_name(self.alloc)?,
+                flags: flags(),
+            }),
+            Stage::Opening | Stage::Serving => Ok(Call::ListenNegotiate {
+                name: objective_name(self.alloc)?,
+            }),
+        }
+    }
+
+    /// The request of a want that wasn't requested, and else the duty that is next.
+    fn asking_call(&self) -> Result<Call, OutOfMemory>
+        ensures { IfOk result (λ call. call ≡ asking_call self.now.want (duty_of self.now)) }
+    {
+        if let Some(want) = &self.want {
+            if want.session.is_none() {
+                return want.call(self.alloc);
+            }
+        }
+        self.duty().call(self.alloc)
+    }
+
+    /// The duty that is next.
+    fn duty(&self) -> Duty
+        ensures { result ≡ duty_of self.now }
+    {
+        if self.cursor == 0 {
+            return Duty::Listen;
+        }
+        match session_of(&self.want) {
+            None => self.giving_duty(self.cursor - 1),
+            Some(handle) if self.cursor == 1 => Duty::Want(handle),
+            Some(_) => self.giving_duty(self.cursor - 2),
+        }
+    }
+
+    /// The giving session at this place, as a duty.
+    fn giving_duty(&self, place: u64) -> Duty
+        ensures { result ≡ giving_duty self.now.giving place }
+    {
+        match self.giving.get(place as usize) {
+            Some(giving) => Duty::Give {
+                place,
+                handle: giving.handle,
+            },
+            None => Duty::Listen,
+        }
+    }
+
+    /// How many duties there are.
+    fn duties(&self) -> u64
+        ensures { result ≡ duties self.now }
+    {
+        let before = match session_of(&self.want) {
+            None => 1,
+            Some(_) => 2,
+        };
+        before + self.giving.len() as u64
+    }
+
+    /// Goes on by the reply to the call that was next.
+    #[tactic(auto, unfolding(crate::specs::Replies::after_reply))]
+    fn go_on_by(&mut self, reply: &Reply)
+        ensures { self.new ≡ after_reply self.old reply.now }
+    {
+        if is_again(reply) {
+            return;
+        }
+        if !self.stage.is_open() {
+            return self.open_further(reply);
+        }
+        if let Some(act) = self.act {
+            return self.finish_act(act, reply);
+        }
+        if is_asking(&self.want) {
+            return self.finish_asking(reply);
+        }
+        let duty = self.duty();
+        self.finish_duty(duty, reply);
+        self.advance();
+    }
+
+    /// Takes the reply to an opening call.
+    fn open_further(&mut self, reply: &Reply)
+        ensures { self.new ≡ after_opening self.old reply.now }
+    {
+        match self.stage {
+            Stage::Registering => {
+                if let Some(number) = number(reply) {
+                    self.asa = number;
+                    self.stage = Stage::Declaring;
+                }
+            }
+            Stage::Declaring => {
+                if is_done(reply) {
+                    self.stage = Stage::Opening;
+                }
+            }
+            Stage::Opening => {
+                if is_answered(reply) {
+                    self.stage = Stage::Serving;
+                    self.take_in(reply);
+                }
+            }
+            Stage::Serving => (),
+        }
+    }
+
+    /// Takes a session that a peer began as the last in which this agent gives.
+    fn take_in(&mut self, reply: &Reply)
+        ensures { self.new ≡ after_incoming self.old (incoming_in (answer_in reply.now)) }
+    {
+        if let Some(handle) = incoming(reply) {
+            if self.giving.len() < MOST_GIVING {
+                let giving = Giving {
+                    handle,
+                    offer: None,
+                    first: true,
+                };
+                let Ok(()) = self.giving.push(giving) else {
+                    unreachable!()
+                };
+            }
+        }
+    }
+
+    /// Takes the reply to an act.
+    fn finish_act(&mut self, act: Act, reply: &Reply)
+        requires { self.old.act ≡ Some act }
+        ensures { self.new ≡ after_act self.old act reply.now }
+    {
+        if refused(reply).is_some() {
+            self.drop_act(act);
+        } else if is_done(reply) {
+            self.do_act(act);
+        }
+    }
+
+    /// Drops an act that was refused. A prefix that it would have offered goes back.
+    fn drop_act(&mut self, act: Act)
+        requires { self.old.act ≡ Some act }
+        ensures { self.new ≡ after_dropping self.old act }
+    {
+        self.act = None;
+        if let Act::Offer {
+            place,
+            handle: _,
+            prefix,
+        } = act
+        {
+            let place = place as usize;
+            self.giving[place] = self.giving[place].without_offer();
+            self.pool.give_back(prefix);
+        }
+    }
+
+    /// An act is done. An acceptance gains its prefix.
+    fn do_act(&mut self, act: Act)
+        requires { self.old.act ≡ Some act }
+        ensures { self.new ≡ after_doing self.old act }
+    {
+        self.act = None;
+        if let Act::Accept { handle: _, prefix } = act {
+            let _gained = self.pool.gain(prefix);
+        }
+    }
+
+    /// Takes the reply to the request of a want.
+    fn finish_asking(&mut self, reply: &Reply)
+        requires none { self.old.act ≡ None }
+        ensures { self.new ≡ after_asking self.old reply.now }
+    {
+        if let Some(refused) = refused(reply) {
+            self.finish_want(WantEnd::Refused(refused));
+        } else if let Some(handle) = started(reply) {
+            if let Some(want) = &mut self.want {
+                want.session = Some(handle);
+            }
+        }
+    }
+
+    /// The want is finished.
+    fn finish_want(&mut self, end: WantEnd)
+        requires none { self.old.act ≡ None }
+        ensures { self.new ≡ finished self.old end }
+    {
+        self.want = None;
+        self.last = Some(end);
+    }
+
+    /// Takes the reply to a duty.
+    fn finish_duty(&mut self, duty: Duty, reply: &Reply)
+        requires none { self.old.act ≡ None }
+        requires next { duty ≡ duty_of self.old }
+        ensures { self.new ≡ after_duty self.old duty reply.now }
+    {
+        match duty {
+            Duty::Listen => self.take_in(reply),
+            Duty::Want(handle) => {
+                if let Some(progress) = progress(reply) {
+                    self.go_on(handle, progress);
+                }
+            }
+            Duty::Give { place, handle: _ } => {
+                if let Some(progress) = progress(reply) {
+                    self.go_on_giving(place, progress);
+                }
+            }
+        }
+    }
+
+    /// The session of the want stands so.
+    fn go_on(&mut self, handle: Handle, progress: &Progress)
+        requires none { self.old.act ≡ None }
+        requires session { want_session self.old.want ≡ Some handle }
+        ensures { self.new ≡ after_want_progress self.old self.old.want handle (Some progress.now) }
+    {
+        let Some(want) = &self.want else {
+            return;
+        };
+        match progress {
+            Progress::NotYet => (),
+            Progress::Turn(objective) => {
+                let decision = ask(&self.pool, want, objective);
+                self.act = Some(Act::of_want(handle, decision));
+            }
+            Progress::Ended(outcome) => self.finish_want(WantEnd::of(outcome)),
+        }
+    }
+
+    /// The giving session at this place stands so.
+    fn go_on_giving(&mut self, place: u64, progress: &Progress)
+        requires none { self.old.act ≡ None }
+        ensures { self.new ≡ after_give_progress self.old place (slice_get self.old.giving place) (Some progress.now) }
+    {
+        let Some(giving) = self.giving.get(place as usize).copied() else {
+            return;
+        };
+        match progress {
+            Progress::NotYet => (),
+            Progress::Turn(objective) => self.decide(place, giving, objective),
+            Progress::Ended(outcome) => self.settle(place, giving, outcome),
+        }
+    }
+
+    /// The turn is this agent's in a giving session: its last offer goes back, and it decides anew.
+    fn decide(&mut self, place: u64, giving: Giving, objective: &Objective)
+        requires none { self.old.act ≡ None }
+        requires place { slice_get self.old.giving place ≡ Some giving }
+        ensures { self.new ≡ after_giver_turn self.old place giving objective.now }
+    {
+        let handle = giving.handle;
+        let decision = decision_of(&mut self.pool, &giving, objective);
+        self.giving[place as usize] = giving.after(&decision);
+        self.act = Some(Act::of_giver(place, handle, decision));
+    }
+
+    /// A giving session ended: its offer is confirmed, goes back or is in doubt, and the session leaves.
+    fn settle(&mut self, place: u64, giving: Giving, outcome: &Outcome)
+        requires none { self.old.act ≡ None }
+        requires place { slice_get self.old.giving place ≡ Some giving }
+        ensures { self.new ≡ after_giver_end self.old place giving outcome.now }
+    {
+        settle_last(&mut self.pool, giving.offer, outcome);
+        let _left = self.giving.remove(place as usize);
+    }
+
+    /// The next duty comes, and after the last one the first.
+    fn advance(&mut self)
+        ensures { self.new ≡ advanced self.old }
+    {
+        self.cursor = if self.cursor + 1 < self.duties() {
+            self.cursor + 1
+        } else {
+            0
+        };
+    }
+}
+
+impl Agent for PrefixAgent {
+    ghost next_call = { next_call };
+
+    ghost after_reply = { after_reply };
+
+    ghost number = { λ agent. agent.asa };
+
+    #[tactic(auto, unfolding(crate::specs::Calls::next_call))]
+    fn next(&self) -> Result<Call, OutOfMemory>
+        ensures { IfOk result (λ call. call ≡ next_call self.now) }
+    {
+        if !self.stage.is_open() {
+            return self.opening_call();
+        }
+        match self.act {
+            Some(act) => act.call(self.alloc),
+            None => self.asking_call(),
+        }
+    }
+
+    fn take(&mut self, reply: &Reply)
+        ensures reply { self.new ≡ after_reply self.old reply.now }
+        ensures kept { IsKept self.new }
+    {
+        self.go_on_by(reply);
+        // What is true of every agent is known where a field is read.
+        let _pool = &self.pool;
+    }
+
+    fn asa(&self) -> u32
+        ensures { result ≡ self.now.asa }
+    {
+        self.asa
+    }
+}
+
+/// What a giver decides in its turn, once its last offer went back.
+fn decision_of(pool: &mut Pool, giving: &Giving, objective: &Objective) -> Decision
+    requires { IfSome giving.now.offer (λ prefix. Contains pool.old.reserved prefix) }
+    ensures decides { result ≡ give (giving_back pool.old giving.now.offer) objective.now.value objective.now.loops giving.now.first }
+    ensures after { pool.new ≡ after_give (giving_back pool.old giving.now.offer) result }
+{
+    take_back(pool, giving.offer);
+    give(pool, &objective.value, objective.loops, giving.first)
+}
+
+/// An offer that was made before goes back.
+fn take_back(pool: &mut Pool, offer: Option<Prefix>)
+    requires { IfSome offer (λ prefix. Contains pool.old.reserved prefix) }
+    ensures { pool.new ≡ giving_back pool.old offer }
+{
+    if let Some(prefix) = offer {
+        pool.give_back(prefix);
+    }
+}
+
+/// What becomes of the last offer of a session that ended, where there is one.
+fn settle_last(pool: &mut Pool, offer: Option<Prefix>, outcome: &Outcome)
+    requires { IfSome offer (λ prefix. Contains pool.old.reserved prefix) }
+    ensures { pool.new ≡ settling pool.old offer outcome.now }
+{
+    if let Some(prefix) = offer {
+        settle_offer(pool, prefix, outcome);
+    }
+}
+
+/// What becomes of an offer when its session ends: it is confirmed by the peer's acceptance, free by the peer's decline,
+/// and in doubt by all else.
+fn settle_offer(pool: &mut Pool, prefix: Prefix, outcome: &Outcome)
+    requires { Contains pool.old.reserved prefix }
+    ensures { pool.new ≡ settled pool.old prefix outcome.now }
+{
+    match outcome {
+        Outcome::Agreed {
+            by: By::Theirs,
+            objective: _,
+        } => pool.confirm(prefix),
+        Outcome::Declined {
+            by: By::Theirs,
+            reason: _,
+        } => pool.give_back(prefix),
+        _ => pool.doubt(prefix),
+    }
+}
+
+/// The flags of the agent's objective.
+fn flags() -> Flags
+    ensures { result ≡ 3 }
+{
+    match Flags::of(FLAGS) {
+        Some(flags) => flags,
+        None => unreachable!(),
+    }
+}
