@@ -4,9 +4,10 @@
 usage: fuzz_streams.py PROGRAM [MESSAGES [SEED]]
 
 It goes on until the streams had MESSAGES messages (1,000,000), from SEED (the time) on, and prints each stream's seed
-where something is wrong. It checks that the program ends with a status of its own and one line on standard error, that
-the lines of what it shows are packed to a stream that shows the same lines, and that the stream, cut at some place,
-shows the first of these lines.
+where something is wrong. It checks that the messages show the same lines in longer encodings and with indefinite
+lengths, and are packed from them as they were; that the program ends with a status of its own and one line on standard
+error; that the lines of what it shows of a spoilt stream are packed to a stream that shows the same lines; and that this
+stream, cut at some place, shows the first of these lines.
 """
 import pathlib
 import random
@@ -18,7 +19,7 @@ sys.path.insert(0, str(pathlib.Path(__file__).resolve().parent.parent / "bench")
 from make_messages import Messages  # noqa: E402
 
 FINDINGS = [
-    b"malformed at ", b"indefinite at ", b"not text at ", b"too deep at ", b"too long at ", b"not a message at ",
+    b"malformed at ", b"not text at ", b"too deep at ", b"too long at ", b"not a message at ",
     b"truncated at ", b"bad text in line ", b"too long in line ",
 ]
 
@@ -46,12 +47,51 @@ def mutated(draw, stream):
     return bytes(octets)
 
 
+def head(draw, major, number):
+    """A head of some width that has room for the number."""
+    widths = [w for w in (0, 1, 2, 4, 8) if number < (24 if w == 0 else 1 << 8 * w)]
+    width = draw.choice(widths[:2] if draw.random() < 0.9 else widths)
+    if width == 0:
+        return bytes([major << 5 | number])
+    return bytes([major << 5 | 23 + width.bit_length()]) + number.to_bytes(width, "big")
+
+
+def loosened(draw, octets, at=0):
+    """Another encoding of the item that stands at this place, and the place behind it."""
+    start, major, detail = at, octets[at] >> 5, octets[at] & 31
+    width = 0 if detail < 24 else 1 << detail - 24
+    number = int.from_bytes(octets[at + 1:at + 1 + width], "big") if width else detail
+    at += 1 + width
+    is_open = draw.random() < 0.3
+    if major in (2, 3):
+        inside = octets[at:at + number]
+        middle = draw.randrange(number + 1)
+        while major == 3 and middle < number and inside[middle] & 0xC0 == 0x80:
+            middle += 1
+        chunks = [inside[:middle], inside[middle:]] if is_open else [inside]
+        out = b"".join(head(draw, major, len(chunk)) + chunk for chunk in chunks)
+        at += number
+    elif major in (4, 5, 6):
+        out = b"" if is_open and major != 6 else head(draw, major, number)
+        for _ in range({4: number, 5: 2 * number, 6: 1}[major]):
+            part, at = loosened(draw, octets, at)
+            out += part
+    else:
+        return (octets[start:at] if major == 7 else head(draw, major, number)), at
+    return (bytes([major << 5 | 31]) + out + b"\xff" if is_open and major != 6 else out), at
+
+
 def check(program, seed):
     """Checks one stream, and answers how many messages it had."""
     draw = random.Random(seed)
     messages = Messages(seed)
     count = draw.choice([1, 10, 1000, 20000])
-    stream = mutated(draw, b"".join(messages.message() for _ in range(count)))
+    shortest = [messages.message() for _ in range(count)]
+    loose = b"".join(loosened(draw, message)[0] for message in shortest)
+    status, lines, errors = call(program, "show", loose)
+    assert (status, errors) == (0, b""), f"longer encodings: {errors}"
+    assert call(program, "pack", lines) == (0, b"".join(shortest), b""), "lines of longer encodings are packed otherwise"
+    stream = mutated(draw, loose if draw.random() < 0.5 else b"".join(shortest))
     if draw.random() < 0.02:
         stream = draw.randbytes(draw.randrange(5000))
     status, lines, errors = call(program, "show", stream)

@@ -10,9 +10,10 @@ use Rattle.grasp_pool.specs.Pools.{IsPool, IsTaken, IsNotTaken, room_of}
 use Rattle.grasp_pool.specs.Functions.{take_reply, after_take}
 use Rattle.grasp_pool.proofs.Meanings.{take_answers}
 use Rattle.grasp_agent.specs.Values.{asked_in}
-use Rattle.grasp_agent.specs.Decisions.{upward, tries, rounded, candidates, given_or, first_given, give}
-use Rattle.grasp_agent.specs.Laws.{IsFirstFree, GiversOffer}
-use Rattle.grasp_agent.specs.declared.decision.Decision.TheVariants.{Offer}
+use Rattle.grasp_agent.specs.Decisions.{upward, tries, rounded, candidates, given_or, first_given, giver_decision}
+use Rattle.grasp_agent.specs.Deciding.{IsFirstFree}
+use Rattle.grasp_agent.specs.Laws.{GiversOffer}
+use Rattle.grasp_agent.specs.declared.decision.GiverDecision.TheVariants.{Offer}
 use Rattle.grasp_agent.proofs.Reading.{asked_range}
 
 -- ---- the first that is given, by its parts
@@ -56,29 +57,29 @@ first_upward h (suc k) n pos =
 
 -- ---- members of lists of lengths
 
-none_in : (x : ℕ) → Contains [] x → ⊥
+pub none_in : (x : ℕ) → Contains [] x → ⊥
 none_in x (k, lt, is) = absurd (omega arith)
 
-cons_first : (x : ℕ) (xs : List ℕ) → Contains (x ∷ xs) x
+pub cons_first : (x : ℕ) (xs : List ℕ) → Contains (x ∷ xs) x
 cons_first x xs = (zero, omega arith, refl)
 
-cons_more : (x y : ℕ) (xs : List ℕ) → Contains xs y → Contains (x ∷ xs) y
+pub cons_more : (x y : ℕ) (xs : List ℕ) → Contains xs y → Contains (x ∷ xs) y
 cons_more x y xs (k, lt, is) = (suc k, omega arith, is)
 
-cons_cases : (x y : ℕ) (xs : List ℕ) → Contains (x ∷ xs) y → (x ≡ y) ⊎ Contains xs y
+pub cons_cases : (x y : ℕ) (xs : List ℕ) → Contains (x ∷ xs) y → (x ≡ y) ⊎ Contains xs y
 cons_cases x y xs (zero, lt, is) = inl is
 cons_cases x y xs (suc k, lt, is) = inr (k, omega arith, is)
 
-head_same : (x y : ℕ) (xs ys : List ℕ) → x ∷ xs ≡ y ∷ ys → x ≡ y
+pub head_same : (x y : ℕ) (xs ys : List ℕ) → x ∷ xs ≡ y ∷ ys → x ≡ y
 head_same x y xs ys e = cc
 
-tail_same : (x y : ℕ) (xs ys : List ℕ) → x ∷ xs ≡ y ∷ ys → xs ≡ ys
+pub tail_same : (x y : ℕ) (xs ys : List ℕ) → x ∷ xs ≡ y ∷ ys → xs ≡ ys
 tail_same x y xs ys e = cc
 
 -- ---- the first of a list of lengths that is free
 
 -- each is the length of a prefix
-abbrev AreLengths : List ℕ → Type 0
+abbrev pub AreLengths : List ℕ → Type 0
 AreLengths ns = (m : ℕ) → Contains ns m → (1 ≤ m) × (m ≤ 128)
 
 -- a pool with room gives the lowest, or has nothing of this length
@@ -92,7 +93,7 @@ taking h n pool room range = choose (take_reply h n) (take_answers h n pool rang
     choose (Some p) k = k.least
 
 -- what is given is the first that is free, and where nothing is given nothing is
-abbrev IsGiven : Holding → List ℕ → Option Prefix → Type 0
+abbrev pub IsGiven : Holding → List ℕ → Option Prefix → Type 0
 IsGiven h ns o = MatchOption o ((m : ℕ) → Contains ns m → HasNoFree h.free m) (λ p. IsFirstFree h ns p)
 
 taken_first : (h : Holding) (n : ℕ) (ns : List ℕ) (p : Prefix) → IsLowestFree h.free n p → IsFirstFree h (n ∷ ns) p
@@ -120,7 +121,7 @@ none_of h n ns none rest m has = elim (cons_cases n m ns has) [
   | inr more ↦ rest m more
 ]
 
-first_is_free : (h : Holding) (ns : List ℕ) → IsPool h → 128 ≤ room_of h → AreLengths ns → IsGiven h ns (first_given h ns)
+pub first_is_free : (h : Holding) (ns : List ℕ) → IsPool h → 128 ≤ room_of h → AreLengths ns → IsGiven h ns (first_given h ns)
 unfolding first_given
 first_is_free h [] pool room lengths = λ m has. absurd (none_in m has)
 first_is_free h (n ∷ ns) pool room lengths =
@@ -162,7 +163,7 @@ rounded_range n loops m first has = choose (first && (nat_le 4 loops && nat_lt 0
       | inr more ↦ absurd (none_in m more)
     ]
 
-candidates_range : (n loops : ℕ) (first : Bool) → 1 ≤ n → n ≤ 128 → AreLengths (candidates n loops first)
+pub candidates_range : (n loops : ℕ) (first : Bool) → 1 ≤ n → n ≤ 128 → AreLengths (candidates n loops first)
 candidates_range n loops first least most m has = elim (Contains-append_cases (rounded n loops first) (upward (tries n) n) m has) [
   | inl one ↦ let r = rounded_range n loops m first one in let low : 1 ≤ m = r.0 in let high : m ≤ n = r.1 in (omega arith, omega arith)
   | inr more ↦ let r = upward_range (tries n) n m more in let low : n ≤ m = r.0 in let high : m < n + tries n = r.1 in (omega arith, omega arith)
@@ -171,11 +172,11 @@ candidates_range n loops first least most m has = elim (Contains-append_cases (r
 -- ---- a giver
 
 given : (h : Holding) (v : DataItem) (n loops : ℕ) (first : Bool) (p : Prefix) → asked_in (Some v) ≡ Some n → nat_le loops 1 ≡ false
-    → first_given h (candidates n loops first) ≡ Some p → give h (Some v) loops first ≡ Offer p
-unfolding give
+    → first_given h (candidates n loops first) ≡ Some p → giver_decision h (Some v) loops first ≡ Offer p
+unfolding giver_decision
 given h v n loops first p asked more found = rw (asked, more, found) refl
 
-more_loops : (loops : ℕ) → 2 ≤ loops → nat_le loops 1 ≡ false
+pub more_loops : (loops : ℕ) → 2 ≤ loops → nat_le loops 1 ≡ false
 more_loops loops more = search (rules, nat_tests)
 
 pub givers_offer : GiversOffer
@@ -184,6 +185,6 @@ givers_offer h v n loops m first pool asked more room has free =
     choose (first_given h (candidates n loops first)) refl (first_is_free h (candidates n loops first) pool room (candidates_range n loops first r.0 r.1))
   where
     choose : (o : Option Prefix) → first_given h (candidates n loops first) ≡ o → IsGiven h (candidates n loops first) o
-        → (p : Prefix) × (give h (Some v) loops first ≡ Offer p) × IsFirstFree h (candidates n loops first) p
+        → (p : Prefix) × (giver_decision h (Some v) loops first ≡ Offer p) × IsFirstFree h (candidates n loops first) p
     choose None e none = absurd (free (none m has))
     choose (Some p) e is = (p, given h v n loops first p asked (more_loops loops more) e, is)

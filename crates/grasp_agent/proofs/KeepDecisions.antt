@@ -9,16 +9,18 @@ use Rattle.grasp_pool.specs.Pools.{IsPool}
 use Rattle.grasp_pool.specs.Functions.{take_reply, can_gain}
 use Rattle.grasp_pool.proofs.Lists.{lt_true}
 use Rattle.grasp_agent.specs.Values.{asked_in, offered_in, length_in, number_in, length_at, address_at, beside, prefix_in}
-use Rattle.grasp_agent.specs.Decisions.{upward, tries, rounded, candidates, given_or, first_given, give, ask}
-use Rattle.grasp_agent.specs.declared.decision.Decision.{Decision}
-use Rattle.grasp_agent.specs.declared.decision.Decision.TheVariants.{Offer, Counter, Accept, Decline}
+use Rattle.grasp_agent.specs.Decisions.{upward, tries, rounded, candidates, given_or, first_given, giver_decision, requester_decision}
+use Rattle.grasp_agent.specs.declared.decision.GiverDecision.{GiverDecision}
+use Rattle.grasp_agent.specs.declared.decision.GiverDecision.TheVariants as giver
+use Rattle.grasp_agent.specs.declared.decision.RequesterDecision.{RequesterDecision}
+use Rattle.grasp_agent.specs.declared.decision.RequesterDecision.TheVariants as requester
 use Rattle.grasp_agent.specs.declared.decision.Reason.TheVariants.{BadValue, NoLoops, NoPrefix, TooSmall, NotTaken}
 use Rattle.grasp_agent.proofs.OfferPools.{IsGiven, taken_given}
 
 -- ---- what is read from a value
 
 -- the length of a prefix
-abbrev IsLength : ℕ → Type 0
+abbrev pub IsLength : ℕ → Type 0
 IsLength n = (1 ≤ n) × (n ≤ 128)
 
 -- a length that was tested is one
@@ -80,54 +82,51 @@ offered_ok (Some t) = tt
 
 -- ---- one that requests
 
--- what is accepted is valid and can be gained
-abbrev pub AskedBy : Holding → Decision → Type 0
-AskedBy h (Accept p) = IsPrefix p.address p.length × (can_gain h p ≡ true)
-AskedBy h (Offer p) = Unit {0}
-AskedBy h (Counter n) = Unit {0}
-AskedBy h (Decline reason) = Unit {0}
+-- what is accepted is valid and can be gained, and what is asked again is what is wanted
+abbrev pub AskedBy : Holding → ℕ → RequesterDecision → Type 0
+AskedBy h wanted (requester.Accept p) = IsPrefix p.address p.length × (can_gain h p ≡ true)
+AskedBy h wanted (requester.Counter n) = wanted ≡ n
+AskedBy h wanted (requester.Decline reason) = Unit {0}
 
--- its decision where a prefix is offered
-abbrev on_offer : Holding → ℕ → ℕ → ℕ → Prefix → Decision
+-- the decision where a prefix is offered
+abbrev pub on_offer : Holding → ℕ → ℕ → ℕ → Prefix → RequesterDecision
 on_offer h wanted longest loops p =
-    cond (nat_lt longest p.length) (Decline TooSmall) (cond (nat_lt p.length wanted && nat_le 2 loops) (Counter wanted) (cond (can_gain h p) (Accept p) (Decline NotTaken)))
+    cond (nat_lt longest p.length) (requester.Decline TooSmall) (cond (nat_lt p.length wanted && nat_le 2 loops) (requester.Counter wanted) (cond (can_gain h p) (requester.Accept p) (requester.Decline NotTaken)))
 
 -- no prefix is offered
-ask_none : (h : Holding) (wanted longest : ℕ) (v : Option DataItem) (loops : ℕ) → offered_in v ≡ None → ask h wanted longest v loops ≡ Decline BadValue
-unfolding ask
+pub ask_none : (h : Holding) (wanted longest : ℕ) (v : Option DataItem) (loops : ℕ) → offered_in v ≡ None → requester_decision h wanted longest v loops ≡ requester.Decline BadValue
+unfolding requester_decision
 ask_none h wanted longest v loops e = rw e refl
 
 -- a prefix is offered
-ask_some : (h : Holding) (wanted longest : ℕ) (v : Option DataItem) (loops : ℕ) (p : Prefix) → offered_in v ≡ Some p → ask h wanted longest v loops ≡ on_offer h wanted longest loops p
-unfolding ask
+pub ask_some : (h : Holding) (wanted longest : ℕ) (v : Option DataItem) (loops : ℕ) (p : Prefix) → offered_in v ≡ Some p → requester_decision h wanted longest v loops ≡ on_offer h wanted longest loops p
+unfolding requester_decision
 ask_some h wanted longest v loops p e = rw e refl
 
 -- what is accepted of an offer
-on_offer_asked : (h : Holding) (wanted longest loops : ℕ) (p : Prefix) → IsPrefix p.address p.length → AskedBy h (on_offer h wanted longest loops p)
+on_offer_asked : (h : Holding) (wanted longest loops : ℕ) (p : Prefix) → IsPrefix p.address p.length → AskedBy h wanted (on_offer h wanted longest loops p)
 on_offer_asked h wanted longest loops p valid = choose (nat_lt longest p.length) (nat_lt p.length wanted && nat_le 2 loops) (can_gain h p) refl
   where
-    choose : (a b c : Bool) → can_gain h p ≡ c → AskedBy h (cond a (Decline TooSmall) (cond b (Counter wanted) (cond c (Accept p) (Decline NotTaken))))
+    choose : (a b c : Bool) → can_gain h p ≡ c → AskedBy h wanted (cond a (requester.Decline TooSmall) (cond b (requester.Counter wanted) (cond c (requester.Accept p) (requester.Decline NotTaken))))
     choose true b c e = tt
-    choose false true c e = tt
+    choose false true c e = refl
     choose false false true e = (valid, e)
     choose false false false e = tt
 
 -- what one that requests accepts
-pub ask_asked : (h : Holding) (wanted longest : ℕ) (v : Option DataItem) (loops : ℕ) → AskedBy h (ask h wanted longest v loops)
+pub ask_asked : (h : Holding) (wanted longest : ℕ) (v : Option DataItem) (loops : ℕ) → AskedBy h wanted (requester_decision h wanted longest v loops)
 ask_asked h wanted longest v loops = choose (offered_in v) refl (offered_ok v)
   where
-    choose : (o : Option Prefix) → offered_in v ≡ o → IfSome o IsValidBlock → AskedBy h (ask h wanted longest v loops)
-    choose None e k = subst (AskedBy h) (sym (ask_none h wanted longest v loops e)) tt
-    choose (Some p) e k = subst (AskedBy h) (sym (ask_some h wanted longest v loops p e)) (on_offer_asked h wanted longest loops p k)
+    choose : (o : Option Prefix) → offered_in v ≡ o → IfSome o IsValidBlock → AskedBy h wanted (requester_decision h wanted longest v loops)
+    choose None e k = subst (AskedBy h wanted) (sym (ask_none h wanted longest v loops e)) tt
+    choose (Some p) e k = subst (AskedBy h wanted) (sym (ask_some h wanted longest v loops p e)) (on_offer_asked h wanted longest loops p k)
 
 -- ---- a giver
 
 -- what is offered was given
-abbrev pub GivenBy : Holding → Decision → Type 0
-GivenBy h (Offer p) = IsGiven h p
-GivenBy h (Counter n) = Unit {0}
-GivenBy h (Accept p) = Unit {0}
-GivenBy h (Decline reason) = Unit {0}
+abbrev pub GivenBy : Holding → GiverDecision → Type 0
+GivenBy h (giver.Offer p) = IsGiven h p
+GivenBy h (giver.Decline reason) = Unit {0}
 
 -- each is the length of a prefix
 abbrev AreLengths : List ℕ → Type 0
@@ -172,35 +171,35 @@ first_is_given h [] pool ok = tt
 first_is_given h (n ∷ ns) pool ok = either_given h (take_reply h n) (first_given h ns) (taken_given h n pool ok.0.0 ok.0.1 (take_reply h n) refl) (first_is_given h ns pool ok.1)
 
 -- no length is asked for
-give_none : (h : Holding) (v : Option DataItem) (loops : ℕ) (first : Bool) → asked_in v ≡ None → give h v loops first ≡ Decline BadValue
-unfolding give
+pub give_none : (h : Holding) (v : Option DataItem) (loops : ℕ) (first : Bool) → asked_in v ≡ None → giver_decision h v loops first ≡ giver.Decline BadValue
+unfolding giver_decision
 give_none h v loops first e = rw e refl
 
 -- nothing is free
-give_free : (h : Holding) (v : Option DataItem) (loops : ℕ) (first : Bool) (n : ℕ) → asked_in v ≡ Some n → first_given h (candidates n loops first) ≡ None
-    → give h v loops first ≡ cond (nat_le loops 1) (Decline NoLoops) (Decline NoPrefix)
-unfolding give
+pub give_free : (h : Holding) (v : Option DataItem) (loops : ℕ) (first : Bool) (n : ℕ) → asked_in v ≡ Some n → first_given h (candidates n loops first) ≡ None
+    → giver_decision h v loops first ≡ cond (nat_le loops 1) (giver.Decline NoLoops) (giver.Decline NoPrefix)
+unfolding giver_decision
 give_free h v loops first n e f = rw (e, f) refl
 
 -- a prefix is free
-give_some : (h : Holding) (v : Option DataItem) (loops : ℕ) (first : Bool) (n : ℕ) (p : Prefix) → asked_in v ≡ Some n → first_given h (candidates n loops first) ≡ Some p
-    → give h v loops first ≡ cond (nat_le loops 1) (Decline NoLoops) (Offer p)
-unfolding give
+pub give_some : (h : Holding) (v : Option DataItem) (loops : ℕ) (first : Bool) (n : ℕ) (p : Prefix) → asked_in v ≡ Some n → first_given h (candidates n loops first) ≡ Some p
+    → giver_decision h v loops first ≡ cond (nat_le loops 1) (giver.Decline NoLoops) (giver.Offer p)
+unfolding giver_decision
 give_some h v loops first n p e f = rw (e, f) refl
 
 -- either of two decisions
-choice_given : (h : Holding) (b : Bool) (d e : Decision) → GivenBy h d → GivenBy h e → GivenBy h (cond b d e)
+choice_given : (h : Holding) (b : Bool) (d e : GiverDecision) → GivenBy h d → GivenBy h e → GivenBy h (cond b d e)
 choice_given h true d e x y = x
 choice_given h false d e x y = y
 
 -- what a giver offers was given
-pub give_given : (h : Holding) (v : Option DataItem) (loops : ℕ) (first : Bool) → IsPool h → GivenBy h (give h v loops first)
+pub give_given : (h : Holding) (v : Option DataItem) (loops : ℕ) (first : Bool) → IsPool h → GivenBy h (giver_decision h v loops first)
 give_given h v loops first pool = choose (asked_in v) refl (asked_ok v)
   where
-    found : (n : ℕ) → asked_in v ≡ Some n → (o : Option Prefix) → first_given h (candidates n loops first) ≡ o → IfSome o (λ p. IsGiven h p) → GivenBy h (give h v loops first)
-    found n e None f k = subst (GivenBy h) (sym (give_free h v loops first n e f)) (choice_given h (nat_le loops 1) (Decline NoLoops) (Decline NoPrefix) tt tt)
-    found n e (Some p) f k = subst (GivenBy h) (sym (give_some h v loops first n p e f)) (choice_given h (nat_le loops 1) (Decline NoLoops) (Offer p) tt k)
+    found : (n : ℕ) → asked_in v ≡ Some n → (o : Option Prefix) → first_given h (candidates n loops first) ≡ o → IfSome o (λ p. IsGiven h p) → GivenBy h (giver_decision h v loops first)
+    found n e None f k = subst (GivenBy h) (sym (give_free h v loops first n e f)) (choice_given h (nat_le loops 1) (giver.Decline NoLoops) (giver.Decline NoPrefix) tt tt)
+    found n e (Some p) f k = subst (GivenBy h) (sym (give_some h v loops first n p e f)) (choice_given h (nat_le loops 1) (giver.Decline NoLoops) (giver.Offer p) tt k)
 
-    choose : (o : Option ℕ) → asked_in v ≡ o → IfSome o IsLength → GivenBy h (give h v loops first)
+    choose : (o : Option ℕ) → asked_in v ≡ o → IfSome o IsLength → GivenBy h (giver_decision h v loops first)
     choose None e k = subst (GivenBy h) (sym (give_none h v loops first e)) tt
     choose (Some n) e k = found n e (first_given h (candidates n loops first)) refl (first_is_given h (candidates n loops first) pool (candidates_lengths n loops first k.0 k.1))

@@ -5,7 +5,6 @@ use Rattle.grasp_types.specs.declared.reply.Reply.{Reply}
 use Rattle.grasp_types.specs.declared.reply.Reply.TheVariants as reply
 use Rattle.grasp_types.specs.declared.session.Handle.{Handle}
 use Rattle.grasp_pool.specs.Pools.{room_of}
-use Rattle.grasp_pool.specs.Functions.{pool_of}
 use Rattle.grasp_pool.proofs.Lists.{lt_tells}
 use Rattle.grasp_agent.specs.Laws.{ThereIsADuty}
 use Rattle.grasp_agent.specs.Replies.{AgentEvent, wanted, replied, after_event, after_want, want_reply, is_again, answer_in, asa_in, incoming_in, started_in, after_incoming, after_registering, after_opening, offering, without_offer, after_dropping, after_doing, after_act, after_starting, finished, after_asking, after_serving, advanced, after_duty, after_reply}
@@ -156,4 +155,4 @@ events_duty s (e ∷ es) has = events_duty (after_event s e) es (event_duty s e 
 
 -- there is a next duty
 pub there_is_a_duty : ThereIsADuty
-there_is_a_duty roots events = events_duty (first_agent (pool_of roots)) events (omega arith)
+there_is_a_duty h events = events_duty (first_agent h) events (omega arith)

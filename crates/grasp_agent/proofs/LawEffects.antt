@@ -12,9 +12,9 @@ use Rattle.grasp_types.specs.declared.session.Outcome.{Outcome}
 use Rattle.grasp_types.specs.declared.session.Progress.{Progress}
 use Rattle.grasp_types.specs.declared.session.Progress.TheVariants as progress
 use Rattle.grasp_pool.specs.Holdings.{Holding}
-use Rattle.grasp_pool.specs.Functions.{after_back}
-use Rattle.grasp_agent.specs.Decisions.{give, after_give}
-use Rattle.grasp_agent.specs.Replies.{is_passing, is_again, refused_in, answer_in, asa_in, started_in, incoming_in, progress_in, after_incoming, after_registering, after_opening, gaining, after_act, after_asking, after_starting, after_want_progress, giving_back, settling, after_give_progress, after_duty, after_serving, advanced, after_reply}
+use Rattle.grasp_pool.specs.Functions.{after_back, after_gaining}
+use Rattle.grasp_agent.specs.Decisions.{giver_decision, after_deciding}
+use Rattle.grasp_agent.specs.Replies.{is_passing, is_again, refused_in, answer_in, asa_in, started_in, incoming_in, progress_in, after_incoming, after_registering, after_opening, after_act, after_asking, after_starting, after_want_progress, giving_back, settling, after_give_progress, after_duty, after_serving, advanced, after_reply}
 use Rattle.grasp_agent.specs.States.{AgentState, is_open, is_asking, giving_duty, duty_of, duty_at, want_session}
 use Rattle.grasp_agent.specs.declared.act.Act.{Act}
 use Rattle.grasp_agent.specs.declared.act.Act.TheVariants as act
@@ -36,9 +36,9 @@ pub data PoolEffect (s : AgentState) (r : Reply) (h : Holding) : Type 0 where
   unchanged : h ≡ s.pool → PoolEffect s r h
   dropped : (place : ℕ) (handle : Handle) (q : Prefix) → s.act ≡ Some (act.Offer place handle q) → IsSome (refused_in r) → is_again r ≡ false
       → h ≡ after_back s.pool q → PoolEffect s r h
-  gained : (handle : Handle) (q : Prefix) → s.act ≡ Some (act.Accept handle q) → r ≡ reply.Api answer.Done → h ≡ gaining s.pool q → PoolEffect s r h
+  gained : (handle : Handle) (q : Prefix) → s.act ≡ Some (act.Accept handle q) → r ≡ reply.Api answer.Done → h ≡ after_gaining s.pool q → PoolEffect s r h
   turned : (place : ℕ) (g : Giving) (o : Objective) → IsGiver s place g → progress_in (answer_in r) ≡ Some (progress.Turn o)
-      → h ≡ after_give (giving_back s.pool g.offer) (give (giving_back s.pool g.offer) o.value o.loops g.first) → PoolEffect s r h
+      → h ≡ after_deciding (giving_back s.pool g.offer) (giver_decision (giving_back s.pool g.offer) o.value o.loops g.first) → PoolEffect s r h
   ended : (place : ℕ) (g : Giving) (e : Outcome) → IsGiver s place g → progress_in (answer_in r) ≡ Some (progress.Ended e)
       → h ≡ settling s.pool g.offer e → PoolEffect s r h
 
@@ -93,7 +93,7 @@ giving_handle giving k place h g e at = by (slice_get giving k) refl
     by None f = let e' = rw f at e in absurd (cc)
     by (Some g') f = let e' = rw f at e in cc
 
-duty_handle : (session : Option Handle) (giving : List Giving) (k place : ℕ) (h : Handle) (g : Giving) → duty_at session giving k ≡ duty.Give place h
+pub duty_handle : (session : Option Handle) (giving : List Giving) (k place : ℕ) (h : Handle) (g : Giving) → duty_at session giving k ≡ duty.Give place h
     → slice_get giving place ≡ Some g → h ≡ g.handle
 duty_handle None giving k place h g = by (k == 0)
   where

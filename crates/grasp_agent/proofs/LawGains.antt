@@ -12,32 +12,30 @@ use Rattle.grasp_types.specs.declared.session.Outcome.{Outcome}
 use Rattle.grasp_types.specs.declared.session.Outcome.TheVariants as outcome
 use Rattle.grasp_pool.specs.Holdings.{Holding, IsFree, IsNew}
 use Rattle.grasp_pool.specs.Pools.{IsPool, room_of}
-use Rattle.grasp_pool.specs.Functions.{can_gain, after_back, after_gain}
+use Rattle.grasp_pool.specs.Functions.{can_gain, after_back, after_gain, after_gaining}
 use Rattle.grasp_pool.proofs.Gaining.{can_gain_tells}
 use Rattle.grasp_pool.proofs.Meanings.{back_means, back_keeps, gain_means}
-use Rattle.grasp_agent.specs.Decisions.{give, after_give}
+use Rattle.grasp_agent.specs.Decisions.{giver_decision, after_deciding}
 use Rattle.grasp_agent.specs.Kept.{ActStands, IsKept}
 use Rattle.grasp_agent.specs.Laws.{GainsAreAccepted}
-use Rattle.grasp_agent.specs.Replies.{gaining, giving_back, settled, settling}
+use Rattle.grasp_agent.specs.Replies.{giving_back, settled, settling}
 use Rattle.grasp_agent.specs.States.{AgentState}
 use Rattle.grasp_agent.specs.declared.act.Act.TheVariants as act
-use Rattle.grasp_agent.specs.declared.decision.Decision.{Decision}
-use Rattle.grasp_agent.specs.declared.decision.Decision.TheVariants as decision
+use Rattle.grasp_agent.specs.declared.decision.GiverDecision.{GiverDecision}
+use Rattle.grasp_agent.specs.declared.decision.GiverDecision.TheVariants as giver
 use Rattle.grasp_agent.specs.declared.giving.Giving.{Giving}
 use Rattle.grasp_agent.proofs.KeepDecisions.{GivenBy, give_given}
 use Rattle.grasp_agent.proofs.Keeping.{act_stands, offer_reserved}
 use Rattle.grasp_agent.proofs.LawEffects.{IsGiver, PoolEffect, unchanged, dropped, gained, turned, ended, pool_effect}
 
 -- a decision frees nothing
-given_free : (h : Holding) (d : Decision) → GivenBy h d → (a : ℕ) → IsFree (after_give h d) a → IsFree h a
-given_free h (decision.Offer p) given a free = ((given.reserves.free a).0 free).0
-given_free h (decision.Counter n) given a free = free
-given_free h (decision.Accept p) given a free = free
-given_free h (decision.Decline reason) given a free = free
+given_free : (h : Holding) (d : GiverDecision) → GivenBy h d → (a : ℕ) → IsFree (after_deciding h d) a → IsFree h a
+given_free h (giver.Offer p) given a free = ((given.reserves.free a).0 free).0
+given_free h (giver.Decline reason) given a free = free
 
 -- a decision of a giver frees nothing
-give_free : (h : Holding) (v : Option DataItem) (loops : ℕ) (first : Bool) → IsPool h → (a : ℕ) → IsFree (after_give h (give h v loops first)) a → IsFree h a
-give_free h v loops first pool a free = given_free h (give h v loops first) (give_given h v loops first pool) a free
+give_free : (h : Holding) (v : Option DataItem) (loops : ℕ) (first : Bool) → IsPool h → (a : ℕ) → IsFree (after_deciding h (giver_decision h v loops first)) a → IsFree h a
+give_free h v loops first pool a free = given_free h (giver_decision h v loops first) (give_given h v loops first pool) a free
 
 -- an end frees at most its offer
 settled_free : (h : Holding) (q : Prefix) → IsPool h → Contains h.reserved q → (e : Outcome) (a : ℕ) → IsFree (settled h q e) a → IsFree h a ⊎ span_of q a
@@ -73,7 +71,7 @@ module _ (s : AgentState) (r : Reply) (a : ℕ) (kept : IsKept s) where
       in let has : Contains s.pool.reserved q = offer_has place (record { handle = handle; offer = Some q; first = false }) q stands refl
       in of_offer q has (((back_means s.pool q kept.pool has).free a).0 free)
 
-  gaining_free : (handle : Handle) (q : Prefix) → s.act ≡ Some (act.Accept handle q) → r ≡ reply.Api answer.Done → IsFree (gaining s.pool q) a → Comes
+  gaining_free : (handle : Handle) (q : Prefix) → s.act ≡ Some (act.Accept handle q) → r ≡ reply.Api answer.Done → IsFree (after_gaining s.pool q) a → Comes
   unfolding Comes
   gaining_free handle q is done free = by (can_gain s.pool q) stands.2 free
     where
@@ -91,7 +89,7 @@ module _ (s : AgentState) (r : Reply) (a : ℕ) (kept : IsKept s) where
       by false e free' = inl free'
 
   turning : (place : ℕ) (g : Giving) (o : Objective) → IsGiver s place g → (offer : Option Prefix) → g.offer ≡ offer
-      → IsFree (after_give (giving_back s.pool offer) (give (giving_back s.pool offer) o.value o.loops g.first)) a → Comes
+      → IsFree (after_deciding (giving_back s.pool offer) (giver_decision (giving_back s.pool offer) o.value o.loops g.first)) a → Comes
   unfolding Comes
   turning place g o is None offer free = inl (give_free s.pool o.value o.loops g.first kept.pool a free)
   turning place g o is (Some q) offer free =

@@ -9,35 +9,33 @@ use Rattle.grasp_types.specs.declared.session.Outcome.{Outcome}
 use Rattle.grasp_types.specs.declared.session.Outcome.TheVariants as outcome
 use Rattle.grasp_types.specs.declared.session.Progress.TheVariants as progress
 use Rattle.grasp_pool.specs.Holdings.{Holding, IsListed}
-use Rattle.grasp_pool.specs.Functions.{can_gain, after_back, after_gain, without}
+use Rattle.grasp_pool.specs.Functions.{can_gain, after_back, after_gain, without, after_gaining}
 use Rattle.grasp_pool.proofs.Equal.{add_members, without_members}
 use Rattle.grasp_pool.proofs.Maximal.{cases_prefix}
-use Rattle.grasp_agent.specs.Decisions.{give, after_give}
+use Rattle.grasp_agent.specs.Decisions.{giver_decision, after_deciding}
 use Rattle.grasp_agent.specs.Kept.{ActStands, IsKept}
 use Rattle.grasp_agent.specs.Laws.{MayEnd, IsTold, IsUnsent, OffersStayListed, DoubtsStay}
-use Rattle.grasp_agent.specs.Replies.{is_again, refused_in, answer_in, progress_in, gaining, giving_back, settled, settling}
+use Rattle.grasp_agent.specs.Replies.{is_again, refused_in, answer_in, progress_in, giving_back, settled, settling}
 use Rattle.grasp_agent.specs.States.{AgentState}
 use Rattle.grasp_agent.specs.declared.act.Act.TheVariants as act
-use Rattle.grasp_agent.specs.declared.decision.Decision.{Decision}
-use Rattle.grasp_agent.specs.declared.decision.Decision.TheVariants as decision
+use Rattle.grasp_agent.specs.declared.decision.GiverDecision.{GiverDecision}
+use Rattle.grasp_agent.specs.declared.decision.GiverDecision.TheVariants as giver
 use Rattle.grasp_agent.specs.declared.giving.Giving.{Giving}
 use Rattle.grasp_agent.proofs.Keeping.{act_stands, offer_reserved}
 use Rattle.grasp_agent.proofs.LawEffects.{IsGiver, PoolEffect, unchanged, dropped, gained, turned, ended, pool_effect}
 
 -- ---- doubtful prefixes
 
-gaining_doubtful : (h : Holding) (q : Prefix) → (gaining h q).doubtful ≡ h.doubtful
+gaining_doubtful : (h : Holding) (q : Prefix) → (after_gaining h q).doubtful ≡ h.doubtful
 gaining_doubtful h q = by (can_gain h q)
   where
     by : (b : Bool) → (cond b (after_gain h q) h).doubtful ≡ h.doubtful
     by true = refl
     by false = refl
 
-given_doubtful : (h : Holding) (d : Decision) → (after_give h d).doubtful ≡ h.doubtful
-given_doubtful h (decision.Offer p) = refl
-given_doubtful h (decision.Counter n) = refl
-given_doubtful h (decision.Accept p) = refl
-given_doubtful h (decision.Decline reason) = refl
+given_doubtful : (h : Holding) (d : GiverDecision) → (after_deciding h d).doubtful ≡ h.doubtful
+given_doubtful h (giver.Offer p) = refl
+given_doubtful h (giver.Decline reason) = refl
 
 back_doubtful : (h : Holding) (o : Option Prefix) → (giving_back h o).doubtful ≡ h.doubtful
 back_doubtful h None = refl
@@ -63,7 +61,7 @@ doubts_after s r p h (unchanged e) has = subst (λ x. Contains x.doubtful p) (sy
 doubts_after s r p h (dropped place handle q is refused last e) has = subst (λ x. Contains x.doubtful p) (sym e) has
 doubts_after s r p h (gained handle q is done e) has = subst (λ x. Contains x p) (sym (ap (λ x. x.doubtful) e ∙ gaining_doubtful s.pool q)) has
 doubts_after s r p h (turned place g o is told e) has =
-    subst (λ x. Contains x p) (sym (ap (λ x. x.doubtful) e ∙ given_doubtful (giving_back s.pool g.offer) (give (giving_back s.pool g.offer) o.value o.loops g.first) ∙ back_doubtful s.pool g.offer)) has
+    subst (λ x. Contains x p) (sym (ap (λ x. x.doubtful) e ∙ given_doubtful (giving_back s.pool g.offer) (giver_decision (giving_back s.pool g.offer) o.value o.loops g.first) ∙ back_doubtful s.pool g.offer)) has
 doubts_after s r p h (ended place g o is told e) has = subst (λ x. Contains x.doubtful p) (sym e) (settling_doubtful s.pool g.offer o p has)
 
 -- a doubtful prefix stays in doubt
@@ -72,18 +70,16 @@ doubts_stay s r p kept has = doubts_after s r p _ (pool_effect s r) has
 
 -- ---- reserved prefixes
 
-gaining_reserved : (h : Holding) (q : Prefix) → (gaining h q).reserved ≡ h.reserved
+gaining_reserved : (h : Holding) (q : Prefix) → (after_gaining h q).reserved ≡ h.reserved
 gaining_reserved h q = by (can_gain h q)
   where
     by : (b : Bool) → (cond b (after_gain h q) h).reserved ≡ h.reserved
     by true = refl
     by false = refl
 
-given_reserved : (h : Holding) (d : Decision) (p : Prefix) → Contains h.reserved p → Contains (after_give h d).reserved p
-given_reserved h (decision.Offer q) p has = (add_members q h.reserved p).1 (inl has)
-given_reserved h (decision.Counter n) p has = has
-given_reserved h (decision.Accept q) p has = has
-given_reserved h (decision.Decline reason) p has = has
+given_reserved : (h : Holding) (d : GiverDecision) (p : Prefix) → Contains h.reserved p → Contains (after_deciding h d).reserved p
+given_reserved h (giver.Offer q) p has = (add_members q h.reserved p).1 (inl has)
+given_reserved h (giver.Decline reason) p has = has
 
 -- where it ends by the peer's word p may be anything, and by all else p is in doubt
 settled_listed : (h : Holding) (q : Prefix) (e : Outcome) → IsListed (settled h q e) q ⊎ MayEnd (Some (progress.Ended e))
@@ -132,8 +128,8 @@ module _ (s : AgentState) (r : Reply) (p : Prefix) (kept : IsKept s) (has : Cont
         in inl (inl (subst (λ x. Contains x.reserved p) (sym e) (others q hasq other)))
   ]
 
-  turning : (h : Holding) (place : ℕ) (g : Giving) (o : Objective) → IsGiver s place g → progress_in (answer_in r) ≡ Some (progress.Turn o) → (d : Decision)
-      → (offer : Option Prefix) → g.offer ≡ offer → h ≡ after_give (giving_back s.pool offer) d → IsListed h p ⊎ (IsTold s r p ⊎ IsUnsent s r p)
+  turning : (h : Holding) (place : ℕ) (g : Giving) (o : Objective) → IsGiver s place g → progress_in (answer_in r) ≡ Some (progress.Turn o) → (d : GiverDecision)
+      → (offer : Option Prefix) → g.offer ≡ offer → h ≡ after_deciding (giving_back s.pool offer) d → IsListed h p ⊎ (IsTold s r p ⊎ IsUnsent s r p)
   turning h place g o is told d None offer e = inl (inl (subst (λ x. Contains x.reserved p) (sym e) (given_reserved s.pool d p has)))
   turning h place g o is told d (Some q) offer e = elim (cases_prefix p q) [
     | inl same ↦ inr (inl (told_of place g q is offer same (subst MayEnd (sym told) tt)))
@@ -155,7 +151,7 @@ module _ (s : AgentState) (r : Reply) (p : Prefix) (kept : IsKept s) (has : Cont
   listed_after h (unchanged e) = inl (inl (subst (λ x. Contains x.reserved p) (sym e) has))
   listed_after h (dropped place handle q is refused last e) = dropping h place handle q is refused last e
   listed_after h (gained handle q is done e) = inl (inl (subst (λ x. Contains x p) (sym (ap (λ x. x.reserved) e ∙ gaining_reserved s.pool q)) has))
-  listed_after h (turned place g o is told e) = turning h place g o is told (give (giving_back s.pool g.offer) o.value o.loops g.first) g.offer refl e
+  listed_after h (turned place g o is told e) = turning h place g o is told (giver_decision (giving_back s.pool g.offer) o.value o.loops g.first) g.offer refl e
   listed_after h (ended place g o is told e) = ending h place g o is told g.offer refl e
 
 -- an offer stays listed until its session tells

@@ -10,3 +10,11 @@ pub mod LawOffers
 pub mod LawGains
 pub mod LawDuties
 pub mod LawKept
+pub mod LawGiver
+pub mod LawRequester
+pub mod LawMoves
+pub mod LawStays
+pub mod LawCursors
+pub mod LawSending
+pub mod LawReaders
+pub mod Crosses

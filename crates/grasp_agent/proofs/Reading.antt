@@ -44,7 +44,7 @@ true_both false b h k = absurd (cc)
 le_is : (a b : ℕ) → nat_le a b ≡ true → a ≤ b
 le_is a b h = search (rules, nat_tests)
 
-is_le : (a b : ℕ) → a ≤ b → nat_le a b ≡ true
+pub is_le : (a b : ℕ) → a ≤ b → nat_le a b ≡ true
 is_le a b h = search (rules, nat_tests)
 
 lt_is : (a b : ℕ) → nat_lt a b ≡ true → a < b
@@ -217,7 +217,7 @@ length_read v n value h =
       ],
     )
 
-one_again : (n : ℕ) → 1 ≤ n → n ≤ 128 → asked_in (Some (length_value n)) ≡ Some n
+pub one_again : (n : ℕ) → 1 ≤ n → n ≤ 128 → asked_in (Some (length_value n)) ≡ Some n
 unfolding asked_in
 one_again n a b = length_again n a b
 
@@ -310,7 +310,7 @@ prefix_read v p value h =
     let w = two_parts a.0 p.length p.address a.2.two (encodable_parts v a.0 value a.1) m.bits m.start in
     (record { least = r.0; most = r.1; within = w.1; aligned = multiple_of_mod (size_of p.length) p.address m.aligned }, a.1 ∙ ap array_of w.0)
 
-prefix_again : (p : Prefix) → IsPrefix p.address p.length → offered_in (Some (prefix_value p)) ≡ Some p
+pub prefix_again : (p : Prefix) → IsPrefix p.address p.length → offered_in (Some (prefix_value p)) ≡ Some p
 unfolding offered_in
 prefix_again p v =
     ap (λ o. prefix_in o (address_in (Some (to_be_bytes w128 p.address)))) (length_again p.length v.least v.most)

@@ -1,5 +1,5 @@
 -- Agents that announce a value, and agents that read one. Their names and the order of their calls are this project's own.
-use Rattle.std.specs.Prelude.{ℕ, Bool, true, false, if◌then◌else◌, List, [], ◌++◌, Option, Some, None, codes, decimal}
+use Rattle.std.specs.Prelude.{◌≡◌, ℕ, Bool, true, false, if◌then◌else◌, List, [], ◌++◌, Option, Some, None, codes, decimal}
 use Rattle.grasp_cbor.specs.DataItem.{DataItem}
 use Rattle.grasp_types.specs.declared.call.Call.{Call}
 use Rattle.grasp_types.specs.declared.call.Call.TheVariants as call
@@ -100,3 +100,7 @@ after_reader s r = if s.registered then s else registered_reader s (asa_in (answ
 -- one that is handed over is kept, too
 unfoldable pub after_keep : ReaderState → Reply → ReaderState
 after_keep s r = if s.registered then keeping s (reads_in (answer_in r)) else registered_reader s (asa_in (answer_in r))
+
+-- whether a reply is looked at or handed over, the reader's next call and its number are the same
+abbrev pub ReadersAgree : Type 0
+ReadersAgree = (s : ReaderState) (r : Reply) → (reader_call (after_keep s r) ≡ reader_call (after_reader s r)) × ((after_keep s r).asa ≡ (after_reader s r).asa)

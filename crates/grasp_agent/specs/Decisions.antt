@@ -7,8 +7,10 @@ use Rattle.grasp_pool.specs.Holdings.{Holding}
 use Rattle.grasp_pool.specs.Functions.{take_reply, after_take, can_gain}
 use Rattle.grasp_agent.specs.Values.{asked_in, offered_in}
 use Rattle.grasp_agent.specs.declared.decision.Reason.TheVariants.{BadValue, NoLoops, NoPrefix, TooSmall, NotTaken}
-use Rattle.grasp_agent.specs.declared.decision.Decision.{Decision}
-use Rattle.grasp_agent.specs.declared.decision.Decision.TheVariants.{Offer, Counter, Accept, Decline}
+use Rattle.grasp_agent.specs.declared.decision.GiverDecision.{GiverDecision}
+use Rattle.grasp_agent.specs.declared.decision.GiverDecision.TheVariants as giver
+use Rattle.grasp_agent.specs.declared.decision.RequesterDecision.{RequesterDecision}
+use Rattle.grasp_agent.specs.declared.decision.RequesterDecision.TheVariants as requester
 
 -- so many numbers from this one on
 unfoldable pub upward : ℕ → ℕ → List ℕ
@@ -43,29 +45,27 @@ after_first h None = h
 after_first h (Some p) = after_take h p.length (Some p)
 
 -- a giver, on the value and the loop count of the peer's offer; `first` where it has offered nothing in this session
-unfoldable pub give : Holding → Option DataItem → ℕ → Bool → Decision
-give h value loops first = by_length (asked_in value) where
-  by_prefix : Option Prefix → Decision
-  by_prefix None = Decline NoPrefix
-  by_prefix (Some p) = Offer p
+unfoldable pub giver_decision : Holding → Option DataItem → ℕ → Bool → GiverDecision
+giver_decision h value loops first = by_length (asked_in value) where
+  by_prefix : Option Prefix → GiverDecision
+  by_prefix None = giver.Decline NoPrefix
+  by_prefix (Some p) = giver.Offer p
 
-  by_length : Option ℕ → Decision
-  by_length None = Decline BadValue
-  by_length (Some n) = if nat_le loops 1 then Decline NoLoops else by_prefix (first_given h (candidates n loops first))
+  by_length : Option ℕ → GiverDecision
+  by_length None = giver.Decline BadValue
+  by_length (Some n) = if nat_le loops 1 then giver.Decline NoLoops else by_prefix (first_given h (candidates n loops first))
 
 -- the pool after it: an offered prefix is reserved
-abbrev pub after_give : Holding → Decision → Holding
-after_give h (Offer p) = after_first h (Some p)
-after_give h (Counter n) = h
-after_give h (Accept p) = h
-after_give h (Decline reason) = h
+abbrev pub after_deciding : Holding → GiverDecision → Holding
+after_deciding h (giver.Offer p) = after_first h (Some p)
+after_deciding h (giver.Decline reason) = h
 
 -- one that wants a prefix of this length, and none that is longer than the longest, on the value and the loop count of the peer's offer
-unfoldable pub ask : Holding → ℕ → ℕ → Option DataItem → ℕ → Decision
-ask h wanted longest value loops = by_prefix (offered_in value) where
-  by_prefix : Option Prefix → Decision
-  by_prefix None = Decline BadValue
+unfoldable pub requester_decision : Holding → ℕ → ℕ → Option DataItem → ℕ → RequesterDecision
+requester_decision h wanted longest value loops = by_prefix (offered_in value) where
+  by_prefix : Option Prefix → RequesterDecision
+  by_prefix None = requester.Decline BadValue
   by_prefix (Some p) =
-      if nat_lt longest p.length then Decline TooSmall
-      else (if nat_lt p.length wanted && nat_le 2 loops then Counter wanted
-      else (if can_gain h p then Accept p else Decline NotTaken))
+      if nat_lt longest p.length then requester.Decline TooSmall
+      else (if nat_lt p.length wanted && nat_le 2 loops then requester.Counter wanted
+      else (if can_gain h p then requester.Accept p else requester.Decline NotTaken))

@@ -1,5 +1,5 @@
 -- What the decisions of an agent of PrefixManager mean for addresses.
-use Rattle.std.specs.Prelude.{◌≡◌, ◌↔◌, ◌⊎◌, ℕ, ◌<◌, ◌≤◌, ◌^◌, Bool, false, List, [], ◌∷◌, ◌++◌, Option, Some, None, IsSome, Contains, slice_get}
+use Rattle.std.specs.Prelude.{◌≡◌, ◌↔◌, ◌⊎◌, ℕ, ◌<◌, ◌≤◌, ◌^◌, Bool, false, All, List, [], ◌∷◌, Option, Some, None, IsSome, Contains, slice_get}
 use Rattle.std.specs.Int.{to_be_bytes, w128}
 use Rattle.grasp_cbor.specs.DataItem.{DataItem, unsigned, byte_string, array_of}
 use Rattle.grasp_types.specs.Objective.{IsValue}
@@ -13,19 +13,17 @@ use Rattle.grasp_types.specs.declared.session.Outcome.{Outcome}
 use Rattle.grasp_types.specs.declared.session.Outcome.TheVariants as outcome
 use Rattle.grasp_types.specs.declared.session.Progress.{Progress}
 use Rattle.grasp_types.specs.declared.session.Progress.TheVariants as progress
-use Rattle.grasp_pool.specs.Answers.{IsOpened}
-use Rattle.grasp_pool.specs.Canonical.{IsLowestFree, HasNoFree}
+use Rattle.grasp_pool.specs.Canonical.{HasNoFree}
 use Rattle.grasp_pool.specs.Holdings.{Holding, IsFree, IsListed}
 use Rattle.grasp_pool.specs.Pools.{IsPool, room_of}
-use Rattle.grasp_pool.specs.Functions.{pool_of}
-use Rattle.grasp_pool.specs.declared.roots.RootPrefix.{RootPrefix}
-use Rattle.grasp_agent.specs.Decisions.{candidates, give}
+use Rattle.grasp_agent.specs.Deciding.{IsFirstFree}
+use Rattle.grasp_agent.specs.Decisions.{candidates, giver_decision}
 use Rattle.grasp_agent.specs.Kept.{IsKept}
-use Rattle.grasp_agent.specs.Replies.{AgentEvent, answer_in, refused_in, is_again, progress_in, after_reply, agent_after}
+use Rattle.grasp_agent.specs.Replies.{AgentEvent, wanted, replied, answer_in, refused_in, is_again, progress_in, after_reply, agent_after}
 use Rattle.grasp_agent.specs.States.{AgentState, duties, duty_of}
 use Rattle.grasp_agent.specs.Values.{asked_in, offered_in, length_value, prefix_value}
 use Rattle.grasp_agent.specs.declared.act.Act.TheVariants as act
-use Rattle.grasp_agent.specs.declared.decision.Decision.TheVariants.{Offer}
+use Rattle.grasp_agent.specs.declared.decision.GiverDecision.TheVariants.{Offer}
 use Rattle.grasp_agent.specs.declared.duty.Duty.TheVariants.{Give}
 use Rattle.grasp_agent.specs.declared.giving.Giving.{Giving}
 
@@ -41,25 +39,24 @@ LengthsAreRead = (v : DataItem) (n : ℕ) → IsValue v → (asked_in (Some v) �
 abbrev pub PrefixesAreRead : Type 0
 PrefixesAreRead = (v : DataItem) (p : Prefix) → IsValue v → (offered_in (Some v) ≡ Some p) ↔ (IsPrefix p.address p.length × (v ≡ prefix_value p))
 
--- of the lengths that a giver tries none before this one is free, and this one is
-pub record IsFirstFree (h : Holding) (ns : List ℕ) (p : Prefix) : Type 0 where
-  pub tried : Contains ns p.length
-  pub least : IsLowestFree h.free p.length p
-  pub before : (front : List ℕ) (rest : List ℕ) → ns ≡ front ++ p.length ∷ rest → ¬ Contains front p.length → (m : ℕ) → Contains front m → HasNoFree h.free m
-
 -- a giver that is asked for a length, with loops and room enough and something free, offers the least free prefix of the first length that is free
 abbrev pub GiversOffer : Type 0
 GiversOffer = (h : Holding) (v : DataItem) (n loops m : ℕ) (first : Bool) → IsPool h → asked_in (Some v) ≡ Some n → 2 ≤ loops → 128 ≤ room_of h
     → Contains (candidates n loops first) m → ¬ HasNoFree h.free m
-    → (p : Prefix) × (give h (Some v) loops first ≡ Offer p) × IsFirstFree h (candidates n loops first) p
+    → (p : Prefix) × (giver_decision h (Some v) loops first ≡ Offer p) × IsFirstFree h (candidates n loops first) p
 
--- whatever happens to an agent of good roots, what is reserved is exactly what it offers
+-- the lengths of what is wanted are those of prefixes, and in order
+abbrev pub IsPossible : AgentEvent → Type 0
+IsPossible (wanted n longest peer) = (1 ≤ n) × (n ≤ longest) × (longest ≤ 128)
+IsPossible (replied r) = Unit {0}
+
+-- whatever happens to an agent that is opened with a pool in which nothing is reserved, what is reserved is exactly what it offers
 abbrev pub AgentsAreKept : Type 0
-AgentsAreKept = (roots : List RootPrefix) (events : List AgentEvent) → IsOpened roots (pool_of roots) → IsKept (agent_after roots events)
+AgentsAreKept = (h : Holding) (events : List AgentEvent) → IsPool h → h.reserved ≡ [] → All (λ e. IsPossible e) events → IsKept (agent_after h events)
 
 -- and there is a next duty
 abbrev pub ThereIsADuty : Type 0
-ThereIsADuty = (roots : List RootPrefix) (events : List AgentEvent) → (agent_after roots events).cursor < duties (agent_after roots events)
+ThereIsADuty = (h : Holding) (events : List AgentEvent) → (agent_after h events).cursor < duties (agent_after h events)
 
 -- the outcome is the peer's acceptance or its decline
 abbrev pub IsPeersEnd : Outcome → Type 0

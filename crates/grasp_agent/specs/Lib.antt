@@ -7,3 +7,6 @@ pub mod Kept
 pub mod Stored
 pub mod Laws
 pub mod Announcing
+pub mod Deciding
+pub mod Moves
+pub mod Sending

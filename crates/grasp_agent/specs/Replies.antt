@@ -17,16 +17,16 @@ use Rattle.grasp_types.specs.declared.session.Progress.{Progress}
 use Rattle.grasp_types.specs.declared.session.Progress.TheVariants as progress
 use Rattle.grasp_pool.specs.Holdings.{Holding}
 use Rattle.grasp_pool.specs.Pools.{room_of}
-use Rattle.grasp_pool.specs.Functions.{after_back, after_confirm, after_doubt, after_gain, can_gain, pool_of}
-use Rattle.grasp_pool.specs.declared.roots.RootPrefix.{RootPrefix}
+use Rattle.grasp_pool.specs.Functions.{after_back, after_confirm, after_doubt, after_gaining}
 use Rattle.grasp_agent.specs.Values.{offered_in}
-use Rattle.grasp_agent.specs.Decisions.{give, after_give, ask}
+use Rattle.grasp_agent.specs.Decisions.{giver_decision, after_deciding, requester_decision}
 use Rattle.grasp_agent.specs.States.{AgentState, first_agent, is_open, is_asking, duties, duty_of}
 use Rattle.grasp_agent.specs.declared.act.Act.{Act}
 use Rattle.grasp_agent.specs.declared.act.Act.TheVariants as act
-use Rattle.grasp_agent.specs.declared.decision.Decision.{Decision}
-use Rattle.grasp_agent.specs.declared.decision.Decision.TheVariants as decision
-use Rattle.grasp_agent.specs.declared.decision.Reason.TheVariants.{BadValue}
+use Rattle.grasp_agent.specs.declared.decision.GiverDecision.{GiverDecision}
+use Rattle.grasp_agent.specs.declared.decision.GiverDecision.TheVariants as giver
+use Rattle.grasp_agent.specs.declared.decision.RequesterDecision.{RequesterDecision}
+use Rattle.grasp_agent.specs.declared.decision.RequesterDecision.TheVariants as requester
 use Rattle.grasp_agent.specs.declared.duty.Duty.{Duty}
 use Rattle.grasp_agent.specs.declared.duty.Duty.TheVariants as duty
 use Rattle.grasp_agent.specs.declared.giving.Giving.{Giving}
@@ -160,15 +160,11 @@ after_dropping s (act.Counter handle n) = record s { act = None }
 after_dropping s (act.Accept handle p) = record s { act = None }
 after_dropping s (act.Decline handle reason) = record s { act = None }
 
--- the pool where the prefix is gained, if it can be
-abbrev pub gaining : Holding → Prefix → Holding
-gaining h p = if can_gain h p then after_gain h p else h
-
 -- an acceptance gains its prefix
 abbrev pub after_doing : AgentState → Act → AgentState
 after_doing s (act.Offer place handle p) = record s { act = None }
 after_doing s (act.Counter handle n) = record s { act = None }
-after_doing s (act.Accept handle p) = record s { act = None; pool = gaining s.pool p }
+after_doing s (act.Accept handle p) = record s { act = None; pool = after_gaining s.pool p }
 after_doing s (act.Decline handle reason) = record s { act = None }
 
 abbrev pub after_act : AgentState → Act → Reply → AgentState
@@ -212,17 +208,16 @@ want_end outcome.OutOfMemory = end.OutOfMemory
 want_end (outcome.Invalid by) = end.Invalid
 
 -- a decision as an act in the session of a want
-abbrev pub want_act : Handle → Decision → Act
-want_act h (decision.Offer p) = act.Decline h BadValue
-want_act h (decision.Counter n) = act.Counter h n
-want_act h (decision.Accept p) = act.Accept h p
-want_act h (decision.Decline reason) = act.Decline h reason
+abbrev pub want_act : Handle → RequesterDecision → Act
+want_act h (requester.Accept p) = act.Accept h p
+want_act h (requester.Counter n) = act.Counter h n
+want_act h (requester.Decline reason) = act.Decline h reason
 
 abbrev pub after_want_progress : AgentState → Option Want → Handle → Option Progress → AgentState
 after_want_progress s None h p = s
 after_want_progress s (Some w) h None = s
 after_want_progress s (Some w) h (Some progress.NotYet) = s
-after_want_progress s (Some w) h (Some (progress.Turn o)) = record s { act = Some (want_act h (ask s.pool w.length w.longest o.value o.loops)) }
+after_want_progress s (Some w) h (Some (progress.Turn o)) = record s { act = Some (want_act h (requester_decision s.pool w.length w.longest o.value o.loops)) }
 after_want_progress s (Some w) h (Some (progress.Ended e)) = finished s (want_end e)
 
 -- an offer that was made before goes back
@@ -231,27 +226,23 @@ giving_back h None = h
 giving_back h (Some p) = after_back h p
 
 -- a decision as an act in the giving session at this place
-abbrev pub give_act : ℕ → Handle → Decision → Act
-give_act place h (decision.Offer p) = act.Offer place h p
-give_act place h (decision.Counter n) = act.Decline h BadValue
-give_act place h (decision.Accept p) = act.Decline h BadValue
-give_act place h (decision.Decline reason) = act.Decline h reason
+abbrev pub give_act : ℕ → Handle → GiverDecision → Act
+give_act place h (giver.Offer p) = act.Offer place h p
+give_act place h (giver.Decline reason) = act.Decline h reason
 
 -- the giving session after its agent has decided
-abbrev pub deciding : Giving → Decision → Giving
-deciding g (decision.Offer p) = record { handle = g.handle; offer = Some p; first = false }
-deciding g (decision.Counter n) = offering g None
-deciding g (decision.Accept p) = offering g None
-deciding g (decision.Decline reason) = offering g None
+abbrev pub deciding : Giving → GiverDecision → Giving
+deciding g (giver.Offer p) = record { handle = g.handle; offer = Some p; first = false }
+deciding g (giver.Decline reason) = offering g None
 
 -- the turn is the giver's: its last offer goes back, and it decides anew
 abbrev pub after_giver_turn : AgentState → ℕ → Giving → Objective → AgentState
 after_giver_turn s place g o = decided (giving_back s.pool g.offer) where
-  acting : Holding → Decision → AgentState
-  acting h d = record s { pool = after_give h d; giving = slice_set s.giving place (deciding g d); act = Some (give_act place g.handle d) }
+  acting : Holding → GiverDecision → AgentState
+  acting h d = record s { pool = after_deciding h d; giving = slice_set s.giving place (deciding g d); act = Some (give_act place g.handle d) }
 
   decided : Holding → AgentState
-  decided h = acting h (give h o.value o.loops g.first)
+  decided h = acting h (giver_decision h o.value o.loops g.first)
 
 -- what becomes of an offer when its session ends: it is confirmed by the peer's acceptance, free by the peer's decline, and in doubt by all else
 abbrev pub settled : Holding → Prefix → Outcome → Holding
@@ -313,6 +304,6 @@ abbrev pub after_event : AgentState → AgentEvent → AgentState
 after_event s (wanted n longest peer) = after_want s n longest peer (want_reply s)
 after_event s (replied r) = after_reply s r
 
--- the agent of these roots after these events, oldest first
-abbrev pub agent_after : List RootPrefix → List AgentEvent → AgentState
-agent_after roots events = fold after_event (first_agent (pool_of roots)) events
+-- the agent that was opened with this pool after these events, oldest first
+abbrev pub agent_after : Holding → List AgentEvent → AgentState
+agent_after h events = fold after_event (first_agent h) events

@@ -39,6 +39,11 @@ abbrev pub want_session : Option Want → Option Handle
 want_session None = None
 want_session (Some w) = w.session
 
+-- the length that is wanted
+abbrev pub want_length : Option Want → Option ℕ
+want_length None = None
+want_length (Some w) = Some w.length
+
 -- there is a want, and it wasn't requested
 abbrev pub is_asking : Option Want → Bool
 is_asking None = false

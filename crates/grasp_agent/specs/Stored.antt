@@ -1,4 +1,4 @@
--- What the fields of an agent of PrefixManager mean, and the room that they keep.
+-- Inside: what the fields of an agent of PrefixManager mean, and the room that they keep.
 use Rattle.std.specs.Prelude.{◌<◌, ◌≤◌}
 use Rattle.std.specs.Vec.{vec_capacity}
 use Rattle.grasp_agent.specs.Kept.{IsKept}

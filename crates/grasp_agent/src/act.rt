@@ -4,7 +4,7 @@ ghost use Rattle.std.specs.Prelude.{◌≡◌, IfOk};
 ghost use Rattle.grasp_agent.specs.Calls.{act_call};
 ghost use Rattle.grasp_agent.specs.Replies.{want_act, give_act};
 
-use crate::decision::{Decision, Reason};
+use crate::decision::{GiverDecision, Reason, RequesterDecision};
 use crate::value::{length_value, prefix_value};
 use grasp_cbor::{Chars, OutOfMemory};
 use grasp_types::{Call, Handle, Prefix, Verdict};
@@ -38,35 +38,27 @@ pub(crate) enum Act {
 
 impl Act {
     /// A decision in the session of a want.
-    pub(crate) fn of_want(handle: Handle, decision: Decision) -> Act
+    pub(crate) fn of_want(handle: Handle, decision: RequesterDecision) -> Act
         ensures { result ≡ want_act handle decision }
     {
         match decision {
-            Decision::Counter(length) => Act::Counter { handle, length },
-            Decision::Accept(prefix) => Act::Accept { handle, prefix },
-            Decision::Decline(reason) => Act::Decline { handle, reason },
-            Decision::Offer(_) => Act::Decline {
-                handle,
-                reason: Reason::BadValue,
-            },
+            RequesterDecision::Accept(prefix) => Act::Accept { handle, prefix },
+            RequesterDecision::Counter(length) => Act::Counter { handle, length },
+            RequesterDecision::Decline(reason) => Act::Decline { handle, reason },
         }
     }
 
     /// A decision in the giving session at this place.
-    pub(crate) fn of_giver(place: u64, handle: Handle, decision: Decision) -> Act
+    pub(crate) fn of_giver(place: u64, handle: Handle, decision: GiverDecision) -> Act
         ensures { result ≡ give_act place handle decision }
     {
         match decision {
-            Decision::Offer(prefix) => Act::Offer {
+            GiverDecision::Offer(prefix) => Act::Offer {
                 place,
                 handle,
                 prefix,
             },
-            Decision::Decline(reason) => Act::Decline { handle, reason },
-            Decision::Counter(_) | Decision::Accept(_) => Act::Decline {
-                handle,
-                reason: Reason::BadValue,
-            },
+            GiverDecision::Decline(reason) => Act::Decline { handle, reason },
         }
     }
 

@@ -1,13 +1,11 @@
 //! Agents that are driven by replies made by hand.
 
-use crate::agent::Agent;
-use crate::prefix_agent::PrefixAgent;
-use crate::want::{WantEnd, WantFault};
+use crate::{Agent, Beacon, PrefixAgent, Reader, WantEnd, WantFault};
 use grasp_cbor::{Chars, Item, Items, Octets};
-use grasp_pool::{Pool, RootPrefix};
+use grasp_pool::RootPrefix;
 use grasp_types::{
-    Address, ApiAnswer, ApiRefused, By, Call, Flags, Handle, Locator, Objective, Outcome, Prefix,
-    Progress, Proto, Reply, Value, Verdict, ipv6_of_bytes,
+    Address, ApiAnswer, ApiRefused, By, Flags, FloodRead, FloodReads, Handle, Locator, Objective,
+    Outcome, Prefix, Progress, Proto, Reply, Value,
 };
 use std::alloc::Global;
 use std::process::Abort;
@@ -16,113 +14,72 @@ use std::test::Fail;
 /// The documentation prefix 2001:db8::/32 (RFC 3849).
 const BASE: u128 = 0x2001_0db8_0000_0000_0000_0000_0000_0000;
 
-/// The step from one /56 to the next.
-const STEP: u128 = 1 << 72;
-
-/// Two sessions.
-const FIRST: Handle = Handle {
+/// The only session.
+const SESSION: Handle = Handle {
     place: 0,
     number: 1,
 };
 
-const SECOND: Handle = Handle {
-    place: 1,
-    number: 2,
-};
+/// Calls as they print.
+const LISTENS: &str = r#"ListenNegotiate { name: Chars { held: "PrefixManager" } }"#;
 
-/// A call, as far as these tests compare it.
-#[derive(Clone, Copy, Debug, PartialEq, Eq)]
-enum Made {
-    Registers,
-    Declares(u8),
-    Listens,
-    Requests {
-        length: u64,
-        loops: u8,
-        timeout: u32,
-        dry: bool,
-    },
-    Offers {
-        handle: Handle,
-        length: u64,
-        address: u128,
-    },
-    Asks(Handle, u64),
-    Accepts(Handle),
-    Declines(Handle),
-    Polls(Handle),
-    Other,
-}
+const POLLS: &str = "Poll { handle: Handle { place: 0, number: 1 } }";
+
+const ACCEPTS: &str = "EndNegotiate { handle: Handle { place: 0, number: 1 }, verdict: Accept }";
+
+const OFFERS: &str =
+    "NegotiateStep { handle: Handle { place: 0, number: 1 }, value: Value { item: List(Items { held: [Uint(56), Bytes(Octets { held: [32, 1, 13, 184, 0, 0, 0, 0, 0, 0, 0, 0, 0, 0, 0, 0] })] }) } }";
+
+const ASKS: &str =
+    "NegotiateStep { handle: Handle { place: 0, number: 1 }, value: Value { item: List(Items { held: [Uint(56)] }) } }";
 
 /// A reply.
 #[derive(Clone, Copy)]
 enum Told {
     Number(u32),
     Done,
-    Started(Handle),
+    Started,
     Nothing,
-    Incoming(Handle),
-    Refused(ApiRefused),
-    NoMemory,
-    Waits,
+    Incoming,
+    Full,
     Asked(u8, u8),
     Offered(u8, Prefix),
     Agreed(By, Prefix),
-    Declined(By),
     Broken,
 }
 
-fn prefix(address: u128, length: u8) -> Result<Prefix, Fail> {
-    Ok(Prefix::of(address, length).ok_or("no prefix")?)
+fn prefix(length: u8) -> Result<Prefix, Fail> {
+    Ok(Prefix::of(BASE, length).ok_or("no prefix")?)
 }
 
-/// The value [length].
-fn length_alone(alloc: Global, length: u8) -> Result<Value, Fail> {
+/// An offer of PrefixManager with the value [length], or [length, 16 bytes].
+fn objective(alloc: Global, loops: u8, length: u8, offer: bool) -> Result<Objective, Fail> {
     let mut parts = Items::new(alloc);
     parts.push(Item::Uint(u64::from(length)))?;
-    Ok(Value::of(Item::List(parts)).map_err(|_| "too deep")?)
-}
-
-/// The value [length, 16 bytes].
-fn length_and_address(alloc: Global, prefix: Prefix) -> Result<Value, Fail> {
-    let mut parts = Items::new(alloc);
-    parts.push(Item::Uint(u64::from(prefix.length())))?;
-    let bytes = Octets::of(alloc, &prefix.address().to_be_bytes())?;
-    parts.push(Item::Bytes(bytes))?;
-    Ok(Value::of(Item::List(parts)).map_err(|_| "too deep")?)
-}
-
-/// An offer of PrefixManager.
-fn objective(alloc: Global, loops: u8, value: Value) -> Result<Objective, Fail> {
-    let name = Chars::of(alloc, "PrefixManager")?;
-    let flags = Flags::of(3).ok_or("no flags")?;
+    if offer {
+        parts.push(Item::Bytes(Octets::of(alloc, &BASE.to_be_bytes())?))?;
+    }
+    let value = Value::of(Item::List(parts)).map_err(|_| "too deep")?;
     Ok(Objective {
-        name,
-        flags,
+        name: Chars::of(alloc, "PrefixManager")?,
+        flags: Flags::DISC_NEG,
         loops,
         value: Some(value),
     })
 }
 
-/// How a session stands.
+/// How the session stands.
 fn progress(alloc: Global, told: Told) -> Result<Progress, Fail> {
     match told {
-        Told::Asked(loops, length) => {
-            let value = length_alone(alloc, length)?;
-            Ok(Progress::Turn(objective(alloc, loops, value)?))
-        }
+        Told::Asked(loops, length) => Ok(Progress::Turn(objective(alloc, loops, length, false)?)),
         Told::Offered(loops, prefix) => {
-            let value = length_and_address(alloc, prefix)?;
-            Ok(Progress::Turn(objective(alloc, loops, value)?))
+            Ok(Progress::Turn(objective(alloc, loops, prefix.length(), true)?))
         }
         Told::Agreed(by, prefix) => {
-            let value = length_and_address(alloc, prefix)?;
-            let objective = objective(alloc, 4, value)?;
+            let objective = objective(alloc, 4, prefix.length(), true)?;
             Ok(Progress::Ended(Outcome::Agreed { by, objective }))
         }
-        Told::Declined(by) => Ok(Progress::Ended(Outcome::Declined { by, reason: None })),
-        Told::Broken => Ok(Progress::Ended(Outcome::Broken)),
-        _ => Ok(Progress::NotYet),
+        _ => Ok(Progress::Ended(Outcome::Broken)),
     }
 }
 
@@ -131,90 +88,37 @@ fn reply(alloc: Global, told: Told) -> Result<Reply, Fail> {
     match told {
         Told::Number(number) => Ok(Reply::Api(ApiAnswer::Asa(number))),
         Told::Done => Ok(Reply::Api(ApiAnswer::Done)),
-        Told::Started(handle) => Ok(Reply::Api(ApiAnswer::Started(handle))),
+        Told::Started => Ok(Reply::Api(ApiAnswer::Started(SESSION))),
         Told::Nothing => Ok(Reply::Api(ApiAnswer::NotYet)),
-        Told::Incoming(handle) => {
-            let value = length_alone(alloc, 56)?;
-            let objective = objective(alloc, 6, value)?;
+        Told::Incoming => {
+            let objective = objective(alloc, 6, 56, false)?;
             Ok(Reply::Api(ApiAnswer::Incoming {
-                handle,
+                handle: SESSION,
                 from: Address::V6(BASE + 1),
                 objective,
             }))
         }
-        Told::Refused(refused) => Ok(Reply::Refused(refused)),
-        Told::NoMemory => Ok(Reply::OutOfMemory),
+        Told::Full => Ok(Reply::Refused(ApiRefused::OutboxFull)),
         _ => Ok(Reply::Api(ApiAnswer::Polled(progress(alloc, told)?))),
     }
 }
 
-/// The length that a value has first, and the address that it has second.
-fn parts_of(value: &Value) -> (u64, Option<u128>) {
-    let Item::List(parts) = value.item() else {
-        return (0, None);
-    };
-    let length = match parts.at(0) {
-        Some(Item::Uint(length)) => *length,
-        _ => 0,
-    };
-    match parts.at(1) {
-        Some(Item::Bytes(bytes)) => (length, ipv6_of_bytes(bytes.bytes())),
-        _ => (length, None),
-    }
-}
-
-/// The step of a negotiation.
-fn step_made(handle: Handle, value: &Value) -> Made {
-    match parts_of(value) {
-        (length, Some(address)) => Made::Offers {
-            handle,
-            length,
-            address,
-        },
-        (length, None) => Made::Asks(handle, length),
-    }
-}
-
-/// The call that was made.
-fn made_by(call: &Call) -> Made {
-    match call {
-        Call::RegisterAsa { name } if name.text() == "prefix agent" => Made::Registers,
-        Call::RegisterObjective { name, flags } if name.text() == "PrefixManager" => {
-            Made::Declares(flags.bits())
-        }
-        Call::ListenNegotiate { name } if name.text() == "PrefixManager" => Made::Listens,
-        Call::RequestNegotiate {
-            name,
-            value,
-            loops,
-            timeout,
-            dry,
-            peer: _,
-        } if name.text() == "PrefixManager" => Made::Requests {
-            length: parts_of(value).0,
-            loops: *loops,
-            timeout: *timeout,
-            dry: *dry,
-        },
-        Call::NegotiateStep { handle, value } => step_made(*handle, value),
-        Call::EndNegotiate { handle, verdict } => match verdict {
-            Verdict::Accept => Made::Accepts(*handle),
-            Verdict::Decline(_) => Made::Declines(*handle),
-        },
-        Call::Poll { handle } => Made::Polls(*handle),
-        _ => Made::Other,
-    }
+/// The agent makes this call.
+fn makes<A: Agent>(rt: &impl Abort, alloc: Global, agent: &A, wanted: &str) -> Result<(), Fail> {
+    let call = agent.next()?;
+    assert_eq!(rt; format!(in alloc; "{call:?}")?.as_str(), wanted);
+    Ok(())
 }
 
 /// The agent makes these calls, and is told this after each.
-fn play(
+fn play<A: Agent>(
     rt: &impl Abort,
     alloc: Global,
-    agent: &mut PrefixAgent,
-    rows: &[(Made, Told)],
+    agent: &mut A,
+    rows: &[(&str, Told)],
 ) -> Result<(), Fail> {
-    for &(want, told) in rows {
-        assert_eq!(rt; made_by(&agent.next()?), want);
+    for &(wanted, told) in rows {
+        makes(rt, alloc, agent, wanted)?;
         agent.take(&reply(alloc, told)?);
     }
     Ok(())
@@ -223,144 +127,44 @@ fn play(
 /// An agent whose opening calls are done.
 fn opened(rt: &impl Abort, alloc: Global, roots: &[RootPrefix]) -> Result<PrefixAgent, Fail> {
     let mut agent = PrefixAgent::open(alloc, roots)?;
+    let registers = r#"RegisterAsa { name: Chars { held: "prefix agent" } }"#;
+    let declares =
+        r#"RegisterObjective { name: Chars { held: "PrefixManager" }, flags: Flags { bits: 3 } }"#;
     let rows = [
-        (Made::Registers, Told::Number(7)),
-        (Made::Declares(3), Told::Done),
-        (Made::Listens, Told::Nothing),
+        (registers, Told::Full),
+        (registers, Told::Number(7)),
+        (declares, Told::Done),
+        (LISTENS, Told::Nothing),
     ];
     play(rt, alloc, &mut agent, &rows)?;
+    assert_eq!(rt; agent.asa(), 7);
     Ok(agent)
 }
 
-/// An agent of one root, the documentation prefix with 48 bits, with a giving session in which a /56 was offered.
-fn offering(rt: &impl Abort, alloc: Global) -> Result<PrefixAgent, Fail> {
+/// An agent of a /48 that was asked for a /56 and has offered it.
+fn giving(rt: &impl Abort, alloc: Global) -> Result<PrefixAgent, Fail> {
     let root = RootPrefix {
         address: BASE,
         length: 48,
     };
     let mut agent = opened(rt, alloc, &[root])?;
     let rows = [
-        (Made::Listens, Told::Incoming(FIRST)),
-        (Made::Polls(FIRST), Told::Waits),
-        (Made::Listens, Told::Nothing),
-        (Made::Polls(FIRST), Told::Asked(6, 56)),
+        (LISTENS, Told::Incoming),
+        (POLLS, Told::Asked(6, 56)),
+        (OFFERS, Told::Full),
+        (OFFERS, Told::Done),
+        (LISTENS, Told::Nothing),
     ];
     play(rt, alloc, &mut agent, &rows)?;
+    assert_eq!(rt; agent.pool().reserved(0), Some(prefix(56)?));
     Ok(agent)
 }
 
-/// The offer of that agent.
-fn offer() -> Made {
-    Made::Offers {
-        handle: FIRST,
-        length: 56,
-        address: BASE,
-    }
-}
-
-/// The pool has all of the root but its first /56.
-fn rest_is_held(rt: &impl Abort, pool: &Pool) -> Result<(), Fail> {
-    assert_eq!(rt; pool.free(0), Some(prefix(BASE + STEP, 56)?));
-    assert_eq!(rt; pool.free(1), Some(prefix(BASE + 2 * STEP, 55)?));
-    assert_eq!(rt; pool.free(7), Some(prefix(BASE + 128 * STEP, 49)?));
-    assert_eq!(rt; pool.free(8), None);
-    Ok(())
-}
-
-#[test]
-fn agent_opens(rt: HostRuntime) -> Result<(), Fail> {
-    let mut agent = PrefixAgent::open(rt.alloc(), &[])?;
-    assert_eq!(rt; agent.asa(), 0);
-    let rows = [
-        (Made::Registers, Told::Refused(ApiRefused::AsasFull)),
-        (Made::Registers, Told::NoMemory),
-        (Made::Registers, Told::Number(7)),
-        (Made::Declares(3), Told::Refused(ApiRefused::ObjectiveTaken)),
-        (Made::Declares(3), Told::Done),
-        (Made::Listens, Told::Refused(ApiRefused::OutOfMemory)),
-        (Made::Listens, Told::Incoming(FIRST)),
-        (Made::Listens, Told::Nothing),
-        (Made::Polls(FIRST), Told::Waits),
-    ];
-    play(&rt, rt.alloc(), &mut agent, &rows)?;
-    assert_eq!(rt; agent.asa(), 7);
-    assert_eq!(rt; agent.last(), None);
-    Ok(())
-}
-
-#[test]
-fn agent_gives(rt: HostRuntime) -> Result<(), Fail> {
-    let mut agent = offering(&rt, rt.alloc())?;
-    assert_eq!(rt; agent.pool().reserved(0), Some(prefix(BASE, 56)?));
-    let rows = [
-        (offer(), Told::Refused(ApiRefused::OutboxFull)),
-        (offer(), Told::NoMemory),
-        (offer(), Told::Done),
-        (Made::Listens, Told::Nothing),
-        (
-            Made::Polls(FIRST),
-            Told::Agreed(By::Theirs, prefix(BASE, 56)?),
-        ),
-        (Made::Listens, Told::Nothing),
-        (Made::Listens, Told::Nothing),
-    ];
-    play(&rt, rt.alloc(), &mut agent, &rows)?;
-    rest_is_held(&rt, agent.pool())?;
-    assert_eq!(rt; agent.pool().reserved(0), None);
-    assert_eq!(rt; agent.pool().doubtful(0), None);
-    Ok(())
-}
-
-#[test]
-fn agent_doubts(rt: HostRuntime) -> Result<(), Fail> {
-    let mut agent = offering(&rt, rt.alloc())?;
-    let rows = [
-        (offer(), Told::Done),
-        (Made::Listens, Told::Nothing),
-        (Made::Polls(FIRST), Told::Broken),
-        (Made::Listens, Told::Nothing),
-    ];
-    play(&rt, rt.alloc(), &mut agent, &rows)?;
-    rest_is_held(&rt, agent.pool())?;
-    assert_eq!(rt; agent.pool().reserved(0), None);
-    assert_eq!(rt; agent.pool().doubtful(0), Some(prefix(BASE, 56)?));
-    assert_eq!(rt; agent.pool().doubtful(1), None);
-    Ok(())
-}
-
-#[test]
-fn agent_takes_back(rt: HostRuntime) -> Result<(), Fail> {
-    let whole = Some(prefix(BASE, 48)?);
-    let mut agent = offering(&rt, rt.alloc())?;
-    let refused = [(offer(), Told::Refused(ApiRefused::NoSession))];
-    play(&rt, rt.alloc(), &mut agent, &refused)?;
-    assert_eq!(rt; agent.pool().free(0), whole);
-    assert_eq!(rt; agent.pool().reserved(0), None);
-    let again = [
-        (Made::Listens, Told::Nothing),
-        (Made::Polls(FIRST), Told::Asked(1, 56)),
-        (Made::Declines(FIRST), Told::Done),
-    ];
-    play(&rt, rt.alloc(), &mut agent, &again)?;
-    let mut other = offering(&rt, rt.alloc())?;
-    let declined = [
-        (offer(), Told::Done),
-        (Made::Listens, Told::Nothing),
-        (Made::Polls(FIRST), Told::Declined(By::Theirs)),
-        (Made::Listens, Told::Nothing),
-    ];
-    play(&rt, rt.alloc(), &mut other, &declined)?;
-    assert_eq!(rt; other.pool().free(0), whole);
-    assert_eq!(rt; other.pool().free(1), None);
-    assert_eq!(rt; other.pool().doubtful(0), None);
-    Ok(())
-}
-
-#[test]
-fn agent_wants(rt: HostRuntime) -> Result<(), Fail> {
-    let mut agent = opened(&rt, rt.alloc(), &[])?;
+/// An agent without a prefix that wants a /56, or a longer one up to a /64, and has asked for it.
+fn wanting(rt: &impl Abort, alloc: Global) -> Result<PrefixAgent, Fail> {
+    let mut agent = opened(rt, alloc, &[])?;
     let peer = || Locator::V6 {
-        address: BASE + 1,
+        address: 1,
         proto: Proto::Tcp,
         port: 7017,
     };
@@ -370,53 +174,110 @@ fn agent_wants(rt: HostRuntime) -> Result<(), Fail> {
         longest: 64,
     };
     assert_eq!(rt; agent.want(60, 60, peer()), Err(busy));
-    let request = Made::Requests {
-        length: 56,
-        loops: 6,
-        timeout: 60000,
-        dry: false,
-    };
-    let whole = prefix(BASE, 56)?;
+    let request =
+        "RequestNegotiate { name: Chars { held: \"PrefixManager\" }, value: Value { item: List(Items { held: [Uint(56)] }) }, loops: 6, timeout: 60000, dry: false, peer: V6 { address: 1, proto: Tcp, port: 7017 } }";
+    let rows = [(request, Told::Started), (LISTENS, Told::Nothing)];
+    play(rt, alloc, &mut agent, &rows)?;
+    Ok(agent)
+}
+
+#[test]
+fn lost_acceptance(rt: HostRuntime) -> Result<(), Fail> {
+    let alloc = rt.alloc();
+    let mut giver = giving(&rt, alloc)?;
+    play(&rt, alloc, &mut giver, &[(POLLS, Told::Broken)])?;
+    assert_eq!(rt; giver.pool().doubtful(0), Some(prefix(56)?));
+    assert_eq!(rt; giver.pool().reserved(0), None);
+    let mut requester = wanting(&rt, alloc)?;
     let rows = [
-        (request, Told::Refused(ApiRefused::OutboxFull)),
-        (request, Told::Started(FIRST)),
-        (Made::Listens, Told::Nothing),
-        (Made::Polls(FIRST), Told::Offered(5, prefix(BASE, 48)?)),
-        (Made::Asks(FIRST, 56), Told::Done),
-        (Made::Listens, Told::Nothing),
-        (Made::Polls(FIRST), Told::Offered(3, whole)),
-        (Made::Accepts(FIRST), Told::Done),
+        (POLLS, Told::Offered(5, prefix(56)?)),
+        (ACCEPTS, Told::Done),
+        (LISTENS, Told::Nothing),
+        (POLLS, Told::Agreed(By::Mine, prefix(56)?)),
+        (LISTENS, Told::Nothing),
     ];
-    play(&rt, rt.alloc(), &mut agent, &rows)?;
-    assert_eq!(rt; agent.pool().free(0), Some(whole));
-    assert_eq!(rt; agent.pool().free(1), None);
-    assert_eq!(rt; agent.last(), None);
-    let end = [
-        (Made::Listens, Told::Nothing),
-        (Made::Polls(FIRST), Told::Agreed(By::Mine, whole)),
-        (Made::Listens, Told::Nothing),
-    ];
-    play(&rt, rt.alloc(), &mut agent, &end)?;
-    assert_eq!(rt; agent.last(), Some(WantEnd::Held(whole)));
+    assert!(rt; requester.wanting() && requester.last().is_none());
+    play(&rt, alloc, &mut requester, &rows)?;
+    assert_eq!(rt; requester.pool().free(0), Some(prefix(56)?));
+    assert_eq!(rt; requester.last(), Some(WantEnd::Held(prefix(56)?)));
+    assert!(rt; !requester.wanting());
     Ok(())
 }
 
 #[test]
-fn agent_goes_round(rt: HostRuntime) -> Result<(), Fail> {
-    let mut agent = opened(&rt, rt.alloc(), &[])?;
+fn counter_offer(rt: HostRuntime) -> Result<(), Fail> {
+    let alloc = rt.alloc();
+    let mut requester = wanting(&rt, alloc)?;
     let rows = [
-        (Made::Listens, Told::Incoming(FIRST)),
-        (Made::Polls(FIRST), Told::Waits),
-        (Made::Listens, Told::Incoming(SECOND)),
-        (Made::Polls(FIRST), Told::Waits),
-        (Made::Polls(SECOND), Told::Waits),
-        (Made::Listens, Told::Nothing),
-        (Made::Polls(FIRST), Told::Broken),
-        (Made::Listens, Told::Nothing),
-        (Made::Polls(SECOND), Told::Asked(6, 56)),
-        (Made::Declines(SECOND), Told::Refused(ApiRefused::NoSession)),
-        (Made::Listens, Told::Nothing),
+        (POLLS, Told::Offered(5, prefix(48)?)),
+        (ASKS, Told::Done),
+        (LISTENS, Told::Nothing),
+        (POLLS, Told::Offered(3, prefix(56)?)),
+        (ACCEPTS, Told::Done),
     ];
-    play(&rt, rt.alloc(), &mut agent, &rows)?;
+    play(&rt, alloc, &mut requester, &rows)?;
+    assert_eq!(rt; requester.pool().free(0), Some(prefix(56)?));
+    let mut giver = giving(&rt, alloc)?;
+    let rows = [
+        (POLLS, Told::Asked(4, 56)),
+        (OFFERS, Told::Done),
+        (LISTENS, Told::Nothing),
+        (POLLS, Told::Agreed(By::Theirs, prefix(56)?)),
+        (LISTENS, Told::Nothing),
+    ];
+    play(&rt, alloc, &mut giver, &rows)?;
+    assert_eq!(rt; giver.pool().reserved(0), None);
+    assert_eq!(rt; giver.pool().free(0), Prefix::of(BASE + (1 << 72), 56));
+    Ok(())
+}
+
+#[test]
+fn beacon_makes_its_calls(rt: HostRuntime) -> Result<(), Fail> {
+    let alloc = rt.alloc();
+    let name = Chars::of(alloc, "weather")?;
+    let value = Value::of(Item::Uint(3)).map_err(|_| "too deep")?;
+    let mut beacon = Beacon::open(alloc, 7, name, value, 60_000, 4);
+    let registers = r#"RegisterAsa { name: Chars { held: "beacon 7" } }"#;
+    let declares =
+        r#"RegisterObjective { name: Chars { held: "weather" }, flags: Flags { bits: 5 } }"#;
+    let offers =
+        r#"ListenSynchronize { name: Chars { held: "weather" }, value: Value { item: Uint(3) } }"#;
+    let floods =
+        r#"Flood { name: Chars { held: "weather" }, value: Value { item: Uint(3) }, ttl: 60000, loops: 4 }"#;
+    let rows = [
+        (registers, Told::Number(2)),
+        (declares, Told::Done),
+        (offers, Told::Done),
+        (floods, Told::Full),
+        (floods, Told::Done),
+        (offers, Told::Done),
+        (offers, Told::Done),
+    ];
+    play(&rt, alloc, &mut beacon, &rows)?;
+    assert_eq!(rt; beacon.asa(), 2);
+    Ok(())
+}
+
+#[test]
+fn reader_keeps_floods(rt: HostRuntime) -> Result<(), Fail> {
+    let alloc = rt.alloc();
+    let mut reader = Reader::open(alloc, 2, Chars::of(alloc, "weather")?);
+    let registers = r#"RegisterAsa { name: Chars { held: "reader 2" } }"#;
+    let reads = r#"GetFlood { name: Chars { held: "weather" } }"#;
+    play(
+        &rt,
+        alloc,
+        &mut reader,
+        &[(registers, Told::Full), (registers, Told::Number(3))],
+    )?;
+    makes(&rt, alloc, &reader, reads)?;
+    let mut told = FloodReads::new(alloc);
+    told.push(FloodRead {
+        initiator: Address::V6(1),
+        objective: objective(alloc, 5, 56, false)?,
+        locator: None,
+    })?;
+    reader.keep(Reply::Api(ApiAnswer::Floods(told)));
+    assert_eq!(rt; (reader.asa(), reader.reads().len()), (3, 1));
     Ok(())
 }

@@ -8,12 +8,9 @@ use crate::agent::Agent;
 use crate::names::numbered;
 use crate::replies::{is_done, number};
 use grasp_cbor::{Chars, OutOfMemory};
-use grasp_types::{Call, Flags, Reply, Value};
+use grasp_types::{Call, Flags, Plain, Reply, Value};
 use std::alloc::Global;
 use std::marker::Model;
-
-/// F_DISC and F_SYNCH (RFC 8990, section 2.10.2).
-const FLAGS: u8 = 5;
 
 /// The call of a beacon that is next.
 #[derive(Clone, Copy, Debug, PartialEq, Eq)]
@@ -101,7 +98,7 @@ impl Agent for Beacon {
             }),
             Step::Declaring => Ok(Call::RegisterObjective {
                 name: self.name.copy()?,
-                flags: flags(),
+                flags: Flags::DISC_SYNCH,
             }),
             Step::Offering | Step::Repeating => self.offer(),
             Step::Flooding => Ok(Call::Flood {
@@ -135,15 +132,5 @@ impl Agent for Beacon {
         ensures { result ≡ self.now.asa }
     {
         self.asa
-    }
-}
-
-/// The flags of a beacon's objective.
-fn flags() -> Flags
-    ensures { result ≡ 5 }
-{
-    match Flags::of(FLAGS) {
-        Some(flags) => flags,
-        None => unreachable!(),
     }
 }

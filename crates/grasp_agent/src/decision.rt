@@ -35,15 +35,22 @@ impl Reason {
     }
 }
 
-/// What an agent decides.
+/// What a giver decides.
 #[derive(Clone, Copy, Debug, PartialEq, Eq)]
-pub(crate) enum Decision {
-    /// A giver offers this prefix.
+pub(crate) enum GiverDecision {
+    /// It offers this prefix.
     Offer(Prefix),
-    /// A requester asks again for this length.
-    Counter(u8),
-    /// A requester accepts this prefix.
+    /// It declines.
+    Decline(Reason),
+}
+
+/// What one that requests a prefix decides.
+#[derive(Clone, Copy, Debug, PartialEq, Eq)]
+pub(crate) enum RequesterDecision {
+    /// It accepts this prefix.
     Accept(Prefix),
-    /// Either declines.
+    /// It asks again for this length.
+    Counter(u8),
+    /// It declines.
     Decline(Reason),
 }

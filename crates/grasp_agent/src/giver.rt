@@ -1,9 +1,9 @@
 //! What a giver of prefixes decides (RFC 8992, section 4.2).
 
 ghost use Rattle.std.specs.Prelude.{◌≡◌, ◌+◌, ◌≤◌};
-ghost use Rattle.grasp_agent.specs.Decisions.{upward, rounded, candidates, first_given, give, after_give, after_first};
+ghost use Rattle.grasp_agent.specs.Decisions.{upward, rounded, candidates, first_given, giver_decision, after_deciding, after_first};
 
-use crate::decision::{Decision, Reason};
+use crate::decision::{GiverDecision, Reason};
 use crate::value::asked_length;
 use grasp_pool::Pool;
 use grasp_types::{Prefix, Value};
@@ -16,20 +16,20 @@ const MORE: u8 = 8;
 
 /// Decides on the value and the loop count of the peer's offer, where `first` says that nothing was offered in this
 /// session yet. What it offers is reserved. It takes no memory.
-#[tactic(auto, unfolding(crate::specs::Decisions::give))]
-pub(crate) fn give(pool: &mut Pool, value: &Option<Value>, loops: u8, first: bool) -> Decision
-    ensures decides { result ≡ give pool.old value.now loops first }
-    ensures after { pool.new ≡ after_give pool.old result }
+#[tactic(auto, unfolding(crate::specs::Decisions::giver_decision))]
+pub(crate) fn give(pool: &mut Pool, value: &Option<Value>, loops: u8, first: bool) -> GiverDecision
+    ensures decides { result ≡ giver_decision pool.old value.now loops first }
+    ensures after { pool.new ≡ after_deciding pool.old result }
 {
     let Some(length) = asked_length(value) else {
-        return Decision::Decline(Reason::BadValue);
+        return GiverDecision::Decline(Reason::BadValue);
     };
     if loops <= 1 {
-        return Decision::Decline(Reason::NoLoops);
+        return GiverDecision::Decline(Reason::NoLoops);
     }
     match take_first(pool, length, loops, first) {
-        Some(prefix) => Decision::Offer(prefix),
-        None => Decision::Decline(Reason::NoPrefix),
+        Some(prefix) => GiverDecision::Offer(prefix),
+        None => GiverDecision::Decline(Reason::NoPrefix),
     }
 }
 

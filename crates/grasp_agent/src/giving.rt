@@ -3,7 +3,7 @@
 ghost use Rattle.std.specs.Prelude.{◌≡◌, None};
 ghost use Rattle.grasp_agent.specs.Replies.{offering, deciding};
 
-use crate::decision::Decision;
+use crate::decision::GiverDecision;
 use grasp_types::{Handle, Prefix};
 
 /// A giving session.
@@ -29,16 +29,16 @@ impl Giving {
     }
 
     /// The session after its agent has decided.
-    pub(crate) fn after(self, decision: &Decision) -> Giving
+    pub(crate) fn after(self, decision: &GiverDecision) -> Giving
         ensures { result ≡ deciding self decision.now }
     {
         match decision {
-            Decision::Offer(prefix) => Giving {
+            GiverDecision::Offer(prefix) => Giving {
                 handle: self.handle,
                 offer: Some(*prefix),
                 first: false,
             },
-            _ => self.without_offer(),
+            GiverDecision::Decline(_) => self.without_offer(),
         }
     }
 }

@@ -15,21 +15,21 @@ mod reader;
 mod replies;
 mod requester;
 mod stage;
+mod threads;
 mod value;
 mod want;
 
 pub use agent::Agent;
 pub use beacon::Beacon;
 pub use laws::{
-    agents_are_kept, gains_are_accepted, givers_offer, offers_stay_listed, values_are_read,
+    agent_moves, agents_are_kept, cursors_turn, gains_are_accepted, givers_decide, givers_offer,
+    offers_stay_listed, openings_go_on, readers_agree, requesters_decide, values_are_read,
+    values_are_values,
 };
 pub use prefix_agent::PrefixAgent;
 pub use reader::Reader;
+pub use threads::agents_may_cross;
 pub use want::{WantEnd, WantFault};
 
 #[cfg(test)]
 mod agent_tests;
-#[cfg(test)]
-mod announcing_tests;
-#[cfg(test)]
-mod decision_tests;

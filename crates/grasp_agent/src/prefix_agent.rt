@@ -1,17 +1,17 @@
 //! The agent that manages prefixes (RFC 8992).
 
-ghost use Rattle.std.specs.Prelude.{◌≡◌, ◌≤◌, Some, None, IfOk, IfSome, MatchResult, Contains, slice_get};
+ghost use Rattle.std.specs.Prelude.{◌≡◌, ◌↔◌, ◌≤◌, true, Some, None, IfOk, IfSome, IsSome, IsTrue, MatchResult, Contains, slice_get};
 ghost use Rattle.grasp_pool.specs.Answers.{IsOpened, IsRootFault};
 ghost use Rattle.grasp_pool.specs.Functions.{pool_of};
 ghost use Rattle.grasp_agent.specs.Calls.{next_call, opening_call, asking_call};
-ghost use Rattle.grasp_agent.specs.Decisions.{give, after_give};
+ghost use Rattle.grasp_agent.specs.Decisions.{giver_decision, after_deciding};
 ghost use Rattle.grasp_agent.specs.Kept.{IsKept};
 ghost use Rattle.grasp_agent.specs.Replies.{want_reply, after_want, after_reply, after_opening, after_incoming, after_act, after_dropping, after_doing, after_asking, after_duty, after_want_progress, after_give_progress, after_giver_turn, after_giver_end, finished, giving_back, settled, settling, advanced, incoming_in, answer_in};
-ghost use Rattle.grasp_agent.specs.States.{first_agent, duties, duty_of, giving_duty, want_session};
+ghost use Rattle.grasp_agent.specs.States.{first_agent, is_open, duties, duty_of, giving_duty, want_session};
 
 use crate::act::Act;
 use crate::agent::Agent;
-use crate::decision::Decision;
+use crate::decision::GiverDecision;
 use crate::duty::{Duty, objective_name};
 use crate::giver::give;
 use crate::giving::Giving;
@@ -29,9 +29,6 @@ use std::marker::Model;
 
 /// An agent gives in at most so many sessions at once.
 const MOST_GIVING: usize = 64;
-
-/// F_DISC and F_NEG (RFC 8990, section 2.10.2).
-const FLAGS: u8 = 3;
 
 /// The agent that manages the prefixes of a node: it gives prefixes to the agents of other nodes, and asks for one where
 /// it is told to want one.
@@ -116,6 +113,13 @@ impl PrefixAgent {
         Ok(())
     }
 
+    /// Whether a want isn't finished.
+    pub fn wanting(&self) -> bool
+        ensures { IsTrue result ↔ IsSome self.now.want }
+    {
+        self.want.is_some()
+    }
+
     /// The pool of the agent's prefixes. Those that are free are held by the node.
     pub fn pool(&self) -> &Pool
         ensures pool { result.now ≡ self.now.pool }
@@ -142,7 +146,7 @@ impl PrefixAgent {
             }),
             Stage::Declaring => Ok(Call::RegisterObjective {
                 name: objective_name(self.alloc)?,
-                flags: flags(),
+                flags: Flags::DISC_NEG,
             }),
             Stage::Opening | Stage::Serving => Ok(Call::ListenNegotiate {
                 name: objective_name(self.alloc)?,
@@ -200,30 +204,30 @@ impl PrefixAgent {
         before + self.giving.len() as u64
     }
 
-    /// Goes on by the reply to the call that was next.
+    /// Takes the reply to the call that was next.
     #[tactic(auto, unfolding(crate::specs::Replies::after_reply))]
-    fn go_on_by(&mut self, reply: &Reply)
+    fn take_reply(&mut self, reply: &Reply)
         ensures { self.new ≡ after_reply self.old reply.now }
     {
         if is_again(reply) {
             return;
         }
         if !self.stage.is_open() {
-            return self.open_further(reply);
+            return self.take_opening_reply(reply);
         }
         if let Some(act) = self.act {
-            return self.finish_act(act, reply);
+            return self.take_act_reply(act, reply);
         }
         if is_asking(&self.want) {
-            return self.finish_asking(reply);
+            return self.take_request_reply(reply);
         }
         let duty = self.duty();
-        self.finish_duty(duty, reply);
+        self.take_duty_reply(duty, reply);
         self.advance();
     }
 
     /// Takes the reply to an opening call.
-    fn open_further(&mut self, reply: &Reply)
+    fn take_opening_reply(&mut self, reply: &Reply)
         ensures { self.new ≡ after_opening self.old reply.now }
     {
         match self.stage {
@@ -241,7 +245,7 @@ impl PrefixAgent {
             Stage::Opening => {
                 if is_answered(reply) {
                     self.stage = Stage::Serving;
-                    self.take_in(reply);
+                    self.add_session(reply);
                 }
             }
             Stage::Serving => (),
@@ -249,7 +253,8 @@ impl PrefixAgent {
     }
 
     /// Takes a session that a peer began as the last in which this agent gives.
-    fn take_in(&mut self, reply: &Reply)
+    fn add_session(&mut self, reply: &Reply)
+        requires { is_open self.old.stage ≡ true }
         ensures { self.new ≡ after_incoming self.old (incoming_in (answer_in reply.now)) }
     {
         if let Some(handle) = incoming(reply) {
@@ -267,19 +272,19 @@ impl PrefixAgent {
     }
 
     /// Takes the reply to an act.
-    fn finish_act(&mut self, act: Act, reply: &Reply)
+    fn take_act_reply(&mut self, act: Act, reply: &Reply)
         requires { self.old.act ≡ Some act }
         ensures { self.new ≡ after_act self.old act reply.now }
     {
         if refused(reply).is_some() {
-            self.drop_act(act);
+            self.act_refused(act);
         } else if is_done(reply) {
-            self.do_act(act);
+            self.act_done(act);
         }
     }
 
     /// Drops an act that was refused. A prefix that it would have offered goes back.
-    fn drop_act(&mut self, act: Act)
+    fn act_refused(&mut self, act: Act)
         requires { self.old.act ≡ Some act }
         ensures { self.new ≡ after_dropping self.old act }
     {
@@ -297,7 +302,7 @@ impl PrefixAgent {
     }
 
     /// An act is done. An acceptance gains its prefix.
-    fn do_act(&mut self, act: Act)
+    fn act_done(&mut self, act: Act)
         requires { self.old.act ≡ Some act }
         ensures { self.new ≡ after_doing self.old act }
     {
@@ -308,7 +313,8 @@ impl PrefixAgent {
     }
 
     /// Takes the reply to the request of a want.
-    fn finish_asking(&mut self, reply: &Reply)
+    fn take_request_reply(&mut self, reply: &Reply)
+        requires serves { is_open self.old.stage ≡ true }
         requires none { self.old.act ≡ None }
         ensures { self.new ≡ after_asking self.old reply.now }
     {
@@ -331,28 +337,30 @@ impl PrefixAgent {
     }
 
     /// Takes the reply to a duty.
-    fn finish_duty(&mut self, duty: Duty, reply: &Reply)
+    fn take_duty_reply(&mut self, duty: Duty, reply: &Reply)
+        requires serves { is_open self.old.stage ≡ true }
         requires none { self.old.act ≡ None }
         requires next { duty ≡ duty_of self.old }
         ensures { self.new ≡ after_duty self.old duty reply.now }
     {
         match duty {
-            Duty::Listen => self.take_in(reply),
+            Duty::Listen => self.add_session(reply),
             Duty::Want(handle) => {
                 if let Some(progress) = progress(reply) {
-                    self.go_on(handle, progress);
+                    self.take_want_progress(handle, progress);
                 }
             }
             Duty::Give { place, handle: _ } => {
                 if let Some(progress) = progress(reply) {
-                    self.go_on_giving(place, progress);
+                    self.take_giving_progress(place, progress);
                 }
             }
         }
     }
 
     /// The session of the want stands so.
-    fn go_on(&mut self, handle: Handle, progress: &Progress)
+    fn take_want_progress(&mut self, handle: Handle, progress: &Progress)
+        requires serves { is_open self.old.stage ≡ true }
         requires none { self.old.act ≡ None }
         requires session { want_session self.old.want ≡ Some handle }
         ensures { self.new ≡ after_want_progress self.old self.old.want handle (Some progress.now) }
@@ -371,7 +379,8 @@ impl PrefixAgent {
     }
 
     /// The giving session at this place stands so.
-    fn go_on_giving(&mut self, place: u64, progress: &Progress)
+    fn take_giving_progress(&mut self, place: u64, progress: &Progress)
+        requires serves { is_open self.old.stage ≡ true }
         requires none { self.old.act ≡ None }
         ensures { self.new ≡ after_give_progress self.old place (slice_get self.old.giving place) (Some progress.now) }
     {
@@ -387,6 +396,7 @@ impl PrefixAgent {
 
     /// The turn is this agent's in a giving session: its last offer goes back, and it decides anew.
     fn decide(&mut self, place: u64, giving: Giving, objective: &Objective)
+        requires serves { is_open self.old.stage ≡ true }
         requires none { self.old.act ≡ None }
         requires place { slice_get self.old.giving place ≡ Some giving }
         ensures { self.new ≡ after_giver_turn self.old place giving objective.now }
@@ -399,6 +409,7 @@ impl PrefixAgent {
 
     /// A giving session ended: its offer is confirmed, goes back or is in doubt, and the session leaves.
     fn settle(&mut self, place: u64, giving: Giving, outcome: &Outcome)
+        requires serves { is_open self.old.stage ≡ true }
         requires none { self.old.act ≡ None }
         requires place { slice_get self.old.giving place ≡ Some giving }
         ensures { self.new ≡ after_giver_end self.old place giving outcome.now }
@@ -443,7 +454,7 @@ impl Agent for PrefixAgent {
         ensures reply { self.new ≡ after_reply self.old reply.now }
         ensures kept { IsKept self.new }
     {
-        self.go_on_by(reply);
+        self.take_reply(reply);
         // What is true of every agent is known where a field is read.
         let _pool = &self.pool;
     }
@@ -456,10 +467,10 @@ impl Agent for PrefixAgent {
 }
 
 /// What a giver decides in its turn, once its last offer went back.
-fn decision_of(pool: &mut Pool, giving: &Giving, objective: &Objective) -> Decision
+fn decision_of(pool: &mut Pool, giving: &Giving, objective: &Objective) -> GiverDecision
     requires { IfSome giving.now.offer (λ prefix. Contains pool.old.reserved prefix) }
-    ensures decides { result ≡ give (giving_back pool.old giving.now.offer) objective.now.value objective.now.loops giving.now.first }
-    ensures after { pool.new ≡ after_give (giving_back pool.old giving.now.offer) result }
+    ensures decides { result ≡ giver_decision (giving_back pool.old giving.now.offer) objective.now.value objective.now.loops giving.now.first }
+    ensures after { pool.new ≡ after_deciding (giving_back pool.old giving.now.offer) result }
 {
     take_back(pool, giving.offer);
     give(pool, &objective.value, objective.loops, giving.first)
@@ -501,15 +512,5 @@ fn settle_offer(pool: &mut Pool, prefix: Prefix, outcome: &Outcome)
             reason: _,
         } => pool.give_back(prefix),
         _ => pool.doubt(prefix),
-    }
-}
-
-/// The flags of the agent's objective.
-fn flags() -> Flags
-    ensures { result ≡ 3 }
-{
-    match Flags::of(FLAGS) {
-        Some(flags) => flags,
-        None => unreachable!(),
     }
 }

@@ -8,7 +8,7 @@ ghost use Rattle.grasp_agent.specs.States.{is_asking, want_session};
 use crate::duty::objective_name;
 use crate::value::{length_value, offered_prefix};
 use grasp_cbor::OutOfMemory;
-use grasp_types::{ApiRefused, By, Call, Handle, Locator, Outcome, Prefix};
+use grasp_types::{ApiRefused, By, Call, Handle, Locator, Outcome, Plain, Prefix};
 use std::alloc::Global;
 
 /// The loop count of a request.

@@ -83,7 +83,7 @@ self_decided : (b : Bool) → Decides b (b ≡ true)
 self_decided b = (λ h. h, λ h. h)
 
 -- one element of the list has the fact
-any_decided : {X : Type 0} (p : X → Bool) (P : X → Type 0) → ((x : X) → Decides (p x) (P x)) → (xs : List X) → Decides (list_any p xs) (Any P xs)
+pub any_decided : {X : Type 0} (p : X → Bool) (P : X → Type 0) → ((x : X) → Decides (p x) (P x)) → (xs : List X) → Decides (list_any p xs) (Any P xs)
 any_decided p P each xs = (
   λ h. let a = Any-from_list_any p xs h in (a.0, a.1, a.2, a.3, (each a.1).0 a.4),
   λ a. list_any_at p xs a.0 a.1 a.2 (ap p a.3 ∙ (each a.1).1 a.4),

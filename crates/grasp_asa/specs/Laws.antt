@@ -1,12 +1,12 @@
 -- What holds of every registry, and of every call on it.
-use Rattle.std.specs.Prelude.{◌≡◌, ◌≢◌, ℕ, ◌≤◌, Bool, true, false, ◌⊎◌, List, length, Option, Result, IfOk, IfErr, All, Any}
+use Rattle.std.specs.Prelude.{◌≡◌, ◌≢◌, ℕ, ◌+◌, ◌<◌, ◌≤◌, Bool, true, false, ◌⊎◌, List, length, Option, Result, Ok, IfOk, IfErr, All, Any, find}
 use Rattle.grasp_cbor.specs.DataItem.{DataItem}
 use Rattle.grasp_types.specs.Objective.{has_neg, has_synch, has_dry}
 use Rattle.grasp_types.specs.Refusal.{refusal_number}
 use Rattle.grasp_types.specs.declared.refusal.ApiRefused.{ApiRefused}
 use Rattle.grasp_types.specs.declared.refusal.ApiRefused.TheVariants.{NoAsa, AsasFull, DuplicateAsa, NotBoth, ObjectivesFull, ObjectiveTaken, NotYourObjective, NotNegotiable, NotSynchronizable, NotDry}
 use Rattle.grasp_asa.specs.declared.entry.Registered.{Registered}
-use Rattle.grasp_asa.specs.Registrations.{Registrations, IsRegistry}
+use Rattle.grasp_asa.specs.Registrations.{Registrations, IsRegistry, is_numbered, is_of, is_registered}
 use Rattle.grasp_asa.specs.Answers.{nothing_registered, register_asa_answer, after_register_asa, deregister_asa_answer, after_deregister_asa, register_objective_answer, after_register_objective, deregister_objective_answer, after_deregister_objective, owned_answer, listen_answer, after_listen, offer_answer, after_offer}
 
 -- each call keeps what holds of every registry
@@ -89,3 +89,47 @@ pub record RefusalsAreLeast (r : Registrations) : Type 0 where
   pub deregister_objective : (asa : ℕ) (name : List ℕ) → IsLeast (RefusesOwned r asa name) (deregister_objective_answer r asa name)
   pub listen : (asa : ℕ) (name : List ℕ) → IsLeast (RefusesListen r asa name) (listen_answer r asa name)
   pub offer : (asa : ℕ) (name : List ℕ) → IsLeast (RefusesOffer r asa name) (offer_answer r asa name)
+
+-- this agent, and what it has registered under each name (its flags, its mark and its value), are as they were
+pub record IsAsBefore (owner : ℕ) (r s : Registrations) : Type 0 where
+  pub agent : find (is_numbered owner) s.agents ≡ find (is_numbered owner) r.agents
+  pub objective : (name : List ℕ) → find (is_of owner name) s.objectives ≡ find (is_of owner name) r.objectives
+
+-- the calls of other agents leave this one and its objectives as they are
+pub record IsLeftByOthers (r : Registrations) (owner : ℕ) : Type 0 where
+  pub register_asa : (name : List ℕ) → IsAsBefore owner r (after_register_asa r name (register_asa_answer r name))
+  pub deregister_asa : (asa : ℕ) → asa ≢ owner → IsAsBefore owner r (after_deregister_asa r asa (deregister_asa_answer r asa))
+  pub register_objective : (asa : ℕ) (name : List ℕ) (flags : ℕ) → asa ≢ owner
+      → IsAsBefore owner r (after_register_objective r asa name flags (register_objective_answer r asa name flags))
+  pub deregister_objective : (asa : ℕ) (name : List ℕ) → asa ≢ owner
+      → IsAsBefore owner r (after_deregister_objective r asa name (deregister_objective_answer r asa name))
+  pub listen : (asa : ℕ) (name : List ℕ) (on : Bool) → asa ≢ owner → IsAsBefore owner r (after_listen r name on (listen_answer r asa name))
+  pub offer : (asa : ℕ) (name : List ℕ) (value : Option DataItem) → asa ≢ owner
+      → IsAsBefore owner r (after_offer r name value (offer_answer r asa name))
+
+-- so it is of each registered agent
+abbrev pub OthersLeaveAnObjective : Type 0
+OthersLeaveAnObjective = (r : Registrations) (owner : ℕ) → IsRegistry r → is_registered r owner ≡ true → IsLeftByOthers r owner
+
+-- a name that is registered isn't registered again
+abbrev pub TakenStaysTaken : Type 0
+TakenStaysTaken = (r : Registrations) (asa : ℕ) (name : List ℕ) (flags : ℕ) → Any (λ o. o.name ≡ name) r.objectives
+    → register_objective_answer r asa name flags ≢ Ok tt
+
+-- a new agent's number is one more than the count of all that were ever registered, and so above each agent's
+abbrev pub IsNewNumber : Registrations → ℕ → Type 0
+IsNewNumber r asa = (asa ≡ r.made + 1) × All (λ a. a.number < asa) r.agents
+
+-- no call lowers the count of the agents that were ever registered
+pub record IsCounted (r : Registrations) : Type 0 where
+  pub register_asa : (name : List ℕ) → r.made ≤ (after_register_asa r name (register_asa_answer r name)).made
+  pub deregister_asa : (asa : ℕ) → (after_deregister_asa r asa (deregister_asa_answer r asa)).made ≡ r.made
+  pub register_objective : (asa : ℕ) (name : List ℕ) (flags : ℕ)
+      → (after_register_objective r asa name flags (register_objective_answer r asa name flags)).made ≡ r.made
+  pub deregister_objective : (asa : ℕ) (name : List ℕ) → (after_deregister_objective r asa name (deregister_objective_answer r asa name)).made ≡ r.made
+  pub listen : (asa : ℕ) (name : List ℕ) (on : Bool) → (after_listen r name on (listen_answer r asa name)).made ≡ r.made
+  pub offer : (asa : ℕ) (name : List ℕ) (value : Option DataItem) → (after_offer r name value (offer_answer r asa name)).made ≡ r.made
+
+-- so no number is used again
+abbrev pub NumbersAreNew : Type 0
+NumbersAreNew = (r : Registrations) → IsRegistry r → ((name : List ℕ) → IfOk (register_asa_answer r name) (IsNewNumber r)) × IsCounted r

@@ -1,9 +1,9 @@
 //! What a registry keeps of an agent, and of an objective.
 
-ghost use Rattle.std.specs.Prelude.{◌≡◌, IfOk};
+ghost use Rattle.std.specs.Prelude.{◌≡◌};
 ghost use Rattle.grasp_asa.specs.Registrations.{is_agent_named, is_named, is_of};
 
-use grasp_cbor::{Chars, OutOfMemory};
+use grasp_cbor::Chars;
 use grasp_types::{Flags, Value};
 
 /// An agent.
@@ -49,14 +49,5 @@ impl Registered {
         ensures { result ≡ is_of asa name.now self.now }
     {
         self.owner == asa && self.is_named(name)
-    }
-    /// Another of the offered value, where there is one.
-    pub(crate) fn copy_offered(&self) -> Result<Option<Value>, OutOfMemory>
-        ensures { IfOk result (λ value. value ≡ self.now.offered) }
-    {
-        match &self.offered {
-            Some(value) => Ok(Some(value.copy()?)),
-            None => Ok(None),
-        }
     }
 }

@@ -1,6 +1,6 @@
 //! Laws of registries.
 
-ghost use Rattle.grasp_asa.specs.Laws.{RegistryIsKept, RefusalsAreLeast};
+ghost use Rattle.grasp_asa.specs.Laws.{RegistryIsKept, RefusalsAreLeast, OthersLeaveAnObjective, TakenStaysTaken, NumbersAreNew};
 ghost use Rattle.grasp_asa.specs.Registrations.{Registrations, IsRegistry};
 
 /// What holds of every registry (its limits, no number and no name twice, each owner registered, flags of one use)
@@ -13,4 +13,21 @@ pub fn registry_is_kept()
 /// themselves, and where the call is accepted none holds.
 pub fn refusals_are_least()
     ensures { (r : Registrations) → IsRegistry r → RefusalsAreLeast r }
+{}
+
+/// Whatever the other agents call, an agent stays registered, and each of its objectives keeps its flags, its mark and its
+/// value.
+pub fn others_leave_an_objective()
+    ensures { OthersLeaveAnObjective }
+{}
+
+/// A name that an agent of the node has registered isn't registered again.
+pub fn taken_stays_taken()
+    ensures { TakenStaysTaken }
+{}
+
+/// A new agent's number is one more than the count of all that were ever registered, and above the number of each; no call
+/// lowers the count.
+pub fn numbers_are_new()
+    ensures { NumbersAreNew }
 {}

@@ -7,6 +7,11 @@ mod law;
 mod registry;
 #[cfg(test)]
 mod tests;
+mod threads;
 
-pub use law::{refusals_are_least, registry_is_kept};
+pub use law::{
+    numbers_are_new, others_leave_an_objective, refusals_are_least, registry_is_kept,
+    taken_stays_taken,
+};
 pub use registry::Registry;
+pub use threads::registry_may_cross;

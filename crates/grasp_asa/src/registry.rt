@@ -1,13 +1,13 @@
 //! The registry of a node's agents and objectives.
 
-ghost use Rattle.std.specs.Prelude.{◌≡◌, ◌<◌, IfOk, IfErr, Err, option_map, slice_get, find, position};
+ghost use Rattle.std.specs.Prelude.{◌≡◌, ◌<◌, true, IfOk, IfErr, OnErr, IsSome, Err, option_map, slice_get, find, position};
 ghost use Rattle.grasp_asa.specs.Answers.{nothing_registered, register_asa_answer, after_register_asa, deregister_asa_answer, after_deregister_asa, register_objective_answer, after_register_objective, deregister_objective_answer, after_deregister_objective, owned_answer, listen_answer, after_listen, offer_answer, after_offer, flags_registered, listener_of, value_offered, names_of};
 ghost use Rattle.grasp_asa.specs.Place.{IsPlaceOf};
-ghost use Rattle.grasp_asa.specs.Registrations.{is_registered, is_agent_name, is_taken, is_named, is_of, is_both_or_neither, is_dry_alone};
+ghost use Rattle.grasp_asa.specs.Registrations.{IsRegistry, is_registered, is_agent_name, is_taken, is_named, is_of, is_both_or_neither, is_dry_alone};
 
 use crate::entry::{Agent, Registered};
 use grasp_cbor::{Chars, OutOfMemory};
-use grasp_types::{ApiRefused, Flags, Value};
+use grasp_types::{ApiRefused, Flags, Plain, Value};
 use std::alloc::Global;
 use std::marker::Model;
 
@@ -46,7 +46,8 @@ impl Model for Registry {
 impl Registry {
     /// A registry in which nothing is registered, and nothing ever was.
     pub fn new(alloc: Global) -> Result<Registry, OutOfMemory>
-        ensures { IfOk result (λ r. r ≡ nothing_registered) }
+        ensures empty { IfOk result (λ r. r ≡ nothing_registered) }
+        ensures registry { IfOk result IsRegistry }
     {
         Ok(Registry {
             agents: Vec::with_capacity(alloc, MOST_AGENTS)?,
@@ -59,6 +60,7 @@ impl Registry {
     pub fn register_asa(&mut self, name: Chars) -> Result<u32, ApiRefused>
         ensures answer { result ≡ register_asa_answer self.old name }
         ensures after { self.new ≡ after_register_asa self.old name result }
+        ensures registry { IsRegistry self.new }
     {
         if self.agents.len() >= MOST_AGENTS || self.made == u32::MAX {
             return Err(ApiRefused::AsasFull);
@@ -78,13 +80,23 @@ impl Registry {
     pub fn deregister_asa(&mut self, asa: u32) -> Result<(), ApiRefused>
         ensures answer { result ≡ deregister_asa_answer self.old asa }
         ensures after { self.new ≡ after_deregister_asa self.old asa result }
+        ensures registry { IsRegistry self.new }
     {
-        if !self.is_registered(asa) {
+        if !self.knows(asa) {
             return Err(ApiRefused::NoAsa);
         }
         self.objectives.retain(|o| o.owner != asa);
         self.agents.retain(|a| a.number != asa);
         Ok(())
+    }
+
+    /// Whether a registered agent has this number. It takes no memory.
+    pub fn knows(&self, asa: u32) -> bool
+        ensures knows { result ≡ is_registered self.now asa }
+        ensures positive { result ≡ true → 0 < asa }
+        ensures registry { IsRegistry self.now }
+    {
+        self.agents.iter().any(|a| a.number == asa)
     }
 
     /// Registers an objective for this agent. It isn't listened for yet, and no value is offered.
@@ -96,8 +108,9 @@ impl Registry {
     ) -> Result<(), ApiRefused>
         ensures answer { result ≡ register_objective_answer self.old asa name flags }
         ensures after { self.new ≡ after_register_objective self.old asa name flags result }
+        ensures registry { IsRegistry self.new }
     {
-        if !self.is_registered(asa) {
+        if !self.knows(asa) {
             return Err(ApiRefused::NoAsa);
         }
         if is_both_or_neither(flags) {
@@ -129,6 +142,7 @@ impl Registry {
     pub fn deregister_objective(&mut self, asa: u32, name: &Chars) -> Result<(), ApiRefused>
         ensures answer { result ≡ deregister_objective_answer self.old asa name.now }
         ensures after { self.new ≡ after_deregister_objective self.old asa name.now result }
+        ensures registry { IsRegistry self.new }
     {
         self.place_of(asa, name)?;
         self.objectives.retain(|o| !o.is_of(asa, name));
@@ -154,6 +168,7 @@ impl Registry {
     pub fn listen(&mut self, asa: u32, name: &Chars, on: bool) -> Result<(), ApiRefused>
         ensures answer { result ≡ listen_answer self.old asa name.now }
         ensures after { self.new ≡ after_listen self.old name.now on result }
+        ensures registry { IsRegistry self.new }
     {
         let i = self.place_of(asa, name)?;
         if !self.objectives[i].flags.has_neg() {
@@ -167,6 +182,7 @@ impl Registry {
     pub fn offer(&mut self, asa: u32, name: &Chars, value: Option<Value>) -> Result<(), ApiRefused>
         ensures answer { result ≡ offer_answer self.old asa name.now }
         ensures after { self.new ≡ after_offer self.old name.now value result }
+        ensures registry { IsRegistry self.new }
     {
         let i = self.place_of(asa, name)?;
         if !self.objectives[i].flags.has_synch() {
@@ -187,12 +203,14 @@ impl Registry {
         Some(objective.owner)
     }
 
-    /// A copy of the value that the objective of this name is offered with, or `None` where there is none.
+    /// A copy of the value that the objective of this name is offered with, or `None` where there is none. Memory is
+    /// wanted for such a value alone.
     pub fn offered(&self, name: &Chars) -> Result<Option<Value>, OutOfMemory>
-        ensures { IfOk result (λ value. value ≡ value_offered self.now name.now) }
+        ensures offered { IfOk result (λ value. value ≡ value_offered self.now name.now) }
+        ensures wanted { OnErr result (IsSome (value_offered self.now name.now)) }
     {
-        match self.named(name) {
-            Some(objective) => objective.copy_offered(),
+        match self.value_of(name) {
+            Some(value) => Ok(Some(value.copy()?)),
             None => Ok(None),
         }
     }
@@ -209,13 +227,6 @@ impl Registry {
             .nth(i as usize)
     }
 
-    /// Whether a registered agent has this number.
-    fn is_registered(&self, asa: u32) -> bool
-        ensures { result ≡ is_registered self.now asa }
-    {
-        self.agents.iter().any(|a| a.number == asa)
-    }
-
     /// Whether a registered agent has this name.
     fn is_agent_name(&self, name: &Chars) -> bool
         ensures { result ≡ is_agent_name self.now name.now }
@@ -228,6 +239,13 @@ impl Registry {
         ensures { result ≡ is_taken self.now name.now }
     {
         self.objectives.iter().any(|o| o.is_named(name))
+    }
+
+    /// The value that the objective of this name is offered with.
+    fn value_of(&self, name: &Chars) -> Option<&Value>
+        ensures { option_map (λ value. value.now) result ≡ value_offered self.now name.now }
+    {
+        self.named(name)?.offered.as_ref()
     }
 
     /// The objective of this name.
@@ -249,7 +267,7 @@ impl Registry {
         ensures place { IfOk result (IsPlaceOf self.now asa name.now) }
         ensures refused { IfErr result (λ e. owned_answer self.now asa name.now ≡ Err e) }
     {
-        if !self.is_registered(asa) {
+        if !self.knows(asa) {
             return Err(ApiRefused::NoAsa);
         }
         match self.position_of(asa, name) {

@@ -9,12 +9,12 @@ use Rattle.grasp_cbor.specs.FaultAt.{FaultAt}
 use Rattle.grasp_cbor.specs.Front.{Front, IsNamed}
 use Rattle.grasp_cbor.specs.EndsAt.{EndsAt}
 use Rattle.grasp_cbor.specs.declared.walker.FaultName.{FaultName}
-use Rattle.grasp_cbor.specs.Walking.{Took, lefts_of, Answers}
+use Rattle.grasp_cbor.specs.Walking.{Took, open_levels, Answers}
 use Rattle.grasp_cbor.proofs.Fronts.{front-open}
 use Rattle.grasp_cbor.proofs.Standings.{stands-front}
 
 pub took_open : (w : Walk) (s : List ℕ) → Took w s → CanGoOnWithin 16 s
-took_open w s t = front-open s t.spot (stands-front (lefts_of w) w.stage s t.spot t.at)
+took_open w s t = front-open s t.spot (stands-front (open_levels w) w.string w.stage s t.spot t.at)
 
 pub item_more : (xs : List ℕ) (i : ℕ) → i < length xs → IsItem 16 (take i xs ++ get_or xs i 0 ∷ []) → IsItem 16 (take (i + 1) xs)
 item_more xs i l h = subst (λ z. IsItem 16 z) (sym (take_more xs i 0 l)) h

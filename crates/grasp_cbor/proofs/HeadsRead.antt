@@ -1,7 +1,7 @@
 -- The head that is read is the head that stands there, and each head is read.
-use Rattle.std.proofs.Common.{◌≡◌, ℕ, ◌+◌, ◌*◌, ◌/◌, ◌%◌, ◌<◌, false, ltb, List, ◌∷◌, ◌++◌, length, Some, refl, ◌∙◌, arith}
+use Rattle.std.proofs.Common.{◌≡◌, ℕ, ◌+◌, ◌*◌, ◌/◌, ◌%◌, ◌<◌, false, ltb, List, ◌∷◌, ◌++◌, length, Some, None, refl, ◌∙◌, arith}
 use Rattle.std.specs.Int.{Width, w16, w32, w64, byte_len, from_be_bytes, to_be_bytes}
-use Rattle.std.proofs.lemmas.Bool.{le-ltb, lt-ltb}
+use Rattle.std.proofs.lemmas.Bool.{le-ltb, lt-ltb, ne_eqb}
 use Rattle.std.proofs.lemmas.List.{take_at, drop_at, length-append}
 use Rattle.std.proofs.lemmas.Nat.{from_be_bytes-to_be_bytes_2, from_be_bytes-to_be_bytes_4, from_be_bytes-to_be_bytes_8}
 use Rattle.grasp_cbor.specs.Head.{HeadSize, direct, one_byte, two_bytes, four_bytes, eight_bytes, argument_limit, sized_head}
@@ -11,7 +11,7 @@ use Rattle.grasp_cbor.specs.declared.heads.Head.{Head}
 use Rattle.grasp_cbor.specs.declared.heads.Major.{Major}
 use Rattle.grasp_cbor.specs.Major.{major_number}
 use Rattle.grasp_cbor.proofs.Majors.{major_of-major_number}
-use Rattle.grasp_cbor.specs.Build.{◌>>=◌, Found, number_at, value_of, argument_at, head_at}
+use Rattle.grasp_cbor.specs.Build.{◌>>=◌, Found, number_at, value_of, argument_at, head_at, opened_by, open_at}
 
 pub number_again : (w : Width) (n : ℕ) (rest : List ℕ) → length (to_be_bytes w n) ≡ byte_len w → from_be_bytes w (to_be_bytes w n) ≡ n → number_at w (to_be_bytes w n ++ rest) ≡ Some (n, rest)
 number_again w n rest len again =
@@ -51,3 +51,25 @@ head_again one_byte major n rest lt = split_byte major 24 (n ∷ rest) (omega ar
 head_again two_bytes major n rest lt = split_byte major 25 (to_be_bytes w16 n ++ rest) (omega arith) ∙ rw (number_again w16 n rest refl (from_be_bytes-to_be_bytes_2 n lt)) refl
 head_again four_bytes major n rest lt = split_byte major 26 (to_be_bytes w32 n ++ rest) (omega arith) ∙ rw (number_again w32 n rest refl (from_be_bytes-to_be_bytes_4 n lt)) refl
 head_again eight_bytes major n rest lt = split_byte major 27 (to_be_bytes w64 n ++ rest) (omega arith) ∙ rw (number_again w64 n rest refl (from_be_bytes-to_be_bytes_8 n lt)) refl
+
+closed_byte : (m i : ℕ) → i < 28 → opened_by (32 * m + i) ≡ None
+unfolding opened_by
+closed_byte m i h =
+    rw (
+      ne_eqb (32 * m + i) 95 (λ e. omega arith),
+      ne_eqb (32 * m + i) 127 (λ e. omega arith),
+      ne_eqb (32 * m + i) 159 (λ e. omega arith),
+      ne_eqb
+          (32 * m + i) 191 (λ e. omega arith),
+    ) refl
+
+closed_front : (m i : ℕ) (rest : List ℕ) → i < 28 → open_at ((32 * m + i) ∷ rest) ≡ None
+closed_front m i rest h = rw (closed_byte m i h) refl
+
+-- a head of definite length opens nothing of indefinite length
+pub head_closed : (size : HeadSize) (m n : ℕ) (rest : List ℕ) → n < argument_limit size → open_at (sized_head size m n ++ rest) ≡ None
+head_closed direct m n rest lt = closed_front m n rest (omega arith)
+head_closed one_byte m n rest lt = closed_front m 24 (n ∷ rest) (omega arith)
+head_closed two_bytes m n rest lt = closed_front m 25 (to_be_bytes w16 n ++ rest) (omega arith)
+head_closed four_bytes m n rest lt = closed_front m 26 (to_be_bytes w32 n ++ rest) (omega arith)
+head_closed eight_bytes m n rest lt = closed_front m 27 (to_be_bytes w64 n ++ rest) (omega arith)

@@ -1,5 +1,5 @@
 -- The shortest encoding is an encoding.
-use Rattle.std.proofs.Common.{◌≡◌, ℕ, ◌^◌, ◌<◌, ◌≤◌, Bool, true, false, cond, ltb, length, refl}
+use Rattle.std.proofs.Common.{◌≡◌, ℕ, ◌^◌, ◌<◌, ◌≤◌, Bool, true, false, cond, ltb, length, refl, inl}
 use Rattle.std.proofs.lemmas.Bool.{ltb-true, ltb-false}
 use Rattle.grasp_cbor.specs.DataItem.{DataItem, DataItems, DataPairs, unsigned, negative, byte_string, text_string, array, mapping, tagged, simple_value, half_float, single_float, double_float, no_items, item_and, no_pairs, pair_and, depth_of}
 use Rattle.grasp_cbor.specs.Encodable.{IsEncodable, AreEncodable, ArePairsEncodable}
@@ -26,10 +26,21 @@ mutual
   pub IsEncoding-shortest : (t : DataItem) → IsEncodable t → IsEncoding t (shortest t)
   IsEncoding-shortest (unsigned n) h = IsHead-shortest_head 0 n h
   IsEncoding-shortest (negative n) h = IsHead-shortest_head 1 n h
-  IsEncoding-shortest (byte_string bs) h = (shortest_head 2 (length bs), IsHead-shortest_head 2 (length bs) h.0, refl)
-  IsEncoding-shortest (text_string bs) h = (shortest_head 3 (length bs), IsHead-shortest_head 3 (length bs) h.0, h.1, refl)
-  IsEncoding-shortest (array ts) h = (shortest_head 4 _, shortest_items ts, IsHead-shortest_head 4 _ h.0, AreEncodings-shortest ts h.1, refl)
-  IsEncoding-shortest (mapping es) h = (shortest_head 5 _, shortest_pairs es, IsHead-shortest_head 5 _ h.0, ArePairEncodings-shortest es h.1, refl)
+  IsEncoding-shortest (byte_string bs) h = inl (record {
+    head = shortest_head 2 (length bs);
+    opens = IsHead-shortest_head 2 (length bs) h.0;
+    fine = tt;
+    form
+        = refl;
+  })
+  IsEncoding-shortest (text_string bs) h = inl (record {
+    head = shortest_head 3 (length bs);
+    opens = IsHead-shortest_head 3 (length bs) h.0;
+    fine = h.1;
+    form = refl;
+  })
+  IsEncoding-shortest (array ts) h = inl (shortest_head 4 _, shortest_items ts, IsHead-shortest_head 4 _ h.0, AreEncodings-shortest ts h.1, refl)
+  IsEncoding-shortest (mapping es) h = inl (shortest_head 5 _, shortest_pairs es, IsHead-shortest_head 5 _ h.0, ArePairEncodings-shortest es h.1, refl)
   IsEncoding-shortest (tagged n t) h = (shortest_head 6 n, shortest t, IsHead-shortest_head 6 n h.0, IsEncoding-shortest t h.1, refl)
   IsEncoding-shortest (simple_value n) h = (h.0, h.1, refl)
   IsEncoding-shortest (half_float n) h = (h, refl)

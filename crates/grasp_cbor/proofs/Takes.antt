@@ -6,18 +6,23 @@ use Rattle.std.proofs.lemmas.Str.{IsUtf8-from_is_utf8}
 use Rattle.std.proofs.lemmas.Bool.{cases_lt, ltb-true, ltb-false, eqb-true}
 use Rattle.std.proofs.lemmas.List.{take-append-drop, length-take, get_or-drop, get_or-take, get_or_past}
 use Rattle.std.proofs.lemmas.Nat.{be_bytes_2, be_bytes_4, be_bytes_8}
-use Rattle.grasp_cbor.specs.Head.{HeadSize, direct, one_byte, two_bytes, four_bytes, eight_bytes, argument_limit, sized_head}
+use Rattle.grasp_cbor.specs.Head.{HeadSize, direct, one_byte, two_bytes, four_bytes, eight_bytes, argument_limit, sized_head, IsHead}
 use Rattle.grasp_cbor.specs.Major.{major_number, major_of}
 use Rattle.grasp_cbor.proofs.Majors.{major_number-major_of}
 use Rattle.grasp_cbor.specs.declared.heads.Argument.{Argument}
 use Rattle.grasp_cbor.specs.declared.heads.Argument.TheVariants.{Direct, One, Two, Four, Eight}
 use Rattle.grasp_cbor.specs.declared.heads.Head.{Head}
-use Rattle.grasp_cbor.specs.Build.{◌>>=◌, byte_at, number_at, value_of, sized, argument_at, head_at, bytes_at, text_at}
+use Rattle.grasp_cbor.specs.Build.{◌>>=◌, Found, byte_at, number_at, value_of, sized, argument_at, head_at, opened_by, open_at, break_at, or_end, bytes_at, text_at, content_at, chunk_at}
+use Rattle.grasp_cbor.specs.Encodes.{IsContent, IsDefiniteString, string_major}
+use Rattle.grasp_cbor.specs.declared.heads.Open.{Open}
+use Rattle.grasp_cbor.specs.declared.heads.Open.TheVariants as form
+use Rattle.grasp_cbor.specs.declared.heads.StringKind.{StringKind}
+use Rattle.grasp_cbor.specs.declared.heads.StringKind.TheVariants as kinds
 
 abbrev pub IsBytes : List ℕ → Type 0
 IsBytes s = (i : ℕ) → get_or s i 0 < 256
 
-IsBytes-drop : (n : ℕ) (s : List ℕ) → IsBytes s → IsBytes (drop n s)
+pub IsBytes-drop : (n : ℕ) (s : List ℕ) → IsBytes s → IsBytes (drop n s)
 IsBytes-drop n s h i = rw get_or-drop (h (n + i))
 
 IsBytes-take : (n : ℕ) (s : List ℕ) → IsBytes s → IsBytes (take n s)
@@ -204,3 +209,97 @@ text_takes n s x fits e =
     let g = guard_ended (is_utf8 b.0.0) b.0 x b.2 in
     let t = bytes_takes n s b.0 fits b.1 in
     subst (λ (y : List ℕ × List ℕ). Takes s y.0 y.1 × (length y.0 ≡ n) × IsUtf8 y.0) g.1 (t.0, t.1, IsUtf8-from_is_utf8 b.0.0 g.0)
+
+-- ---- indefinite lengths
+
+-- the initial byte that opens this
+abbrev pub initial : Open → ℕ
+initial (form.String kind) = 32 * string_major kind + 31
+initial form.Items = 159
+initial form.Pairs = 191
+
+pub record IsOpened (s : List ℕ) (x : Open × List ℕ) : Type 0 where
+  pub parts : s ≡ initial x.0 ∷ x.1
+  pub rest_fits : IsBytes x.1
+
+opened_is : (b : ℕ) (o : Open) → opened_by b ≡ Some o → b ≡ initial o
+unfolding opened_by
+opened_is b o e =
+    elim (chosen (eqb b 95) _ _ _ e) [
+      | inl a ↦ eqb-true b 95 a.0 ∙ ap initial (ok_is (form.String kinds.Bytes) o a.1)
+      | inr a ↦ elim (chosen (eqb b 127) _ _ _ a.1) [
+        | inl c ↦ eqb-true b 127 c.0 ∙ ap initial (ok_is (form.String kinds.Text) o c.1)
+        | inr c ↦ elim (chosen (eqb b 159) _ _ _ c.1) [
+          | inl d ↦ eqb-true b 159 d.0 ∙ ap initial (ok_is form.Items o d.1)
+          | inr d ↦ elim (chosen (eqb b 191) _ _ _ d.1) [
+            | inl f ↦ eqb-true b 191 f.0 ∙ ap initial (ok_is form.Pairs o f.1)
+            | inr f ↦ absurd (let wrong = f.1 in cc)
+          ]
+        ]
+      ]
+    ]
+
+pub open_takes : (s : List ℕ) (x : Open × List ℕ) → IsBytes s → open_at s ≡ Some x → IsOpened s x
+open_takes [] x fits e = absurd cc
+open_takes (b ∷ s) x fits e =
+    let o = bind_ok (opened_by b) (λ o. Some (o, s)) x e in
+    subst (λ y. IsOpened (b ∷ s) y) (ok_is (o.0, s) x o.2) (record { parts = ap (λ n. n ∷ s) (opened_is b o.0 o.1); rest_fits = IsBytes-rest b s fits })
+
+break_takes : (s rest : List ℕ) → IsBytes s → break_at s ≡ Some rest → Takes s (255 ∷ []) rest
+break_takes [] rest fits e = absurd cc
+break_takes (b ∷ s) rest fits e =
+    let g = guard_ended (eqb b 255) s rest e in
+    subst (λ y. Takes (b ∷ s) (255 ∷ []) y) g.1 (record { parts = ap (λ n. n ∷ s) (eqb-true b 255 g.0); rest_fits = IsBytes-rest b s fits })
+
+-- a break ends it, or there is more
+pub record Ended {X : Type 0} (s : List ℕ) (x : List X × List ℕ) : Type 0 where
+  pub empty : x.0 ≡ []
+  pub taken : Takes s (255 ∷ []) x.1
+
+pub ended_or : {X : Type 0} (o : Option (List ℕ)) (s : List ℕ) (more : Found (List X)) (x : List X × List ℕ) → IsBytes s → break_at s ≡ o
+    → or_end o more ≡ Some x → Ended s x ⊎ (more ≡ Some x)
+ended_or (Some rest) s more x fits b e =
+    let same = ok_is ([], rest) x e in
+    inl (record {
+      empty = sym (ap (λ (y : List _ × List ℕ). y.0) same);
+      taken = subst (λ y. Takes s (255 ∷ []) y) (ap (λ (y : List _ × List ℕ). y.1) same)
+          (break_takes s rest fits b);
+    })
+ended_or None s more x fits b e = inr e
+
+content_takes : (kind : StringKind) (n : ℕ) (s : List ℕ) (x : List ℕ × List ℕ) → IsBytes s → content_at kind n s ≡ Some x
+    → Takes s x.0 x.1 × (length x.0 ≡ n) × IsContent kind x.0
+content_takes kinds.Bytes n s x fits e = let t = bytes_takes n s x fits e in (t.0, t.1, tt)
+content_takes kinds.Text n s x fits e = text_takes n s x fits e
+
+-- a string that was taken
+pub record IsTakenString (kind : StringKind) (s : List ℕ) (x : List ℕ × List ℕ) : Type 0 where
+  pub front : List ℕ
+  pub string : IsDefiniteString kind x.0 front
+  pub taken : Takes s front x.1
+
+pub chunk_takes : (kind : StringKind) (s : List ℕ) (x : List ℕ × List ℕ) → IsBytes s → chunk_at kind s ≡ Some x → IsTakenString kind s x
+unfolding chunk_at
+chunk_takes kind s x fits e =
+    let h = bind_ok (head_at s) (λ h. cond (eqb (major_number h.0.major) (string_major kind)) (content_at kind (value_of h.0.argument) h.1) None) x e in
+    let t = head_takes s h.0 fits h.1 in
+    elim (chosen (eqb (major_number h.0.0.major) (string_major kind)) _ _ _ h.2) [
+      | inr b ↦ absurd (let wrong = b.1 in cc)
+      | inl b ↦
+          let a = h.0.0.argument in
+          let head = sized_head (size_in a) (major_number h.0.0.major) (value_of a) in
+          let c = content_takes kind (value_of a) h.0.1 x t.taken.rest_fits b.1 in
+          let same : major_number h.0.0.major ≡ string_major kind = eqb-true _ _ b.0 in
+          let headed : IsHead (string_major kind) (length x.0) head = (
+            size_in a,
+            rw c.1 t.fits,
+            ap (λ m. sized_head (size_in a) m (value_of a)) same
+                ∙ ap (sized_head (size_in a) (string_major kind)) (sym c.1),
+          ) in
+          record {
+            front = head ++ x.0;
+            string = record { head = head; opens = headed; fine = c.2; form = refl };
+            taken = Takes-then s head h.0.1 x.0 x.1
+                t.taken c.0;
+          }
+    ]

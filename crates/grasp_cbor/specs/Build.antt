@@ -1,5 +1,5 @@
--- Making an item of bytes from left to right, as a function: the item and the bytes after it, or none. Only private calls
--- cite it, between the code and its meaning, `IsBuilt`.
+-- Inside: making an item of bytes from left to right, as a function: the item and the bytes after it, or none. It stands
+-- between the code and its meaning, `IsBuilt`.
 use Rattle.std.specs.Prelude.{◌≡◌, ℕ, zero, suc, ◌/◌, ◌%◌, ◌++◌, List, [], ◌∷◌, length, take, drop, Option, Some, None, Result, Ok, Err, nat_lt, ◌==◌, if◌then◌else◌}
 use Rattle.std.specs.Int.{Width, w16, w32, w64, byte_len, from_be_bytes}
 use Rattle.std.specs.Str.{is_utf8}
@@ -9,7 +9,14 @@ use Rattle.grasp_cbor.specs.declared.heads.Argument.TheVariants.{Direct, One, Tw
 use Rattle.grasp_cbor.specs.declared.heads.Head.{Head}
 use Rattle.grasp_cbor.specs.declared.heads.Major.{Major}
 use Rattle.grasp_cbor.specs.declared.heads.Major.TheVariants.{Unsigned, Negative, ByteString, TextString, Array, Map, Tag, Simple}
-use Rattle.grasp_cbor.specs.Major.{major_of}
+use Rattle.grasp_cbor.specs.declared.heads.Open.{Open}
+use Rattle.grasp_cbor.specs.declared.heads.Open.TheVariants as form
+use Rattle.grasp_cbor.specs.declared.heads.StringKind.{StringKind}
+use Rattle.grasp_cbor.specs.declared.heads.StringKind.TheVariants as kinds
+use Rattle.grasp_cbor.specs.declared.build.Parts.{Parts}
+use Rattle.grasp_cbor.specs.declared.build.Parts.TheVariants as parts
+use Rattle.grasp_cbor.specs.Major.{major_of, major_number}
+use Rattle.grasp_cbor.specs.Encodes.{string_major}
 use Rattle.grasp_cbor.specs.declared.heads.BuildError.{BuildError}
 use Rattle.grasp_cbor.specs.declared.heads.BuildError.TheVariants.{NotItem, Memory}
 
@@ -60,6 +67,21 @@ head_at s = do
   a ← argument_at (first.0 % 32) first.1
   Some (record { major = major_of (first.0 / 32); argument = a.0 }, a.1)
 
+-- what this initial byte opens whose length is indefinite
+unfoldable pub opened_by : ℕ → Option Open
+opened_by b = if b == 95 then Some (form.String kinds.Bytes) else (if b == 127 then Some (form.String kinds.Text) else
+    (if b == 159 then Some form.Items else (if b == 191 then Some form.Pairs else None)))
+
+-- what of indefinite length the bytes open, and what follows
+abbrev pub open_at : List ℕ → Found Open
+open_at [] = None
+open_at (b ∷ rest) = opened_by b >>= λ o. Some (o, rest)
+
+-- what follows the break that the bytes begin with
+abbrev pub break_at : List ℕ → Option (List ℕ)
+break_at [] = None
+break_at (b ∷ rest) = if b == 255 then Some rest else None
+
 unfoldable pub bytes_at : ℕ → List ℕ → Found (List ℕ)
 bytes_at n rest = if nat_lt (length rest) n then None else Some (take n rest, drop n rest)
 
@@ -67,6 +89,19 @@ unfoldable pub text_at : ℕ → List ℕ → Found (List ℕ)
 text_at n rest = do
   found ← bytes_at n rest
   if is_utf8 found.0 then Some found else None
+
+-- the content of a string of this kind
+abbrev pub content_at : StringKind → ℕ → List ℕ → Found (List ℕ)
+content_at kinds.Bytes n rest = bytes_at n rest
+content_at kinds.Text n rest = text_at n rest
+
+-- a string of this kind that has a length of its own
+unfoldable pub chunk_at : StringKind → List ℕ → Found (List ℕ)
+chunk_at kind s = head_at s >>= λ h. if major_number h.0.major == string_major kind then content_at kind (value_of h.0.argument) h.1 else None
+
+abbrev pub string_of : StringKind → List ℕ → DataItem
+string_of kinds.Bytes bs = byte_string bs
+string_of kinds.Text bs = text_string bs
 
 abbrev pub simple_at : ℕ → Option DataItem
 simple_at n = if nat_lt n 24 then Some (simple_value n) else (if nat_lt n 32 then None else Some (simple_value n))
@@ -88,6 +123,24 @@ unfoldable pub many_with : {X : Type 0} → (List ℕ → Found X) → ℕ → L
 many_with one zero rest = Some ([], rest)
 many_with one (suc n) rest = one rest >>= λ x. many_with one n x.1 >>= λ xs. Some (x.0 ∷ xs.0, xs.1)
 
+-- the end behind a break, or else more
+abbrev pub or_end : {X : Type 0} → Option (List ℕ) → Found (List X) → Found (List X)
+or_end (Some rest) more = Some ([], rest)
+or_end None more = more
+
+-- so many of them at most, one after another up to a break, joined
+unfoldable pub until_break : {X : Type 0} → (List ℕ → Found (List X)) → ℕ → List ℕ → Found (List X)
+until_break one zero s = None
+until_break one (suc n) s = or_end (break_at s) (one s >>= λ x. until_break one n x.1 >>= λ xs. Some (x.0 ++ xs.0, xs.1))
+
+-- each of which takes a byte at least
+abbrev pub open_with : {X : Type 0} → (List ℕ → Found (List X)) → List ℕ → Found (List X)
+open_with one s = until_break one (length s) s
+
+-- what one finds, as a list
+abbrev pub alone : {X : Type 0} → (List ℕ → Found X) → List ℕ → Found (List X)
+alone one s = one s >>= λ x. Some (x.0 ∷ [], x.1)
+
 unfoldable pub pair_with : (List ℕ → Found DataItem) → List ℕ → Found (DataItem × DataItem)
 pair_with part rest = do
   k ← part rest
@@ -95,31 +148,42 @@ pair_with part rest = do
   Some ((k.0, v.0), v.1)
 
 -- what an array, a map or a tag holds
-unfoldable pub nested_with : (List ℕ → Found DataItem) → Major → ℕ → List ℕ → Found DataItem
-nested_with part Array n rest = many_with part n rest >>= λ ts. Some (array (data_items ts.0), ts.1)
-nested_with part Map n rest = many_with (pair_with part) n rest >>= λ es. Some (mapping (data_pairs es.0), es.1)
-nested_with part _ n rest = part rest >>= λ t. Some (tagged n t.0, t.1)
+unfoldable pub nested_with : (List ℕ → Found DataItem) → Parts → List ℕ → Found DataItem
+nested_with part (parts.Items n) rest = many_with part n rest >>= λ ts. Some (array (data_items ts.0), ts.1)
+nested_with part (parts.Pairs n) rest = many_with (pair_with part) n rest >>= λ es. Some (mapping (data_pairs es.0), es.1)
+nested_with part (parts.Tagged n) rest = part rest >>= λ t. Some (tagged n t.0, t.1)
+nested_with part parts.OpenItems rest = open_with (alone part) rest >>= λ ts. Some (array (data_items ts.0), ts.1)
+nested_with part parts.OpenPairs rest = open_with (alone (pair_with part)) rest >>= λ es. Some (mapping (data_pairs es.0), es.1)
 
 -- what the head of an item leads to, where nested reads what has parts
-unfoldable pub content_with : (Major → ℕ → List ℕ → Found DataItem) → Major → Argument → List ℕ → Found DataItem
+unfoldable pub content_with : (Parts → List ℕ → Found DataItem) → Major → Argument → List ℕ → Found DataItem
 content_with nested Unsigned a rest = Some (unsigned (value_of a), rest)
 content_with nested Negative a rest = Some (negative (value_of a), rest)
 content_with nested ByteString a rest = bytes_at (value_of a) rest >>= λ b. Some (byte_string b.0, b.1)
 content_with nested TextString a rest = text_at (value_of a) rest >>= λ b. Some (text_string b.0, b.1)
-content_with nested Array a rest = nested Array (value_of a) rest
-content_with nested Map a rest = nested Map (value_of a) rest
-content_with nested Tag a rest = nested Tag (value_of a) rest
+content_with nested Array a rest = nested (parts.Items (value_of a)) rest
+content_with nested Map a rest = nested (parts.Pairs (value_of a)) rest
+content_with nested Tag a rest = nested (parts.Tagged (value_of a)) rest
 content_with nested Simple a rest = plain_of a >>= λ t. Some (t, rest)
 
-unfoldable pub item_with : (Major → ℕ → List ℕ → Found DataItem) → List ℕ → Found DataItem
-item_with nested s = do
-  h ← head_at s
-  content_with nested h.0.major h.0.argument h.1
+-- what an opened item leads to, where nested reads what has parts
+unfoldable pub opened_with : (Parts → List ℕ → Found DataItem) → Open → List ℕ → Found DataItem
+opened_with nested (form.String kind) rest = open_with (chunk_at kind) rest >>= λ b. Some (string_of kind b.0, b.1)
+opened_with nested form.Items rest = nested parts.OpenItems rest
+opened_with nested form.Pairs rest = nested parts.OpenPairs rest
+
+-- what was opened, or else an item with a head
+abbrev pub begun_with : (Parts → List ℕ → Found DataItem) → Found Open → List ℕ → Found DataItem
+begun_with nested (Some o) s = opened_with nested o.0 o.1
+begun_with nested None s = head_at s >>= λ h. content_with nested h.0.major h.0.argument h.1
+
+unfoldable pub item_with : (Parts → List ℕ → Found DataItem) → List ℕ → Found DataItem
+item_with nested s = begun_with nested (open_at s) s
 
 -- what has parts, where the item may be so deep
-unfoldable pub nested_in : ℕ → Major → ℕ → List ℕ → Found DataItem
-nested_in zero major n rest = None
-nested_in (suc depth) major n rest = nested_with (λ s. item_with (nested_in depth) s) major n rest
+unfoldable pub nested_in : ℕ → Parts → List ℕ → Found DataItem
+nested_in zero p rest = None
+nested_in (suc depth) p rest = nested_with (λ s. item_with (nested_in depth) s) p rest
 
 -- an item that is so deep at most
 unfoldable pub item_at : ℕ → List ℕ → Found DataItem

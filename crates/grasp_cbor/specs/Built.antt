@@ -1,4 +1,4 @@
--- What it means that an item was made of bytes.
+-- Inside: what it means that an item was made of bytes.
 use Rattle.std.specs.Prelude.{◌≡◌, ◌≤◌, ℕ, List, ◌++◌}
 use Rattle.grasp_cbor.specs.DataItem.{DataItem, depth_of}
 use Rattle.grasp_cbor.specs.Encodes.{IsEncoding}

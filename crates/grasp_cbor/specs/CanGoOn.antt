@@ -23,8 +23,3 @@ CanGoOn s = CanGoOnWithin 16 s
 abbrev pub AreItems : ℕ → List (List ℕ) → Type 0
 AreItems depth [] = Unit {0}
 AreItems depth (w ∷ ws) = IsItem depth w × AreItems depth ws
-
--- one after another
-abbrev pub joined : List (List ℕ) → List ℕ
-joined [] = []
-joined (w ∷ ws) = w ++ joined ws

@@ -1,4 +1,4 @@
--- Where the item ends that begins some bytes.
+-- Inside: where the item ends that begins some bytes.
 use Rattle.std.specs.Prelude.{ℕ, ◌≤◌, List, length, take, Option, Some, None, Result, Ok, Err}
 use Rattle.grasp_cbor.specs.declared.walker.WalkFault.{WalkFault}
 use Rattle.grasp_cbor.specs.declared.walker.WalkFault.TheVariants.{Bad, TooLong}

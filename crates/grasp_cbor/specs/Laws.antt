@@ -1,5 +1,5 @@
 -- Laws on encodings, on their beginnings and on faults.
-use Rattle.std.specs.Prelude.{◌≡◌, ◌≤◌, ◌<◌, ◌⊎◌, ℕ, List, [], ◌∷◌, ◌++◌, take}
+use Rattle.std.specs.Prelude.{◌≡◌, ◌≤◌, ◌<◌, ◌^◌, ◌⊎◌, ℕ, List, [], ◌∷◌, ◌++◌, length, take}
 use Rattle.grasp_cbor.specs.declared.walker.FaultName.{FaultName}
 use Rattle.grasp_cbor.specs.DataItem.{DataItem, depth_of}
 use Rattle.grasp_cbor.specs.Encodable.{IsEncodable}
@@ -15,9 +15,9 @@ use Rattle.grasp_cbor.specs.Ending.{Ending, IsEnding}
 abbrev pub ShortestEncodes : Type 0
 ShortestEncodes = (item : DataItem) → IsEncodable item → depth_of item ≤ 16 → Encodes item (shortest item)
 
--- what bytes encode has its numbers in range
+-- what fewer than 2 ^ 64 bytes encode has its numbers in range
 abbrev pub EncodedAreEncodable : Type 0
-EncodedAreEncodable = (item : DataItem) (bytes : List ℕ) → AllBytes bytes → Encodes item bytes → IsEncodable item
+EncodedAreEncodable = (item : DataItem) (bytes : List ℕ) → AllBytes bytes → length bytes < 2 ^ 64 → Encodes item bytes → IsEncodable item
 
 -- bytes encode at most one item, and no encoding begins another
 abbrev pub EncodingsAreApart : Type 0

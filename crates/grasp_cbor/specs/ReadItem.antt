@@ -6,12 +6,11 @@ use Rattle.grasp_cbor.specs.declared.walker.FaultName.TheVariants as name
 use Rattle.grasp_cbor.specs.declared.read.ReadItem.{ReadItem}
 use Rattle.grasp_cbor.specs.declared.read.ReadItem.TheVariants.{Whole, Partial}
 use Rattle.grasp_cbor.specs.declared.read.ItemFault.{ItemFault}
-use Rattle.grasp_cbor.specs.declared.read.ItemFault.TheVariants.{Malformed, Indefinite, NotText, TooDeep, TooLong, OutOfMemory}
+use Rattle.grasp_cbor.specs.declared.read.ItemFault.TheVariants.{Malformed, NotText, TooDeep, TooLong, OutOfMemory}
 
 -- the ending that a fault tells: none for want of memory
 abbrev pub fault_ending : ItemFault → Option Ending
 fault_ending (Malformed at) = Some (faulty name.Malformed at)
-fault_ending (Indefinite at) = Some (faulty name.Indefinite at)
 fault_ending (NotText at) = Some (faulty name.NotText at)
 fault_ending (TooDeep at) = Some (faulty name.TooDeep at)
 fault_ending TooLong = Some too_long

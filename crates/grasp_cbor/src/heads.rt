@@ -4,7 +4,8 @@ ghost use Rattle.std.specs.Prelude.{◌≡◌, ◌<◌, length, if◌then◌else
 ghost use Rattle.std.specs.Str.{is_utf8};
 ghost use Rattle.std.specs.Int.{w16, w32, w64};
 ghost use Rattle.grasp_cbor.specs.Major.{major_number, major_of};
-ghost use Rattle.grasp_cbor.specs.Build.{Gives, byte_at, number_at, argument_at, head_at, bytes_at, text_at};
+ghost use Rattle.grasp_cbor.specs.Build.{Gives, byte_at, number_at, argument_at, head_at, open_at, break_at, bytes_at, text_at, chunk_at};
+ghost use Rattle.grasp_cbor.specs.declared.heads.StringKind.TheVariants as kinds;
 
 use crate::OutOfMemory;
 
@@ -77,6 +78,27 @@ impl Major {
     }
 }
 
+/// A kind of string.
+#[derive(Clone, Copy, Debug, PartialEq, Eq)]
+pub(crate) enum StringKind {
+    Bytes,
+    Text,
+}
+
+impl StringKind {
+    ghost use Rattle.grasp_cbor.specs.Encodes.{string_major};
+
+    /// The number of its major type.
+    pub(crate) fn major(self) -> u8
+        ensures { result ≡ string_major self }
+    {
+        match self {
+            StringKind::Bytes => 2,
+            StringKind::Text => 3,
+        }
+    }
+}
+
 /// The argument of a head, in as many bytes as it takes there.
 #[derive(Clone, Copy)]
 pub(crate) enum Argument {
@@ -108,6 +130,38 @@ impl Argument {
 pub(crate) struct Head {
     pub(crate) major: Major,
     pub(crate) argument: Argument,
+}
+
+/// What has an indefinite length (RFC 8949, section 3.2).
+#[derive(Clone, Copy)]
+pub(crate) enum Open {
+    String(StringKind),
+    Items,
+    Pairs,
+}
+
+/// What of indefinite length the bytes open, and what follows.
+#[tactic(auto, unfolding(crate::specs::Build::opened_by))]
+pub(crate) fn read_open(bytes: &[u8]) -> Option<(Open, &[u8])>
+    ensures { option_map (λ x. (x.0, x.1.now)) result ≡ open_at bytes.now }
+{
+    match bytes {
+        [0x5f, rest @ ..] => Some((Open::String(StringKind::Bytes), rest)),
+        [0x7f, rest @ ..] => Some((Open::String(StringKind::Text), rest)),
+        [0x9f, rest @ ..] => Some((Open::Items, rest)),
+        [0xbf, rest @ ..] => Some((Open::Pairs, rest)),
+        _ => None,
+    }
+}
+
+/// What follows the break that the bytes begin with (RFC 8949, section 3.2.1).
+pub(crate) fn read_break(bytes: &[u8]) -> Option<&[u8]>
+    ensures { option_map (λ x. x.now) result ≡ break_at bytes.now }
+{
+    match bytes {
+        [0xff, rest @ ..] => Some(rest),
+        _ => None,
+    }
 }
 
 /// Reads a head.
@@ -211,6 +265,30 @@ pub(crate) fn read_text(n: u64, bytes: &[u8]) -> Result<(&str, &[u8]), BuildErro
     match as_text(front) {
         Some(text) => Ok((text, rest)),
         None => Err(BuildError::NotItem),
+    }
+}
+
+/// A chunk of a byte string of indefinite length, which has a length of its own (RFC 8949, section 3.2.3).
+#[tactic(auto, unfolding(crate::specs::Build::chunk_at))]
+pub(crate) fn read_byte_chunk(bytes: &[u8]) -> Result<(&[u8], &[u8]), BuildError>
+    ensures { Gives (λ x. (x.0.now, x.1.now)) result (chunk_at kinds.Bytes bytes.now) }
+{
+    let (head, rest) = read_head(bytes)?;
+    match head.major {
+        Major::ByteString => read_bytes(head.argument.value(), rest),
+        _ => Err(BuildError::NotItem),
+    }
+}
+
+/// A chunk of a text string of indefinite length, which is text by itself (RFC 8949, section 3.2.3).
+#[tactic(auto, unfolding(crate::specs::Build::chunk_at))]
+pub(crate) fn read_text_chunk(bytes: &[u8]) -> Result<(&str, &[u8]), BuildError>
+    ensures { Gives (λ x. (x.0.now, x.1.now)) result (chunk_at kinds.Text bytes.now) }
+{
+    let (head, rest) = read_head(bytes)?;
+    match head.major {
+        Major::TextString => read_text(head.argument.value(), rest),
+        _ => Err(BuildError::NotItem),
     }
 }
 

@@ -1,23 +1,30 @@
 //! Reading items byte by byte.
 
-ghost use Rattle.std.specs.Prelude.{◌≡◌, ℕ, ◌<◌, List, [], ◌∷◌, ◌++◌};
-ghost use Rattle.grasp_cbor.specs.ItemReader.{Reading, AnswersTaken, bytes_after, reader_limit};
+ghost use Rattle.std.specs.Prelude.{◌≡◌, ◌≢◌, ℕ, ◌+◌, ◌<◌, List, [], ◌∷◌, ◌++◌, length, Err, IfSome, IfErr, Some, None};
+ghost use Rattle.grasp_cbor.specs.declared.read.ItemFault.TheVariants.{OutOfMemory};
 
+use crate::Steps;
 use crate::read::{ItemFault, item_fault};
 use crate::walker::{Taken, Walk, WalkFault};
+use std::sync::ledger::Ledger;
 
-/// Reads items byte by byte, and takes no memory. After a fault it gives that fault.
+/// Reads items byte by byte, and takes no memory. It stands for the bytes that it took since the last whole item. After a
+/// fault it stands for those up to and with the byte that met it, takes no more, and gives that fault again.
 #[derive(Drop)]
 pub struct ItemReader {
     walk: Walk,
     fault: Option<ItemFault>,
+    ghost of_bytes: { fault ≢ Some OutOfMemory },
 }
 
 impl ItemReader {
+    ghost use Rattle.grasp_cbor.specs.ItemReader.{Reading, AnswersTaken, bytes_with, bytes_after, fault_in, fault_of, reader_limit};
+
     /// Before the first byte of an item of at most `limit` bytes.
     pub fn new(limit: u64) -> ItemReader
         requires { 0 < limit }
         ensures fresh { Reading result [] }
+        ensures fault { fault_of result ≡ None }
         ensures limit { reader_limit result ≡ limit }
     {
         ItemReader {
@@ -26,13 +33,24 @@ impl ItemReader {
         }
     }
 
-    /// Takes the next byte, and answers as `read_item` does on the bytes since the last whole item. It never
-    /// answers `OutOfMemory`.
-    pub fn take(&mut self, byte: u8) -> Result<Taken, ItemFault>
-        ensures exact { (s : List ℕ) → Reading self.old s → AnswersTaken (s ++ byte ∷ []) (reader_limit self.old) result }
-        ensures then { (s : List ℕ) → Reading self.old s → Reading self.new (bytes_after (s ++ byte ∷ []) result) }
-        ensures limit { reader_limit self.new ≡ reader_limit self.old }
+    /// How many bytes it stands for.
+    pub fn count(&self) -> u64
+        ensures { (s : List ℕ) → Reading self.now s → result ≡ length s }
     {
+        self.walk.count()
+    }
+
+    /// Takes the next byte, in one step, and answers as `read_item` does on the bytes since the last whole item.
+    pub fn take<L: Ledger>(&mut self, byte: u8, steps: &mut Steps<L>) -> Result<Taken, ItemFault>
+        ensures exact { (s : List ℕ) → Reading self.old s → AnswersTaken (bytes_with (fault_of self.old) s byte) (reader_limit self.old) result }
+        ensures then { (s : List ℕ) → Reading self.old s → Reading self.new (bytes_after (bytes_with (fault_of self.old) s byte) result) }
+        ensures again { IfSome (fault_of self.old) (λ fault. result ≡ Err fault) }
+        ensures fault { fault_of self.new ≡ fault_in result }
+        ensures memory { IfErr result (λ fault. fault ≢ OutOfMemory) }
+        ensures limit { reader_limit self.new ≡ reader_limit self.old }
+        ensures counted { steps.new ≡ steps.old + 1 }
+    {
+        steps.tick();
         if let Some(fault) = self.fault {
             return Err(fault);
         }

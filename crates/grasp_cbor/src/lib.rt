@@ -1,4 +1,5 @@
-//! Data items of CBOR (RFC 8949), as GRASP sends them: every length is definite.
+//! Data items of CBOR (RFC 8949). Strings, arrays and maps of indefinite length are read too; what is written has
+//! the shortest heads and definite lengths.
 //!
 //! An item is a tree of nine kinds. A float is a width and a bit pattern, pairs of a map keep their order,
 //! and keys may repeat.
@@ -13,9 +14,11 @@ mod parts;
 mod read;
 mod room;
 mod scalars;
+mod steps;
 mod strings;
 #[cfg(test)]
 mod tests;
+mod threads;
 mod tree;
 mod utf8;
 mod walker;
@@ -31,7 +34,9 @@ pub use parts::{
 pub use read::{ItemFault, ReadItem, build_whole, read_item};
 pub use room::{room_after, room_after_head, room_after_string};
 pub use scalars::{FloatBits, SimpleValue};
+pub use steps::Steps;
 pub use strings::{Chars, Octets};
+pub use threads::{items_may_cross, may_cross};
 pub use tree::{Item, Items, Pairs};
 pub use walker::{FaultName, Taken};
 pub use write::{shortest_encodes, write_item};

@@ -1,10 +1,12 @@
 //! Reading the one item that begins some bytes.
 
-ghost use Rattle.std.specs.Prelude.{◌≡◌, ◌<◌, IfOk, IfSome, Some};
+ghost use Rattle.std.specs.Prelude.{◌≡◌, ◌≢◌, ℕ, ◌<◌, IfOk, IfSome, Some, Err};
 ghost use Rattle.grasp_cbor.specs.CanGoOn.{IsItem};
 ghost use Rattle.grasp_cbor.specs.Encodes.{Encodes};
 ghost use Rattle.grasp_cbor.specs.Item.{data_item_of};
-ghost use Rattle.grasp_cbor.specs.Ending.{Ending, IsEnding, faulty};
+ghost use Rattle.grasp_cbor.specs.Ending.{Ending, IsEnding, IsWhole, faulty};
+ghost use Rattle.grasp_cbor.specs.DataItem.{DataItem};
+ghost use Rattle.grasp_cbor.specs.declared.read.ItemFault.TheVariants as fault_of;
 ghost use Rattle.grasp_cbor.specs.EndsAt.{EndsAt};
 ghost use Rattle.grasp_cbor.specs.ReadItem.{ending_of, fault_ending};
 
@@ -26,13 +28,13 @@ pub enum ReadItem {
 /// Why no item was read. A place counts from 0: that of the first byte with which no item begins.
 #[derive(Clone, Copy, Debug, PartialEq, Eq)]
 pub enum ItemFault {
-    /// An initial byte that is reserved (RFC 8949, section 3), or a simple value below 32 in two bytes.
+    /// An initial byte that is reserved (RFC 8949, section 3) or has indefinite length in a major type that has none; a break
+    /// where nothing of indefinite length is innermost, or where a key waits for its value; in a string of indefinite
+    /// length what is neither a chunk of its kind nor a break (section 3.2); a simple value below 32 in two bytes.
     Malformed { at: u64 },
-    /// An initial byte of indefinite length (RFC 8949, section 3.2.2), which isn't accepted.
-    Indefinite { at: u64 },
-    /// A byte of a text string that no UTF-8 of its length has there.
+    /// A byte of a text string, or of a chunk of one, that no UTF-8 of its length has there.
     NotText { at: u64 },
-    /// An array, a map or a tag inside 16 of these.
+    /// An initial byte of an array, a map or a tag inside 16 of these.
     TooDeep { at: u64 },
     /// As many bytes as the limit allows can still go on to an item.
     TooLong,
@@ -48,6 +50,8 @@ pub fn read_item(alloc: Global, bytes: &[u8], limit: u64) -> Result<ReadItem, It
     ensures found { IfSome (ending_of result) (IsEnding bytes.now limit) }
     // What is so is answered, unless memory runs out.
     ensures only { (ending : Ending) → IsEnding bytes.now limit ending → IfSome (ending_of result) (λ e. e ≡ ending) }
+    // Only a whole item takes memory.
+    ensures memory { result ≡ Err fault_of.OutOfMemory → (item : DataItem) × (used : ℕ) × IsWhole bytes.now limit item used }
 {
     match find_end(bytes, limit) {
         Ok(Some(used)) => match build_whole(alloc, &bytes[..used]) {
@@ -93,11 +97,11 @@ fn find_end(bytes: &[u8], limit: u64) -> Result<Option<usize>, WalkFault>
 
 /// The fault of this name at this place.
 pub(crate) fn item_fault(name: FaultName, at: u64) -> ItemFault
-    ensures { fault_ending result ≡ Some (faulty name at) }
+    ensures ending { fault_ending result ≡ Some (faulty name at) }
+    ensures memory { result ≢ fault_of.OutOfMemory }
 {
     match name {
         FaultName::Malformed => ItemFault::Malformed { at },
-        FaultName::Indefinite => ItemFault::Indefinite { at },
         FaultName::NotText => ItemFault::NotText { at },
         FaultName::TooDeep => ItemFault::TooDeep { at },
     }

@@ -4,7 +4,8 @@ ghost use Rattle.std.specs.Prelude.{◌≡◌, ◌<◌, ◌^◌, [], ◌∷◌, 
 ghost use Rattle.std.specs.Str.{IsUtf8};
 
 use crate::OutOfMemory;
-use std::alloc::Global;
+use std::alloc::{AllocError, Global};
+use std::hash::{Hash, Hasher};
 use std::marker::Model;
 
 /// The content of a byte string.
@@ -40,6 +41,13 @@ impl Octets {
         })
     }
 
+    /// These bytes, which are moved and need no memory.
+    pub fn from_vec(bytes: Vec<u8>) -> Octets
+        ensures { result ≡ bytes.items }
+    {
+        Octets { held: bytes }
+    }
+
     /// How many bytes there are.
     pub fn len(&self) -> u64
         ensures { result ≡ length self.now }
@@ -53,6 +61,15 @@ impl Octets {
         ensures err { OnErr result (self.new ≡ self.old) }
     {
         self.held.push(byte)?;
+        Ok(())
+    }
+
+    /// Adds these bytes at the end. After an `Err` the bytes are as before.
+    pub fn append(&mut self, bytes: &[u8]) -> Result<(), OutOfMemory>
+        ensures ok { OnOk result (self.new ≡ self.old ++ bytes.now) }
+        ensures err { OnErr result (self.new ≡ self.old) }
+    {
+        self.held.extend_from_slice(bytes)?;
         Ok(())
     }
 
@@ -74,9 +91,53 @@ impl Octets {
     pub fn copy(&self) -> Result<Octets, OutOfMemory>
         ensures { IfOk result (λ r. r ≡ self.now) }
     {
+        Ok(self.clone()?)
+    }
+}
+
+impl Clone for Octets {
+    ghost is_clone = { λ a b. b ≡ a };
+
+    fn clone(&self) -> Result<Octets, AllocError> {
         Ok(Octets {
             held: self.held.clone()?,
         })
+    }
+}
+
+impl PartialEq for Octets {
+    ghost use Rattle.std.specs.Prelude.{bytes_eq};
+    ghost use Rattle.std.specs.Cmp.{partial_equiv_from_equiv, decided};
+    ghost use Rattle.std.specs.Cmp.Lexicographic.{bytes_decides};
+
+    ghost eq = { bytes_eq };
+
+    ghost laws = { partial_equiv_from_equiv (decided bytes_eq bytes_decides) };
+
+    fn eq(&self, other: &Octets) -> bool {
+        self.held.as_slice() == other.held.as_slice()
+    }
+}
+
+impl Eq for Octets {
+    ghost use Rattle.std.specs.Prelude.{bytes_eq};
+    ghost use Rattle.std.specs.Cmp.{decided};
+    ghost use Rattle.std.specs.Cmp.Lexicographic.{bytes_decides};
+
+    ghost laws = { decided bytes_eq bytes_decides };
+}
+
+impl Hash for Octets {
+    ghost use Rattle.std.specs.Hash as fed;
+    ghost use Rattle.std.proofs.Common.{rules};
+    ghost use Rattle.std.specs.Cmp.Rules.{comparing, hashing};
+
+    ghost hash_input = { fed.slice fed.u8 };
+
+    ghost respects_eq = { Prim.search (hashing, rules) };
+
+    fn hash<H: Hasher>(&self, state: &mut H) {
+        self.held.as_slice().hash(state);
     }
 }
 
@@ -141,6 +202,15 @@ impl Chars {
         Ok(())
     }
 
+    /// Adds this text at the end. After an `Err` the text is as before.
+    pub fn append(&mut self, text: &str) -> Result<(), OutOfMemory>
+        ensures ok { OnOk result (self.new ≡ self.old ++ text.now) }
+        ensures err { OnErr result (self.new ≡ self.old) }
+    {
+        self.held.push_str(text)?;
+        Ok(())
+    }
+
     /// The byte at this place, counted from 0, or `None` past the end.
     pub fn at(&self, i: u64) -> Option<u8>
         ensures { result ≡ slice_get self.now i }
@@ -168,8 +238,52 @@ impl Chars {
     pub fn copy(&self) -> Result<Chars, OutOfMemory>
         ensures { IfOk result (λ r. r ≡ self.now) }
     {
+        Ok(self.clone()?)
+    }
+}
+
+impl Clone for Chars {
+    ghost is_clone = { λ a b. b ≡ a };
+
+    fn clone(&self) -> Result<Chars, AllocError> {
         Ok(Chars {
             held: self.held.clone()?,
         })
+    }
+}
+
+impl PartialEq for Chars {
+    ghost use Rattle.std.specs.Prelude.{bytes_eq};
+    ghost use Rattle.std.specs.Cmp.{partial_equiv_from_equiv, decided};
+    ghost use Rattle.std.specs.Cmp.Lexicographic.{bytes_decides};
+
+    ghost eq = { bytes_eq };
+
+    ghost laws = { partial_equiv_from_equiv (decided bytes_eq bytes_decides) };
+
+    fn eq(&self, other: &Chars) -> bool {
+        self.held.as_str() == other.held.as_str()
+    }
+}
+
+impl Eq for Chars {
+    ghost use Rattle.std.specs.Prelude.{bytes_eq};
+    ghost use Rattle.std.specs.Cmp.{decided};
+    ghost use Rattle.std.specs.Cmp.Lexicographic.{bytes_decides};
+
+    ghost laws = { decided bytes_eq bytes_decides };
+}
+
+impl Hash for Chars {
+    ghost use Rattle.std.specs.Hash as fed;
+    ghost use Rattle.std.proofs.Common.{rules};
+    ghost use Rattle.std.specs.Cmp.Rules.{comparing, hashing};
+
+    ghost hash_input = { fed.str };
+
+    ghost respects_eq = { Prim.search (hashing, rules) };
+
+    fn hash<H: Hasher>(&self, state: &mut H) {
+        self.held.as_str().hash(state);
     }
 }

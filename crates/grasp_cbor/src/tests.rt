@@ -1,494 +1,235 @@
+ghost use Rattle.std.specs.Prelude.{◌≡◌, ◌<◌};
+
 use crate::{
     Chars, FloatBits, Item, ItemFault, ItemReader, Items, Octets, OutOfMemory, Pairs, ReadItem,
-    SimpleValue, Taken, read_item, room_after, write_array_head, write_byte_string, write_item,
-    write_null, write_text_string, write_unsigned,
+    SimpleValue, Steps, Taken, build_whole, read_item, room_after, room_after_head,
+    room_after_string, write_array_head, write_byte_string, write_item, write_null,
+    write_text_string, write_unsigned,
 };
 use std::alloc::Global;
+use std::marker::Brand;
+use std::sync::ledger::{Blank, Ledger};
 use std::test::Fail;
 
 const LIMIT: u64 = 2048;
 
-fn bytes(alloc: Global, content: &[u8]) -> Result<Item, OutOfMemory> {
-    Ok(Item::Bytes(Octets::of(alloc, content)?))
-}
+/// The examples of RFC 8949, appendix A, of definite length. Each is written as it is read.
+const DEFINITE: &str =
+    "00 01 0a 17 1818 1819 1864 1903e8 1a000f4240 1b000000e8d4a51000 1bffffffffffffffff \
+    c249010000000000000000 3bffffffffffffffff c349010000000000000000 20 29 3863 3903e7 f90000 f98000 f93c00 \
+    fb3ff199999999999a f93e00 f97bff fa47c35000 fa7f7fffff fb7e37e43c8800759c f90001 f90400 f9c400 \
+    fbc010666666666666 f97c00 f97e00 f9fc00 fa7f800000 fa7fc00000 faff800000 fb7ff0000000000000 \
+    fb7ff8000000000000 fbfff0000000000000 f4 f5 f6 f7 f0 f8ff c074323031332d30332d32315432303a30343a30305a \
+    c11a514b67b0 c1fb41d452d9e2000000 d74401020304 d818456449455446 \
+    d82076687474703a2f2f7777772e6578616d706c652e636f6d 40 4401020304 60 6161 6449455446 62225c 62c3bc 63e6b0b4 \
+    64f0908591 80 83010203 8301820203820405 98190102030405060708090a0b0c0d0e0f101112131415161718181819 a0 \
+    a201020304 a26161016162820203 826161a161626163 a56161614161626142616361436164614461656145";
 
-fn text(alloc: Global, content: &str) -> Result<Item, OutOfMemory> {
-    Ok(Item::Text(Chars::of(alloc, content)?))
-}
+/// The examples of RFC 8949, appendix A, of indefinite length, and longer heads, each with how it is written.
+const REWRITTEN: &str =
+    "5f42010243030405ff=450102030405 7f657374726561646d696e67ff=6973747265616d696e67 9fff=80 \
+    9f018202039f0405ffff=8301820203820405 9f01820203820405ff=8301820203820405 83018202039f0405ff=8301820203820405 \
+    83019f0203ff820405=8301820203820405 \
+    9f0102030405060708090a0b0c0d0e0f101112131415161718181819ff=98190102030405060708090a0b0c0d0e0f101112131415161718181819 \
+    bf61610161629f0203ffff=a26161016162820203 826161bf61626163ff=826161a161626163 \
+    bf6346756ef563416d7421ff=a26346756ef563416d7421 5fff=40 7fff=60 7f62c3a96141ff=63c3a941 1817=17 190017=17 \
+    1a00000017=17 1b0000000000000017=17 5800=40 7b000000000000000161=6161 99000180=8180";
 
-fn tag(alloc: Global, number: u64, item: Item) -> Result<Item, OutOfMemory> {
-    Ok(Item::Tag(number, Box::new(alloc, item).map_err(OutOfMemory::from)?))
-}
+/// Bytes that are the beginning of an item and no item (RFC 8949, appendix F).
+const PARTIAL: &str =
+    "18 19 1a 1b 1901 1a0102 1b01020304050607 38 58 78 98 9a01ff00 b8 d8 f8 f900 fa0000 fb000000 41 61 \
+    5affffffff00 5bffffffffffffffff010203 7affffffff00 7b7fffffffffffffff010203 81 818181818181818181 8200 a1 a20102 \
+    a100 a2000000 c0 5f4100 7f6100 9f 9f0102 bf bf01020102 819f 9f8000 9f9f9f9f9fffffffff 9f819f819f9fffffff 9f00 \
+    9bffffffffffffffff00 bbffffffffffffffff00";
 
-/// The array of the numbers from first to last.
-fn count(alloc: Global, first: u8, last: u8) -> Result<Item, OutOfMemory> {
-    let mut items = Items::new(alloc);
-    for n in first..=last {
-        items.push(Item::Uint(u64::from(n)))?;
+/// Bytes with a dot before the first one with which no item begins (RFC 8949, appendix F).
+const MALFORMED: &str =
+    ".ff .1c .1d .1e .1f .3c .3f .5c .7d .9e .bc .df .fc .fd .fe f8.00 f8.01 f8.18 f8.1f 5f.00ff 5f.21ff \
+    5f.6100ff 5f.80ff 5f.a0ff 5f.c000ff 5f.e0ff 7f.4100ff 5f.5f4100ffff 7f.7f6100ffff 5f.5c 81.ff 8200.ff a1.ff a1.ff00 \
+    a100.ff a20000.ff 9f81.ff 9f829f819f9fffffff.ff bf00.ff bf000000.ff c0.ff 8307.1c 83186301f8.1f 5f.6161ff";
+
+/// Bytes with a dot before the first one that no text of the stated length has there: continuations and bytes that
+/// begin no character, longer forms than needed, surrogates, too great numbers, characters that pass the end.
+const NOT_TEXT: &str =
+    "61.80 62.fe 64.f5 62.c0 62.c1 63e0.9f 64f0.8f 63ed.a0 64f4.90 62c3.41 63e6b0.41 61.c3 6341.e6 7f61.c361a9ff \
+    83060182186661.c3";
+
+/// Texts at the edges of UTF-8, each written as it is read.
+const TEXTS: &str = "617f 62c280 63e0a080 63ed9fbf 63ee8080 64f0908080 64f48fbfbf";
+
+/// Bytes with a dot before the initial byte that stands inside 16 arrays, maps and tags.
+const TOO_DEEP: &str = "81818181818181818181818181818181.81 9f9f9f9f9f9f9f9f9f9f9f9f9f9f9f9f.9f \
+    c1c1c1c1c1c1c1c1c1c1c1c1c1c1c1c1.a0 a100a100a100a100a100a100a100a100a100a100a100a100a100a100a100a100.c0";
+
+fn digit(character: u8) -> u8 {
+    match character {
+        b'0'..=b'9' => character - b'0',
+        b'a'..=b'f' => character - b'a' + 10,
+        _ => 0,
     }
-    Ok(Item::List(items))
 }
 
-/// The array of these two.
-fn both(alloc: Global, first: Item, second: Item) -> Result<Item, OutOfMemory> {
-    let mut items = Items::new(alloc);
-    items.push(first)?;
-    items.push(second)?;
-    Ok(Item::List(items))
+/// The bytes that the digits spell, and the place of the dot.
+fn bytes_of(alloc: Global, row: &str) -> Result<(Vec<u8>, u64), OutOfMemory> {
+    let mut bytes = Vec::new(alloc);
+    let mut place = 0;
+    let mut high = None;
+    for character in row.as_bytes() {
+        match high {
+            _ if *character == b'.' => place = bytes.len() as u64,
+            None => high = Some(digit(*character)),
+            Some(first) => {
+                bytes.push((first << 4) | digit(*character))?;
+                high = None;
+            }
+        }
+    }
+    Ok((bytes, place))
 }
 
-/// The map of a text to an item.
-fn entry(alloc: Global, key: &str, value: Item) -> Result<Item, OutOfMemory> {
-    let mut pairs = Pairs::new(alloc);
-    pairs.push((text(alloc, key)?, value))?;
-    Ok(Item::Map(pairs))
-}
-
-fn written(alloc: Global, item: &Item) -> Option<Vec<u8>> {
-    if item.depth() > 16 {
+/// The item that all of these bytes are, as it is written.
+fn rewritten(alloc: Global, bytes: &[u8]) -> Option<Vec<u8>> {
+    let Ok(ReadItem::Whole { item, used }) = read_item(alloc, bytes, LIMIT) else {
+        return None;
+    };
+    if used != bytes.len() as u64 || item.depth() > 16 {
         return None;
     }
     let mut out = Vec::new(alloc);
-    match write_item(item, &mut out) {
+    match write_item(&item, &mut out) {
         Ok(()) => Some(out),
         Err(_) => None,
     }
 }
 
-/// Whether the item is written so, and these bytes are read as an item that is written so.
-fn both_ways(alloc: Global, item: &Item, bytes: &[u8]) -> bool {
-    let Some(out) = written(alloc, item) else {
-        return false;
-    };
-    if out.as_slice() != bytes {
-        return false;
-    }
-    let Ok(ReadItem::Whole { item: found, used }) = read_item(alloc, bytes, LIMIT) else {
-        return false;
-    };
-    match written(alloc, &found) {
-        Some(again) => used == bytes.len() as u64 && again.as_slice() == bytes,
-        None => false,
+/// Whether the row is read as an item that is written so.
+fn reads_as(alloc: Global, row: &str, written: &str) -> Result<bool, OutOfMemory> {
+    let (bytes, _) = bytes_of(alloc, row)?;
+    let (expected, _) = bytes_of(alloc, written)?;
+    match rewritten(alloc, &bytes) {
+        Some(out) => Ok(out.as_slice() == expected.as_slice()),
+        None => Ok(false),
     }
 }
 
-/// How reading ends, in short.
-#[derive(Clone, Copy, Debug, PartialEq, Eq)]
-enum Seen {
-    Whole(u64),
-    Partial,
-    Fault(ItemFault),
-}
-
-fn ending(alloc: Global, bytes: &[u8], limit: u64) -> Seen {
-    if limit == 0 {
-        return Seen::Partial;
-    }
-    match read_item(alloc, bytes, limit) {
-        Ok(ReadItem::Whole { item: _, used }) => Seen::Whole(used),
-        Ok(ReadItem::Partial) => Seen::Partial,
-        Err(fault) => Seen::Fault(fault),
+/// How reading the row ends: with a fault, or else with none; and the place of the row's dot.
+fn fault_of(alloc: Global, row: &str) -> Result<(Option<ItemFault>, u64), OutOfMemory> {
+    let (bytes, place) = bytes_of(alloc, row)?;
+    match read_item(alloc, &bytes, LIMIT) {
+        Ok(_) => Ok((None, place)),
+        Err(fault) => Ok((Some(fault), place)),
     }
 }
 
-// Expected bytes are those of RFC 8949, appendix A.
 #[test]
-fn numbers_of_appendix_a(rt: HostRuntime) -> Result<(), Fail> {
+fn examples_of_appendix_a(rt: HostRuntime) -> Result<(), Fail> {
     let alloc = rt.alloc();
-    let unsigned: [(u64, &[u8]); 11] = [
-        (0, b"\x00"),
-        (1, b"\x01"),
-        (10, b"\x0a"),
-        (23, b"\x17"),
-        (24, b"\x18\x18"),
-        (25, b"\x18\x19"),
-        (100, b"\x18\x64"),
-        (1000, b"\x19\x03\xe8"),
-        (1000000, b"\x1a\x00\x0f\x42\x40"),
-        (1000000000000, b"\x1b\x00\x00\x00\xe8\xd4\xa5\x10\x00"),
-        (
-            18446744073709551615,
-            b"\x1b\xff\xff\xff\xff\xff\xff\xff\xff",
-        ),
-    ];
-    for (n, bytes) in unsigned {
-        assert!(rt; both_ways(alloc, &Item::Uint(n), bytes), "{n}");
+    for row in DEFINITE.split(' ') {
+        assert!(rt; reads_as(alloc, row, row)?, "{row}");
     }
-    // -1, -10, -100, -1000 and -18446744073709551616
-    let negative: [(u64, &[u8]); 5] = [
-        (0, b"\x20"),
-        (9, b"\x29"),
-        (99, b"\x38\x63"),
-        (999, b"\x39\x03\xe7"),
-        (
-            18446744073709551615,
-            b"\x3b\xff\xff\xff\xff\xff\xff\xff\xff",
-        ),
-    ];
-    for (n, bytes) in negative {
-        assert!(rt; both_ways(alloc, &Item::Neg(n), bytes), "-1-{n}");
+    for row in TEXTS.split(' ') {
+        assert!(rt; reads_as(alloc, row, row)?, "{row}");
     }
-    // false, true, null, undefined, simple(16) and simple(255)
-    let simple: [(u8, &[u8]); 6] = [
-        (20, b"\xf4"),
-        (21, b"\xf5"),
-        (22, b"\xf6"),
-        (23, b"\xf7"),
-        (16, b"\xf0"),
-        (255, b"\xf8\xff"),
-    ];
-    for (n, bytes) in simple {
-        let value = SimpleValue::of(n).ok_or("no simple value")?;
-        assert_eq!(rt; value.number(), n);
+    for row in REWRITTEN.split(' ') {
+        let (read, written) = row.split_once('=').ok_or("no row")?;
+        assert!(rt; reads_as(alloc, read, written)?, "{row}");
+    }
+    Ok(())
+}
+
+#[test]
+fn faults_and_their_places(rt: HostRuntime) -> Result<(), Fail> {
+    let alloc = rt.alloc();
+    for row in MALFORMED.split(' ') {
+        let (fault, at) = fault_of(alloc, row)?;
+        assert_eq!(rt; fault, Some(ItemFault::Malformed { at }), "{row}");
+    }
+    for row in NOT_TEXT.split(' ') {
+        let (fault, at) = fault_of(alloc, row)?;
+        assert_eq!(rt; fault, Some(ItemFault::NotText { at }), "{row}");
+    }
+    for row in TOO_DEEP.split(' ') {
+        let (fault, at) = fault_of(alloc, row)?;
+        assert_eq!(rt; fault, Some(ItemFault::TooDeep { at }), "{row}");
+    }
+    for row in PARTIAL.split(' ') {
+        let (bytes, _) = bytes_of(alloc, row)?;
         assert!(rt;
-            both_ways(alloc, &Item::Simple(value), bytes),
-            "simple({n})"
+            matches!(read_item(alloc, &bytes, LIMIT), Ok(ReadItem::Partial)),
+            "{row}"
         );
     }
-    for n in 24..32 {
-        assert_eq!(rt; SimpleValue::of(n), None);
-    }
-    // 0.0, -0.0, 1.0, 65504.0, the least half, Infinity, NaN, 100000.0, the greatest single, 1.1 and -4.1
-    let floats: [(FloatBits, &[u8]); 11] = [
-        (FloatBits::Half(0x0000), b"\xf9\x00\x00"),
-        (FloatBits::Half(0x8000), b"\xf9\x80\x00"),
-        (FloatBits::Half(0x3c00), b"\xf9\x3c\x00"),
-        (FloatBits::Half(0x7bff), b"\xf9\x7b\xff"),
-        (FloatBits::Half(0x0001), b"\xf9\x00\x01"),
-        (FloatBits::Single(0x7f800000), b"\xfa\x7f\x80\x00\x00"),
-        (
-            FloatBits::Double(0x7ff8000000000000),
-            b"\xfb\x7f\xf8\x00\x00\x00\x00\x00\x00",
-        ),
-        (FloatBits::Single(0x47c35000), b"\xfa\x47\xc3\x50\x00"),
-        (FloatBits::Single(0x7f7fffff), b"\xfa\x7f\x7f\xff\xff"),
-        (
-            FloatBits::Double(0x3ff199999999999a),
-            b"\xfb\x3f\xf1\x99\x99\x99\x99\x99\x9a",
-        ),
-        (
-            FloatBits::Double(0xc010666666666666),
-            b"\xfb\xc0\x10\x66\x66\x66\x66\x66\x66",
-        ),
-    ];
-    for (bits, bytes) in floats {
-        assert!(rt; both_ways(alloc, &Item::Float(bits), bytes), "{bits:?}");
-    }
-    Ok(())
-}
-
-// Expected bytes are those of RFC 8949, appendix A.
-#[test]
-fn strings_and_tags_of_appendix_a(rt: HostRuntime) -> Result<(), Fail> {
-    let alloc = rt.alloc();
-    assert!(rt; both_ways(alloc, &bytes(alloc, b"")?, b"\x40"));
-    assert!(rt;
-        both_ways(
-            alloc,
-            &bytes(alloc, b"\x01\x02\x03\x04")?,
-            b"\x44\x01\x02\x03\x04"
-        )
-    );
-    let texts: [(&str, &[u8]); 7] = [
-        ("", b"\x60"),
-        ("a", b"\x61a"),
-        ("IETF", b"\x64IETF"),
-        ("\"\\", b"\x62\x22\x5c"),
-        ("\u{fc}", b"\x62\xc3\xbc"),
-        ("\u{6c34}", b"\x63\xe6\xb0\xb4"),
-        ("\u{10151}", b"\x64\xf0\x90\x85\x91"),
-    ];
-    for (content, bytes) in texts {
-        assert!(rt;
-            both_ways(alloc, &text(alloc, content)?, bytes),
-            "{content}"
-        );
-    }
-    let dated = tag(alloc, 0, text(alloc, "2013-03-21T20:04:00Z")?)?;
-    assert!(rt; both_ways(alloc, &dated, b"\xc0\x742013-03-21T20:04:00Z"));
-    let big = tag(alloc, 2, bytes(alloc, b"\x01\0\0\0\0\0\0\0\0")?)?;
-    assert!(rt; both_ways(alloc, &big, b"\xc2\x49\x01\0\0\0\0\0\0\0\0"));
-    let epoch = tag(alloc, 1, Item::Uint(1363896240))?;
-    assert!(rt; both_ways(alloc, &epoch, b"\xc1\x1a\x51\x4b\x67\xb0"));
-    let epoch = tag(alloc, 1, Item::Float(FloatBits::Double(0x41d452d9e2000000)))?;
-    assert!(rt; both_ways(alloc, &epoch, b"\xc1\xfb\x41\xd4\x52\xd9\xe2\x00\x00\x00"));
-    let embedded = tag(alloc, 24, bytes(alloc, b"\x64IETF")?)?;
-    assert!(rt; both_ways(alloc, &embedded, b"\xd8\x18\x45\x64IETF"));
-    let link = tag(alloc, 32, text(alloc, "http://www.example.com")?)?;
-    assert!(rt; both_ways(alloc, &link, b"\xd8\x20\x76http://www.example.com"));
-    Ok(())
-}
-
-// Expected bytes are those of RFC 8949, appendix A.
-#[test]
-fn arrays_and_maps_of_appendix_a(rt: HostRuntime) -> Result<(), Fail> {
-    let alloc = rt.alloc();
-    assert!(rt; both_ways(alloc, &Item::List(Items::new(alloc)), b"\x80"));
-    assert!(rt; both_ways(alloc, &count(alloc, 1, 3)?, b"\x83\x01\x02\x03"));
-    let mut nested = Items::new(alloc);
-    nested.push(Item::Uint(1))?;
-    nested.push(count(alloc, 2, 3)?)?;
-    nested.push(count(alloc, 4, 5)?)?;
-    let nested = Item::List(nested);
-    assert!(rt; both_ways(alloc, &nested, b"\x83\x01\x82\x02\x03\x82\x04\x05"));
-    assert!(rt;
-        both_ways(
-            alloc,
-            &count(alloc, 1, 25)?,
-            b"\x98\x19\x01\x02\x03\x04\x05\x06\x07\x08\x09\x0a\x0b\x0c\x0d\x0e\x0f\x10\x11\x12\x13\x14\x15\x16\x17\x18\x18\x18\x19"
-        )
-    );
-    assert!(rt; both_ways(alloc, &Item::Map(Pairs::new(alloc)), b"\xa0"));
-    let mut numbers = Pairs::new(alloc);
-    numbers.push((Item::Uint(1), Item::Uint(2)))?;
-    numbers.push((Item::Uint(3), Item::Uint(4)))?;
-    assert!(rt; both_ways(alloc, &Item::Map(numbers), b"\xa2\x01\x02\x03\x04"));
-    let mixed = both(
-        alloc,
-        text(alloc, "a")?,
-        entry(alloc, "b", text(alloc, "c")?)?,
-    )?;
-    assert!(rt; both_ways(alloc, &mixed, b"\x82\x61a\xa1\x61b\x61c"));
-    assert_eq!(rt; mixed.depth(), 2);
-    let copied = mixed.copy()?;
-    assert!(rt; both_ways(alloc, &copied, b"\x82\x61a\xa1\x61b\x61c"));
-    Ok(())
-}
-
-// The rows of RFC 8949, appendix A, whose lengths are indefinite, and those of appendix F on bytes that no
-// well-formed data has.
-#[test]
-fn refused_bytes(rt: HostRuntime) -> Result<(), Fail> {
-    let alloc = rt.alloc();
-    let indefinite: [(&[u8], u64); 10] = [
-        (b"\x5f\x42\x01\x02\x43\x03\x04\x05\xff", 0),
-        (b"\x7f\x65strea\x64ming\xff", 0),
-        (b"\x9f\xff", 0),
-        (b"\x9f\x01\x82\x02\x03\x9f\x04\x05\xff\xff", 0),
-        (b"\x83\x01\x82\x02\x03\x9f\x04\x05\xff", 5),
-        (b"\x83\x01\x9f\x02\x03\xff\x82\x04\x05", 2),
-        (b"\xbf\x61a\x01\x61b\x9f\x02\x03\xff\xff", 0),
-        (b"\x82\x61a\xbf\x61b\x61c\xff", 3),
-        (b"\xbf\x63Fun\xf5\x63Amt\x21\xff", 0),
-        (b"\x9f\x00\xff", 0),
-    ];
-    for (bytes, at) in indefinite {
-        assert_eq!(rt;
-            ending(alloc, bytes, LIMIT),
-            Seen::Fault(ItemFault::Indefinite { at })
-        );
-    }
-    let malformed: [(&[u8], u64); 18] = [
-        (b"\xff", 0),
-        (b"\x1c", 0),
-        (b"\x1d", 0),
-        (b"\x1e", 0),
-        (b"\x1f", 0),
-        (b"\x3c", 0),
-        (b"\x3f", 0),
-        (b"\x5c", 0),
-        (b"\x7d", 0),
-        (b"\x9e", 0),
-        (b"\xbc", 0),
-        (b"\xdf", 0),
-        (b"\xfd", 0),
-        (b"\x81\xff", 1),
-        (b"\xf8\x00", 1),
-        (b"\xf8\x1f", 1),
-        (b"\x83\x07\x1c", 2),
-        (b"\x83\x18\x63\x01\xf8\x1f", 5),
-    ];
-    for (bytes, at) in malformed {
-        assert_eq!(rt;
-            ending(alloc, bytes, LIMIT),
-            Seen::Fault(ItemFault::Malformed { at })
-        );
-    }
+    let limited = read_item(alloc, b"\x83\x01\x02\x03", 3);
+    assert!(rt; matches!(limited, Err(ItemFault::TooLong)));
     Ok(())
 }
 
 #[test]
-fn texts_at_the_edges_of_utf8(rt: HostRuntime) -> Result<(), Fail> {
+fn strings_by_hand(rt: HostRuntime) -> Result<(), Fail> {
     let alloc = rt.alloc();
-    let refused: [(&[u8], u64); 14] = [
-        // a continuation and bytes that begin nothing
-        (b"\x61\x80", 1),
-        (b"\x62\xfe", 1),
-        (b"\x64\xf5", 1),
-        // longer forms than needed
-        (b"\x62\xc0", 1),
-        (b"\x62\xc1", 1),
-        (b"\x63\xe0\x9f", 2),
-        (b"\x64\xf0\x8f", 2),
-        // a surrogate, and above U+10FFFF
-        (b"\x63\xed\xa0", 2),
-        (b"\x64\xf4\x90", 2),
-        // no continuation
-        (b"\x62\xc3\x41", 2),
-        (b"\x63\xe6\xb0\x41", 3),
-        // a character that passes the end
-        (b"\x61\xc3", 1),
-        (b"\x63\x41\xe6", 2),
-        (b"\x83\x06\x01\x82\x18\x66\x61\xc3", 7),
-    ];
-    for (bytes, at) in refused {
-        assert_eq!(rt;
-            ending(alloc, bytes, LIMIT),
-            Seen::Fault(ItemFault::NotText { at })
-        );
-    }
-    let taken: [&[u8]; 7] = [
-        b"\x61\x7f",
-        b"\x62\xc2\x80",
-        b"\x63\xe0\xa0\x80",
-        b"\x63\xed\x9f\xbf",
-        b"\x63\xee\x80\x80",
-        b"\x64\xf0\x90\x80\x80",
-        b"\x64\xf4\x8f\xbf\xbf",
-    ];
-    for bytes in taken {
-        assert_eq!(rt;
-            ending(alloc, bytes, LIMIT),
-            Seen::Whole(bytes.len() as u64)
-        );
-    }
-    Ok(())
-}
-
-#[test]
-fn limits_and_truncations(rt: HostRuntime) -> Result<(), Fail> {
-    let alloc = rt.alloc();
-    // {"a": 1, "b": [2, 3]}, of RFC 8949, appendix A
-    let whole = b"\xa2\x61a\x01\x61b\x82\x02\x03".as_slice();
-    for used in 0..whole.len() {
-        assert_eq!(rt;
-            ending(alloc, &whole[..used], LIMIT),
-            Seen::Partial,
-            "{used}"
-        );
-        if used > 0 {
-            let limit = used as u64;
-            assert_eq!(rt;
-                ending(alloc, whole, limit),
-                Seen::Fault(ItemFault::TooLong),
-                "{used}"
-            );
-        }
-    }
-    assert_eq!(rt; ending(alloc, whole, 9), Seen::Whole(9));
-    assert_eq!(rt;
-        ending(alloc, b"\x83\x07\x01\x19\x13", LIMIT),
-        Seen::Partial
-    );
-    assert_eq!(rt; ending(alloc, b"\x81\x00\x00", LIMIT), Seen::Whole(2));
-    // a count of 2 ^ 64 - 1 reserves nothing
-    let hostile = b"\x9b\xff\xff\xff\xff\xff\xff\xff\xff\x00".as_slice();
-    assert_eq!(rt; ending(alloc, hostile, LIMIT), Seen::Partial);
-    let hostile = b"\xbb\xff\xff\xff\xff\xff\xff\xff\xff\x00".as_slice();
-    assert_eq!(rt; ending(alloc, hostile, 10), Seen::Fault(ItemFault::TooLong));
-    // a byte string that just fits, and one that doesn't
-    let mut long = Vec::from_slice(alloc, b"\x83\x18\x63\x01\x59\x07\xf9")?;
-    long.resize(2048, 0)?;
-    assert_eq!(rt; ending(alloc, &long, 2048), Seen::Whole(2048));
-    let mut long = Vec::from_slice(alloc, b"\x83\x18\x63\x01\x59\x07\xfa")?;
-    long.resize(2049, 0)?;
-    assert_eq!(rt; ending(alloc, &long, 2048), Seen::Fault(ItemFault::TooLong));
-    Ok(())
-}
-
-#[test]
-fn sixteen_levels(rt: HostRuntime) -> Result<(), Fail> {
-    let alloc = rt.alloc();
-    let mut item = Item::List(Items::new(alloc));
-    let mut bytes = Vec::new(alloc);
-    for _ in 0..15 {
-        let mut items = Items::new(alloc);
-        items.push(item)?;
-        item = Item::List(items);
-        bytes.push(0x81)?;
-    }
-    bytes.push(0x80)?;
-    assert_eq!(rt; item.depth(), 16);
-    assert!(rt; both_ways(alloc, &item, &bytes));
-    // what the next byte is inside 16 arrays
-    let _ = bytes.pop();
-    bytes.push(0x81)?;
-    assert_eq!(rt; ending(alloc, &bytes, LIMIT), Seen::Partial);
-    let nexts = [
-        (0x80, ItemFault::TooDeep { at: 16 }),
-        (0x81, ItemFault::TooDeep { at: 16 }),
-        (0xa0, ItemFault::TooDeep { at: 16 }),
-        (0xc0, ItemFault::TooDeep { at: 16 }),
-        (0x9f, ItemFault::Indefinite { at: 16 }),
-        (0x9c, ItemFault::Malformed { at: 16 }),
-    ];
-    for (next, fault) in nexts {
-        bytes.push(next)?;
-        assert_eq!(rt; ending(alloc, &bytes, LIMIT), Seen::Fault(fault), "{next}");
-        let _ = bytes.pop();
-    }
-    Ok(())
-}
-
-#[test]
-fn longer_heads_are_read(rt: HostRuntime) -> Result<(), Fail> {
-    let alloc = rt.alloc();
-    let longer: [&[u8]; 5] = [
-        b"\x17",
-        b"\x18\x17",
-        b"\x19\x00\x17",
-        b"\x1a\x00\x00\x00\x17",
-        b"\x1b\x00\x00\x00\x00\x00\x00\x00\x17",
-    ];
-    for bytes in longer {
-        match read_item(alloc, bytes, LIMIT) {
-            Ok(
-                ReadItem::Whole {
-                    item: Item::Uint(n),
-                    used,
-                },
-            ) => {
-                assert_eq!(rt; n, 23);
-                assert_eq!(rt; used, bytes.len() as u64);
-            }
-            _ => assert!(rt; false),
-        }
-    }
-    Ok(())
-}
-
-#[test]
-fn lists_and_strings(rt: HostRuntime) -> Result<(), Fail> {
-    let alloc = rt.alloc();
-    let mut octets = Octets::new(alloc);
-    octets.push(7)?;
-    assert_eq!(rt; octets.copy()?.bytes(), [7].as_slice());
-    assert_eq!(rt;
-        (octets.len(), octets.at(0), octets.at(1)),
-        (1, Some(7), None)
-    );
+    let mut octets = Octets::of(alloc, b"\x01")?;
+    octets.push(2)?;
+    octets.append(b"\x03")?;
+    assert!(rt; octets.copy()? == Octets::from_vec(octets.bytes().to_vec(alloc)?));
+    assert_eq!(rt; (octets.len(), octets.at(2)), (3, Some(3)));
     let mut chars = Chars::new(alloc);
     chars.push('\u{e9}')?;
-    assert_eq!(rt; chars.copy()?.text(), "\u{e9}");
-    assert_eq!(rt;
-        (chars.len(), chars.at(1), chars.at(2)),
-        (2, Some(0xa9), None)
-    );
-    let read = Chars::of_bytes(alloc, b"\xc3\xa9")?.ok_or("no text")?;
-    assert_eq!(rt; read.bytes(), chars.bytes());
+    chars.append("z")?;
+    assert!(rt; Chars::of_bytes(alloc, b"\xc3\xa9z")? == Some(chars.copy()?));
     assert!(rt; Chars::of_bytes(alloc, b"\xc3")?.is_none());
+    assert_eq!(rt;
+        (chars.len(), chars.at(2), chars.text()),
+        (3, Some(122), "\u{e9}z")
+    );
+    Ok(())
+}
+
+/// 32({1: [1000, -10, h'0102', "IETF", null]})
+fn item_of_each_kind(alloc: Global) -> Result<Item, OutOfMemory> {
     let mut items = Items::new(alloc);
-    items.push(Item::Uint(5))?;
-    let items = items.copy()?;
-    assert_eq!(rt; items.len(), 1);
-    assert!(rt; matches!(items.at(0), Some(Item::Uint(5))));
-    assert!(rt; items.at(1).is_none());
+    items.push(Item::Uint(1000))?;
+    items.push(Item::Neg(9))?;
+    items.push(Item::Bytes(Octets::of(alloc, b"\x01\x02")?))?;
+    items.push(Item::Text(Chars::of(alloc, "IETF")?))?;
+    if let Some(null) = SimpleValue::of(22) {
+        items.push(Item::Simple(null))?;
+    }
+    items.push(Item::Float(FloatBits::Half(0x3c00)))?;
+    let mut pairs = Pairs::new(alloc);
+    pairs.push((Item::Uint(1), Item::List(items.copy()?)))?;
+    let held = Item::Map(pairs.copy()?);
+    Ok(Item::Tag(32, Box::new(alloc, held).map_err(OutOfMemory::from)?))
+}
+
+#[test]
+fn items_by_hand(rt: HostRuntime) -> Result<(), Fail> {
+    let alloc = rt.alloc();
+    let item = item_of_each_kind(alloc)?.clone()?;
+    let expected: &[u8] =
+        b"\xd8\x20\xa1\x01\x86\x19\x03\xe8\x29\x42\x01\x02\x64IETF\xf6\xf9\x3c\x00";
+    assert_eq!(rt; (item.depth(), room_after(&item, 21)), (3, Some(0)));
+    assert!(rt; item.depth() <= 16);
+    let mut out = Vec::new(alloc);
+    write_item(&item, &mut out)?;
+    assert!(rt; out.as_slice() == expected);
+    let built = build_whole(alloc, &out)?;
+    assert_eq!(rt; built.depth(), 3);
+    Ok(())
+}
+
+#[test]
+fn parts_of_lists(rt: HostRuntime) -> Result<(), Fail> {
+    let alloc = rt.alloc();
+    let mut items = Items::new(alloc);
+    items.push(Item::Neg(9))?;
+    assert_eq!(rt; (items.len(), items.slice().len()), (1, 1));
+    assert!(rt; matches!(items.at(0), Some(Item::Neg(9))));
     let mut pairs = Pairs::new(alloc);
     pairs.push((Item::Uint(5), Item::Neg(6)))?;
-    let pairs = pairs.copy()?;
-    assert_eq!(rt; pairs.len(), 1);
+    assert_eq!(rt; (pairs.len(), pairs.slice().len()), (1, 1));
     assert!(rt; matches!(pairs.at(0), Some((Item::Uint(5), Item::Neg(6)))));
-    assert!(rt; pairs.at(1).is_none());
+    let null = SimpleValue::of(22).ok_or("no simple value")?;
+    assert_eq!(rt; (null.number(), SimpleValue::of(31)), (22, None));
     Ok(())
 }
 
@@ -503,21 +244,39 @@ fn part_by_part(rt: HostRuntime) -> Result<(), Fail> {
     write_null(&mut out)?;
     let expected: &[u8] = b"\x84\x19\x03\xe8\x42\x01\x02\x64IETF\xf6";
     assert!(rt; out.as_slice() == expected);
-    let item = count(alloc, 1, 25)?;
-    assert_eq!(rt; room_after(&item, 29), Some(0));
-    assert_eq!(rt; room_after(&item, 28), None);
+    assert_eq!(rt;
+        (room_after_head(1000, 3), room_after_string(4, 4)),
+        (Some(0), None)
+    );
     Ok(())
+}
+
+/// Whether a reader takes these bytes one after the other with these answers, and then stands for so many.
+fn takes_so<L: Ledger>(blank: Blank, table: &[(u8, Result<Taken, ItemFault>, u64)]) -> bool
+    requires name { blank.name ≡ L.name }
+    requires parts { blank.parts ≡ L.parts }
+    requires some { 0 < blank.parts }
+{
+    let mut steps = Steps::<L>::new(blank);
+    let mut reader = ItemReader::new(LIMIT);
+    table.iter().all(|(byte, answer, count)| {
+        reader.take(*byte, &mut steps) == *answer && reader.count() == *count
+    })
 }
 
 #[test]
 fn byte_by_byte(rt: HostRuntime) -> Result<(), Fail> {
-    let mut reader = ItemReader::new(LIMIT);
-    for byte in *b"\x83\x07\x01\x19\x13" {
-        assert_eq!(rt; reader.take(byte), Ok(Taken::More));
-    }
-    assert_eq!(rt; reader.take(0x88), Ok(Taken::Whole));
-    assert_eq!(rt; reader.take(0x82), Ok(Taken::More));
-    assert_eq!(rt; reader.take(0x1c), Err(ItemFault::Malformed { at: 1 }));
-    assert_eq!(rt; reader.take(0x00), Err(ItemFault::Malformed { at: 1 }));
+    let malformed = Err(ItemFault::Malformed { at: 1 });
+    let table: [(u8, Result<Taken, ItemFault>, u64); 8] = [
+        (0x9f, Ok(Taken::More), 1),
+        (0x5f, Ok(Taken::More), 2),
+        (0x40, Ok(Taken::More), 3),
+        (0xff, Ok(Taken::More), 4),
+        (0xff, Ok(Taken::Whole), 0),
+        (0x82, Ok(Taken::More), 1),
+        (0x1c, malformed, 2),
+        (0x00, malformed, 2),
+    ];
+    assert!(rt; takes_so::<Brand>(Blank::new(1), &table));
     Ok(())
 }

@@ -5,7 +5,7 @@ ghost use Rattle.grasp_cbor.specs.DataItem.{depth_of, items_depth, pairs_depth, 
 ghost use Rattle.grasp_cbor.specs.Item.{data_item_of, items_of, pairs_of, pair_of};
 
 use crate::{Chars, FloatBits, Octets, OutOfMemory, SimpleValue};
-use std::alloc::Global;
+use std::alloc::{AllocError, Global};
 
 /// A data item.
 #[cycle(item)]
@@ -81,6 +81,19 @@ impl Item {
             }
             Item::Simple(value) => Ok(Item::Simple(*value)),
             Item::Float(bits) => Ok(Item::Float(*bits)),
+        }
+    }
+}
+
+impl Clone for Item {
+    ghost use Rattle.grasp_cbor.specs.Item.{data_item_of};
+
+    ghost is_clone = { λ a b. data_item_of b ≡ data_item_of a };
+
+    fn clone(&self) -> Result<Item, AllocError> {
+        match self.copy() {
+            Ok(item) => Ok(item),
+            Err(_) => Err(AllocError),
         }
     }
 }
@@ -175,6 +188,13 @@ impl Pairs {
     {
         self.held.push(pair)?;
         Ok(())
+    }
+
+    /// The pairs.
+    pub fn slice(&self) -> &[(Item, Item)]
+        ensures { map pair_of result.now ≡ pairs_of self.now }
+    {
+        &self.held
     }
 
     /// The pair at this place, counted from 0, or `None` past the end.

@@ -1,24 +1,24 @@
 //! Taking an item byte by byte, without memory, up to its end or the first byte that no item has there.
 
 ghost use Rattle.std.specs.Prelude.{◌≡◌, ℕ, ◌+◌, ◌<◌, ◌≤◌, ◌/◌, ◌%◌, ◌-◌, ◌*◌, List, [], ◌∷◌, ◌++◌, length, None, Some, Option, Result};
-ghost use Rattle.grasp_cbor.specs.Front.{start_name, body_of, some_parts};
+ghost use Rattle.grasp_cbor.specs.Front.{start_name, chunk_name, can_break, body_of, some_parts};
 ghost use Rattle.grasp_cbor.specs.Room.{levels_of, levels_at};
-ghost use Rattle.grasp_cbor.specs.Step.{after_head, finished, goes, heads, is_simple, lefts_in, step, whole, width_of};
+ghost use Rattle.grasp_cbor.specs.Step.{after_head, broken, ended, level_after, finished, first_name, goes, heads, is_simple, levels_in, opened, step, whole, width_of};
 ghost use Rattle.grasp_cbor.specs.declared.walker.Stage.TheVariants.{Beginning, Heading, InBytes, InText};
 
-use crate::heads::Major;
+use crate::heads::{Major, StringKind};
 use crate::utf8::{Owed, READY, after_byte};
 
 /// What is wrong with a byte.
 #[derive(Clone, Copy, Debug, PartialEq, Eq)]
 pub enum FaultName {
-    /// An initial byte that is reserved, or the number of a simple value in two bytes that is below 32.
+    /// An initial byte that is reserved or has indefinite length in a major type that has none; a break where nothing of
+    /// indefinite length is innermost, or where a key waits for its value; in a string of indefinite length what is neither
+    /// a chunk of its kind nor a break; the number of a simple value in two bytes that is below 32.
     Malformed,
-    /// An initial byte that begins a string, an array or a map of indefinite length.
-    Indefinite,
     /// An initial byte of an array, a map or a tag inside 16 of these.
     TooDeep,
-    /// A byte of a text that no UTF-8 of the stated length has there.
+    /// A byte of a text, or of a chunk of one, that no UTF-8 of the stated length has there.
     NotText,
 }
 
@@ -40,6 +40,19 @@ pub(crate) enum WalkFault {
     TooLong,
 }
 
+/// What a list, a map or a tag that is open waits for.
+#[derive(Clone, Copy)]
+enum Level {
+    /// So many parts.
+    Parts(u128),
+    /// Items, or a break.
+    Items,
+    /// A key, or a break.
+    Keys,
+    /// The value of the last key.
+    Values,
+}
+
 /// What the next byte belongs to.
 #[derive(Clone, Copy)]
 enum Stage {
@@ -49,19 +62,21 @@ enum Stage {
     InText(Owed, u64),
 }
 
-/// Takes items byte by byte, and no memory.
+/// Takes items byte by byte, and no memory. At most 17 levels are open: 16 lists, maps and tags, and in the innermost a
+/// string of indefinite length.
 #[derive(Drop)]
 pub(crate) struct Walk {
     limit: u64,
     taken: u64,
     depth: u8,
-    lefts: [u128; 16],
+    levels: [Level; 16],
+    string: Option<StringKind>,
     stage: Stage,
     ghost in_range: { depth + levels_at stage ≤ 16 },
 }
 
 impl Walk {
-    ghost use Rattle.grasp_cbor.specs.Walking.{Took, Made, Answers, lefts_of, limit_of};
+    ghost use Rattle.grasp_cbor.specs.Walking.{Took, Made, Answers, open_levels, limit_of, count_of};
 
     /// Before the first byte of an item of at most `limit` bytes.
     pub(crate) fn new(limit: u64) -> Walk
@@ -73,27 +88,29 @@ impl Walk {
             limit,
             taken: 0,
             depth: 0,
-            lefts: [0; 16],
+            levels: [Level::Items; 16],
+            string: None,
             stage: Stage::Beginning,
         }
     }
 
-    /// Takes the next byte. After an item it stands before the next one; at a fault of the byte it stays.
+    /// Takes the next byte. After an item it stands before the next one.
     pub(crate) fn take(&mut self, byte: u8) -> Result<Taken, WalkFault>
         ensures exact { (s : List ℕ) → Took self.old s → Answers self.old self.new s byte result }
         ensures limit { limit_of self.new ≡ limit_of self.old }
     {
-        if self.taken >= self.limit {
+        let at = self.taken;
+        if at >= self.limit {
             return Err(WalkFault::TooLong);
         }
+        self.taken = at + 1;
         match self.advance(byte) {
-            Err(name) => Err(WalkFault::Bad(name, self.taken)),
+            Err(name) => Err(WalkFault::Bad(name, at)),
             Ok(Taken::Whole) => {
                 self.taken = 0;
                 Ok(Taken::Whole)
             }
             Ok(Taken::More) => {
-                self.taken += 1;
                 if self.taken == self.limit {
                     return Err(WalkFault::TooLong);
                 }
@@ -102,8 +119,15 @@ impl Walk {
         }
     }
 
+    /// How many bytes it has taken since the last whole item.
+    pub(crate) fn count(&self) -> u64
+        ensures { result ≡ count_of self.now }
+    {
+        self.taken
+    }
+
     fn advance(&mut self, byte: u8) -> Result<Taken, FaultName>
-        ensures made { Made self.old self.new result (step (lefts_of self.old) self.old.stage byte) }
+        ensures made { Made self.new result (step (open_levels self.old) self.old.string self.old.stage byte) }
         ensures kept { (self.new.taken ≡ self.old.taken) × (self.new.limit ≡ self.old.limit) }
     {
         match self.stage {
@@ -117,22 +141,48 @@ impl Walk {
     }
 
     fn start(&mut self, byte: u8) -> Result<Taken, FaultName>
-        ensures made { Made self.old self.new result (step (lefts_of self.old) Beginning byte) }
+        ensures made { Made self.new result (step (open_levels self.old) self.old.string Beginning byte) }
         ensures kept { (self.new.taken ≡ self.old.taken) × (self.new.limit ≡ self.old.limit) }
     {
-        match start_fault(self.depth, byte / 32, byte % 32) {
+        match self.first_fault(byte / 32, byte % 32) {
             Some(name) => Err(name),
             None => Ok(self.start_head(Major::of(byte / 32), byte % 32)),
         }
     }
 
+    /// The fault of the first byte of an item or of a chunk.
+    fn first_fault(&self, major: u8, info: u8) -> Option<FaultName>
+        ensures { result ≡ first_name (open_levels self.now) self.now.string major info }
+    {
+        match self.string {
+            Some(kind) => chunk_fault(kind, major, info),
+            None => start_fault(self.depth, self.may_break(), major, info),
+        }
+    }
+
+    /// Whether a break may stand between the parts of the innermost level.
+    fn may_break(&self) -> bool
+        ensures { result ≡ can_break (open_levels self.now) }
+    {
+        if self.depth == 0 {
+            return false;
+        }
+        matches!(
+            self.levels[(self.depth - 1) as usize],
+            Level::Items | Level::Keys
+        )
+    }
+
     fn start_head(&mut self, major: Major, info: u8) -> Taken
         requires { self.old.depth + levels_of major ≤ 16 }
-        ensures made { Made self.old self.new (Ok result) (heads (lefts_of self.old) major info) }
+        ensures made { Made self.new (Ok result) (heads (open_levels self.old) self.old.string major info) }
         ensures kept { (self.new.taken ≡ self.old.taken) × (self.new.limit ≡ self.old.limit) }
     {
         if info < 24 {
             return self.enter(major, u64::from(info));
+        }
+        if info == 31 {
+            return self.open_up_to_break(major);
         }
         self.stage = Stage::Heading(major, info == 24, 0, width_at(info));
         Taken::More
@@ -147,7 +197,7 @@ impl Walk {
         byte: u8,
     ) -> Result<Taken, FaultName>
         requires { self.old.depth + levels_of major ≤ 16 }
-        ensures made { Made self.old self.new result (step (lefts_of self.old) (Heading major short value left) byte) }
+        ensures made { Made self.new result (step (open_levels self.old) self.old.string (Heading major short value left) byte) }
         ensures kept { (self.new.taken ≡ self.old.taken) × (self.new.limit ≡ self.old.limit) }
     {
         if has_simple(major) && short && byte < 32 {
@@ -162,7 +212,7 @@ impl Walk {
     }
 
     fn go_on_bytes(&mut self, left: u64) -> Taken
-        ensures made { (byte : ℕ) → Made self.old self.new (Ok result) (step (lefts_of self.old) (InBytes left) byte) }
+        ensures made { (byte : ℕ) → Made self.new (Ok result) (step (open_levels self.old) self.old.string (InBytes left) byte) }
         ensures kept { (self.new.taken ≡ self.old.taken) × (self.new.limit ≡ self.old.limit) }
     {
         if left > 1 {
@@ -173,7 +223,7 @@ impl Walk {
     }
 
     fn go_on_text(&mut self, owed: Owed, left: u64, byte: u8) -> Result<Taken, FaultName>
-        ensures made { Made self.old self.new result (step (lefts_of self.old) (InText owed left) byte) }
+        ensures made { Made self.new result (step (open_levels self.old) self.old.string (InText owed left) byte) }
         ensures kept { (self.new.taken ≡ self.old.taken) × (self.new.limit ≡ self.old.limit) }
     {
         let Some(after) = after_byte(owed, byte) else {
@@ -192,7 +242,7 @@ impl Walk {
     /// A head has ended.
     fn enter(&mut self, major: Major, n: u64) -> Taken
         requires { self.old.depth + levels_of major ≤ 16 }
-        ensures made { Made self.old self.new (Ok result) (after_head (lefts_of self.old) (body_of major n)) }
+        ensures made { Made self.new (Ok result) (after_head (open_levels self.old) self.old.string (body_of major n)) }
         ensures kept { (self.new.taken ≡ self.old.taken) × (self.new.limit ≡ self.old.limit) }
     {
         match major {
@@ -220,25 +270,78 @@ impl Walk {
     /// An array, a map or a tag of so many parts has begun.
     fn open(&mut self, parts: u128) -> Taken
         requires { self.old.depth < 16 }
-        ensures made { Made self.old self.new (Ok result) (after_head (lefts_of self.old) (some_parts parts)) }
+        ensures made { Made self.new (Ok result) (after_head (open_levels self.old) self.old.string (some_parts parts)) }
         ensures kept { (self.new.taken ≡ self.old.taken) × (self.new.limit ≡ self.old.limit) }
     {
         if parts == 0 {
             return self.settle();
         }
+        self.push(Level::Parts(parts))
+    }
+
+    /// A string, an array or a map of indefinite length has begun, or a break stands there.
+    fn open_up_to_break(&mut self, major: Major) -> Taken
+        requires { self.old.depth + levels_of major ≤ 16 }
+        ensures made { Made self.new (Ok result) (opened (open_levels self.old) self.old.string major) }
+        ensures kept { (self.new.taken ≡ self.old.taken) × (self.new.limit ≡ self.old.limit) }
+    {
+        match major {
+            Major::ByteString => self.open_string(StringKind::Bytes),
+            Major::TextString => self.open_string(StringKind::Text),
+            Major::Array => self.push(Level::Items),
+            Major::Map => self.push(Level::Keys),
+            Major::Unsigned | Major::Negative | Major::Tag | Major::Simple => self.end_break(),
+        }
+    }
+
+    fn open_string(&mut self, kind: StringKind) -> Taken
+        ensures made { Made self.new (Ok result) (goes (open_levels self.old) (Some kind) Beginning) }
+        ensures kept { (self.new.taken ≡ self.old.taken) × (self.new.limit ≡ self.old.limit) }
+    {
         self.stage = Stage::Beginning;
-        self.lefts[self.depth as usize] = parts;
+        self.string = Some(kind);
+        Taken::More
+    }
+
+    /// One level more.
+    fn push(&mut self, level: Level) -> Taken
+        requires { self.old.depth < 16 }
+        ensures made { Made self.new (Ok result) (goes (level ∷ open_levels self.old) self.old.string Beginning) }
+        ensures kept { (self.new.taken ≡ self.old.taken) × (self.new.limit ≡ self.old.limit) }
+    {
+        self.stage = Stage::Beginning;
+        self.levels[self.depth as usize] = level;
         self.depth += 1;
         Taken::More
     }
 
-    /// An item has ended.
+    /// A break ends the string of indefinite length, or else the innermost level.
+    fn end_break(&mut self) -> Taken
+        ensures made { Made self.new (Ok result) (broken (open_levels self.old) self.old.string) }
+        ensures kept { (self.new.taken ≡ self.old.taken) × (self.new.limit ≡ self.old.limit) }
+    {
+        if self.string.is_some() {
+            self.string = None;
+            return self.settle();
+        }
+        if self.depth == 0 {
+            return self.settle();
+        }
+        self.stage = Stage::Beginning;
+        self.depth -= 1;
+        self.settle()
+    }
+
+    /// An item has ended, or a chunk of a string of indefinite length.
     fn settle(&mut self) -> Taken
-        ensures made { Made self.old self.new (Ok result) (finished (lefts_of self.old)) }
+        ensures made { Made self.new (Ok result) (ended (open_levels self.old) self.old.string) }
         ensures kept { (self.new.taken ≡ self.old.taken) × (self.new.limit ≡ self.old.limit) }
     {
         self.stage = Stage::Beginning;
-        self.depth = end_item(&mut self.lefts, self.depth);
+        if self.string.is_some() {
+            return Taken::More;
+        }
+        self.depth = end_item(&mut self.levels, self.depth);
         if self.depth == 0 {
             Taken::Whole
         } else {
@@ -247,19 +350,31 @@ impl Walk {
     }
 }
 
-/// The fault of an initial byte inside so many arrays, maps and tags.
+/// The fault of an initial byte inside so many arrays, maps and tags, where a break may stand or not.
 #[tactic(auto, unfolding(crate::specs::Front::start_name))]
-fn start_fault(inside: u8, major: u8, info: u8) -> Option<FaultName>
-    ensures { result ≡ start_name inside major info }
+fn start_fault(inside: u8, breaks: bool, major: u8, info: u8) -> Option<FaultName>
+    ensures { result ≡ start_name inside breaks major info }
 {
-    if (27 < info && info < 31) || (info == 31 && (major < 2 || 5 < major)) {
+    if (27 < info && info < 31)
+        || (info == 31 && ((major < 2 || major == 6) || (major == 7 && !breaks)))
+    {
         Some(FaultName::Malformed)
-    } else if info == 31 {
-        Some(FaultName::Indefinite)
     } else if (3 < major && major < 7) && 16 <= inside {
         Some(FaultName::TooDeep)
     } else {
         None
+    }
+}
+
+/// The fault of an initial byte inside a string of indefinite length.
+#[tactic(auto, unfolding(crate::specs::Front::chunk_name))]
+fn chunk_fault(kind: StringKind, major: u8, info: u8) -> Option<FaultName>
+    ensures { result ≡ chunk_name kind major info }
+{
+    if (major == kind.major() && info < 28) || (major == 7 && info == 31) {
+        None
+    } else {
+        Some(FaultName::Malformed)
     }
 }
 
@@ -280,18 +395,36 @@ fn has_simple(major: Major) -> bool
     matches!(major, Major::Simple)
 }
 
+/// What a level waits for after one more part, or `None` where it has them all.
+fn after_part(level: Level) -> Option<Level>
+    ensures { result ≡ level_after level }
+{
+    match level {
+        Level::Parts(left) => {
+            if left > 1 {
+                Some(Level::Parts(left - 1))
+            } else {
+                None
+            }
+        }
+        Level::Items => Some(Level::Items),
+        Level::Keys => Some(Level::Values),
+        Level::Values => Some(Level::Keys),
+    }
+}
+
 /// Ends an item inside so many levels: how many are open then.
-fn end_item(lefts: &mut [u128; 16], depth: u8) -> u8
+fn end_item(levels: &mut [Level; 16], depth: u8) -> u8
     requires { depth ≤ 16 }
     ensures within { result ≤ depth }
-    ensures open { 0 < result → finished (lefts_in depth lefts.old) ≡ goes (lefts_in result lefts.new) Beginning }
-    ensures whole { result ≡ 0 → finished (lefts_in depth lefts.old) ≡ whole }
+    ensures open { 0 < result → finished (levels_in depth levels.old) ≡ goes (levels_in result levels.new) None Beginning }
+    ensures whole { result ≡ 0 → finished (levels_in depth levels.old) ≡ whole }
 {
     let mut open = depth;
     while open > 0 {
-        let left = lefts[(open - 1) as usize];
-        if left > 1 {
-            lefts[(open - 1) as usize] = left - 1;
+        let place = (open - 1) as usize;
+        if let Some(level) = after_part(levels[place]) {
+            levels[place] = level;
             return open;
         }
         open -= 1;

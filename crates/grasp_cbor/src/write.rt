@@ -15,7 +15,7 @@ ghost use Rattle.grasp_cbor.specs.Shortest.{shortest, shortest_items, shortest_p
 use crate::{FloatBits, Item, Items, OutOfMemory, Pairs};
 
 /// The shortest encoding of an item is one of its encodings, where its numbers are in range and it nests at most
-/// 16 deep; and what bytes encode has its numbers in range.
+/// 16 deep; and what fewer than 2 ^ 64 bytes encode has its numbers in range.
 pub fn shortest_encodes()
     ensures shortest { ShortestEncodes }
     ensures encoded { EncodedAreEncodable }

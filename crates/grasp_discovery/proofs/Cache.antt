@@ -6,7 +6,7 @@ use Rattle.indexmap.specs.IndexMap.{insert_entry}
 use Rattle.grasp_types.specs.declared.address.Locator.{Locator}
 use Rattle.grasp_discovery.specs.declared.cached.Cached.{Cached}
 use Rattle.grasp_discovery.specs.declared.topic.Topic.{Topic}
-use Rattle.grasp_discovery.specs.Locator.{same_locator}
+use Rattle.grasp_types.specs.Same.{same_locator}
 use Rattle.grasp_discovery.specs.Discoveries.{some_of, or_none, locators_of, live, put_locator, keep_locator, keep_locators, has_locator, cached_under, has_topic, has_place, put_entry, after_response}
 use Rattle.grasp_discovery.specs.Topic.{same_topic}
 use Rattle.grasp_discovery.proofs.Lists.{map_append, found, any_found, any_missed, is_some_lookup}

@@ -1,7 +1,8 @@
 pub mod Lists
-pub mod LocatorLaws
+pub mod SameTopics
 pub mod Cache
 pub mod Soundness
 pub mod Memories
 pub mod Expiry
 pub mod Searches
+pub mod LawDiscoveries

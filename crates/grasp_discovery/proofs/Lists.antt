@@ -61,40 +61,6 @@ fold_append f y (z ∷ zs) x = fold_append f (f y z) zs x
 pub fold_more : {X Y : Type 0} (f : Y → X → Y) (y : Y) (xs : List X) (i : ℕ) (x : X) → slice_get xs i ≡ Some x → fold f y (take (i + 1) xs) ≡ f (fold f y (take i xs)) x
 fold_more f y xs i x e = ap (fold f y) (take_one_more xs i x e) ∙ fold_append f y (take i xs) x
 
--- the first i entries through f, and the others as they were
-abbrev pub first_through : {X : Type 0} → (X → X) → ℕ → List X → List X
-first_through f i [] = []
-first_through f zero (x ∷ xs) = x ∷ xs
-first_through f (suc i) (x ∷ xs) = f x ∷ first_through f i xs
-
-pub first_through_none : {X : Type 0} (f : X → X) (xs : List X) → first_through f 0 xs ≡ xs
-first_through_none f [] = refl
-first_through_none f (x ∷ xs) = refl
-
-pub first_through_all : {X : Type 0} (f : X → X) (i : ℕ) (xs : List X) → length xs ≤ i → first_through f i xs ≡ map f xs
-first_through_all f i [] h = refl
-first_through_all f zero (x ∷ xs) h = absurd (omega arith)
-first_through_all f (suc i) (x ∷ xs) h = ap (λ rest. f x ∷ rest) (first_through_all f i xs (omega arith))
-
-pub length_first_through : {X : Type 0} (f : X → X) (i : ℕ) (xs : List X) → length (first_through f i xs) ≡ length xs
-length_first_through f i [] = refl
-length_first_through f zero (x ∷ xs) = refl
-length_first_through f (suc i) (x ∷ xs) = ap suc (length_first_through f i xs)
-
-first_through_suc : {K V : Type 0} (f : K × V → K × V) (i : ℕ) (xs : List (K × V)) (k : K) (v w : V)
-    → slice_get (first_through f i xs) i ≡ Some (k, v) → (k, w) ≡ f (k, v) → set_value_at (first_through f i xs) i w ≡ first_through f (suc i) xs
-first_through_suc f i [] k v w at is = refl
-first_through_suc {K} {V} f zero (x ∷ xs) k v w at is =
-    let here : x ≡ (k, v) = cc in
-    let front : (x.0, w) ≡ f x = ap (λ (p : K × V). (p.0, w)) here ∙ is ∙ ap f (sym here) in
-    ap (λ p. p ∷ xs) front ∙ ap (λ rest. f x ∷ rest) (sym (first_through_none f xs))
-first_through_suc f (suc i) (x ∷ xs) k v w at is = ap (λ rest. f x ∷ rest) (first_through_suc f i xs k v w at is)
-
--- a write of the next value through f
-pub first_through_more : {K V : Type 0} (f : K × V → K × V) (i : ℕ) (xs : List (K × V)) (k : K) (v w : V)
-    → slice_get (first_through f i xs) i ≡ Some (k, v) → (k, w) ≡ f (k, v) → set_value_at (first_through f i xs) i w ≡ first_through f (i + 1) xs
-first_through_more f i xs k v w at is = first_through_suc f i xs k v w at is ∙ sym (ap (λ n. first_through f n xs) (add-one i))
-
 -- a look-up finds something exactly where a key passes
 pub is_some_lookup : {K V : Type 0} (test : K → Bool) (es : List (K × V)) → is_some (lookup test es) ≡ list_any (λ e. test e.0) es
 is_some_lookup test [] = refl

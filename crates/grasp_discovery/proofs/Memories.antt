@@ -5,7 +5,7 @@ use Rattle.std.specs.List.{list_any}
 use Rattle.std.specs.Map.{lookup}
 use Rattle.indexmap.specs.IndexMap.{insert_entry}
 use Rattle.grasp_types.specs.declared.origin.Origin.{Origin}
-use Rattle.grasp_types.specs.Origin.{same_origin}
+use Rattle.grasp_types.specs.Same.{same_origin}
 use Rattle.grasp_types.specs.declared.address.Address.{Address}
 use Rattle.grasp_discovery.specs.declared.answers.Answered.TheVariants.{Relay}
 use Rattle.grasp_discovery.specs.declared.answers.Heard.TheVariants.{Known, NoPlace, New}

@@ -6,8 +6,8 @@ use Rattle.std.specs.Cmp.{decided, unsigned_Decides}
 use Rattle.std.proofs.lemmas.List.Elements.{All-nil, All-cons, All-head, All-tail}
 use Rattle.grasp_types.specs.declared.address.Locator.{Locator}
 use Rattle.grasp_types.specs.declared.origin.Origin.{Origin}
-use Rattle.grasp_types.specs.Origin.{same_origin}
-use Rattle.grasp_types.specs.OriginLaws.{same_origin_decides}
+use Rattle.grasp_types.specs.Same.{same_origin}
+use Rattle.grasp_types.proofs.Same.{same_origin_decides}
 use Rattle.grasp_discovery.specs.declared.answers.Answered.{Answered}
 use Rattle.grasp_discovery.specs.declared.answers.Find.{Find}
 use Rattle.grasp_discovery.specs.declared.answers.Find.TheVariants.{Found, NotYet, Nothing, Fresh}
@@ -16,13 +16,13 @@ use Rattle.grasp_discovery.specs.declared.cached.Cached.{Cached}
 use Rattle.grasp_discovery.specs.declared.memory.Memory.{Memory}
 use Rattle.grasp_discovery.specs.declared.search.Search.{Search}
 use Rattle.grasp_discovery.specs.declared.topic.Topic.{Topic}
-use Rattle.grasp_discovery.specs.Locator.{same_locator}
-use Rattle.grasp_discovery.proofs.LocatorLaws.{same_locator_decides}
+use Rattle.grasp_types.specs.Same.{same_locator}
+use Rattle.grasp_types.proofs.Same.{same_locator_decides}
 use Rattle.grasp_discovery.specs.Topic.{same_topic}
-use Rattle.grasp_discovery.specs.TopicLaws.{same_topic_decides}
-use Rattle.grasp_discovery.specs.Discoveries.{Discoveries, no_discoveries, is_search_of, is_searching, is_full, without_asa, with_search, cached_under, has_topic, is_live, live, after_find, remembers, heard_reply, after_heard, put_locator, has_locator, keep_locator, keep_locators, put_entry, after_response, after_answered, after_reading, live_entry, has_any, after_expiry, AllDiffer, same_search, IsEntry, IsCache, IsSound}
+use Rattle.grasp_discovery.proofs.SameTopics.{same_topic_decides}
+use Rattle.grasp_discovery.specs.Discoveries.{Discoveries, no_discoveries, is_search_of, is_searching, is_full, without_asa, with_search, cached_under, has_topic, is_live, live, after_find, remembers, heard_reply, after_heard, put_locator, has_locator, keep_locator, keep_locators, put_entry, after_response, after_answered, after_reading, live_entry, has_any, after_expiry, AllDiffer, same_search, IsEntry, IsCache, IsDiscoveries}
 
-both_false : (s t : Bool) → (s || t) ≡ false → (s ≡ false) × (t ≡ false)
+pub both_false : (s t : Bool) → (s || t) ≡ false → (s ≡ false) × (t ≡ false)
 both_false true t e = absurd (true≢false e)
 both_false false t e = (refl, e)
 
@@ -248,7 +248,7 @@ same_search_symm a b =
     ap (λ t. t && same_topic a.topic b.topic) ((decided (λ m n. m == n) unsigned_Decides).symm b.asa a.asa)
     ∙ ap (λ t. (a.asa == b.asa) && t) ((decided same_topic same_topic_decides).symm a.topic b.topic)
 
-pub sound_fewer : (all : Discoveries) (p : Search → Bool) → IsSound all → IsSound (record all { searches = filter p all.searches })
+pub sound_fewer : (all : Discoveries) (p : Search → Bool) → IsDiscoveries all → IsDiscoveries (record all { searches = filter p all.searches })
 sound_fewer all p s = record {
   few_searches = few_filter p all.searches 64 s.few_searches;
   own_searches = differ_filter same_search p all.searches s.own_searches;
@@ -257,7 +257,7 @@ sound_fewer all p s = record {
   own_origins = s.own_origins;
 }
 
-pub sound_more : (all : Discoveries) (search : Search) → is_searching all search.asa search.topic ≡ false → length all.searches < 64 → IsSound all → IsSound (with_search all search)
+pub sound_more : (all : Discoveries) (search : Search) → is_searching all search.asa search.topic ≡ false → length all.searches < 64 → IsDiscoveries all → IsDiscoveries (with_search all search)
 sound_more all search none room s =
     let one = length_push all.searches search in
     record {
@@ -270,7 +270,7 @@ sound_more all search none room s =
 
 -- The calls
 
-pub sound_none : IsSound no_discoveries
+pub sound_none : IsDiscoveries no_discoveries
 sound_none = record {
   few_searches = omega arith;
   own_searches = tt;
@@ -279,8 +279,8 @@ sound_none = record {
   own_origins = tt;
 }
 
-pub sound_remember : (all : Discoveries) (origin : Origin) (memory : Memory) → remembers all origin ≡ false → length all.memories < 256 → IsSound all
-    → IsSound (record all { memories = all.memories ++ (origin, memory) ∷ [] })
+pub sound_remember : (all : Discoveries) (origin : Origin) (memory : Memory) → remembers all origin ≡ false → length all.memories < 256 → IsDiscoveries all
+    → IsDiscoveries (record all { memories = all.memories ++ (origin, memory) ∷ [] })
 sound_remember all origin memory unknown room s =
     let one = length_push all.memories (origin, memory) in
     record {
@@ -291,10 +291,10 @@ sound_remember all origin memory unknown room s =
       own_origins = differ_push (λ a b. same_origin a.0 b.0) (λ a b. (decided same_origin same_origin_decides).symm a.0 b.0) all.memories (origin, memory) unknown s.own_origins;
     }
 
-pub sound_cache : (all : Discoveries) (es : List (Topic × List Cached)) → IsCache es → IsSound all → IsSound (record all { entries = es })
+pub sound_cache : (all : Discoveries) (es : List (Topic × List Cached)) → IsCache es → IsDiscoveries all → IsDiscoveries (record all { entries = es })
 sound_cache all es h s = record { few_searches = s.few_searches; own_searches = s.own_searches; cache = h; few_memories = s.few_memories; own_origins = s.own_origins }
 
-pub sound_expiry : (all : Discoveries) (now : ℕ) → IsSound all → IsSound (after_expiry all now)
+pub sound_expiry : (all : Discoveries) (now : ℕ) → IsDiscoveries all → IsDiscoveries (after_expiry all now)
 sound_expiry all now s =
     let same = length_map (after_reading now) all.searches in
     record {
@@ -305,29 +305,29 @@ sound_expiry all now s =
       own_origins = differ_filter (λ a b. same_origin a.0 b.0) (λ memory. nat_lt now memory.1.end) all.memories s.own_origins;
     }
 
-pub sound_find : (all : Discoveries) (asa : ℕ) (topic : Topic) (answer : Find) → IsSound all → IsSound (after_find all asa topic answer)
+pub sound_find : (all : Discoveries) (asa : ℕ) (topic : Topic) (answer : Find) → IsDiscoveries all → IsDiscoveries (after_find all asa topic answer)
 sound_find all asa topic (Found locators) s = sound_fewer all (λ search. not (is_search_of asa topic search)) s
 sound_find all asa topic NotYet s = s
 sound_find all asa topic Nothing s = sound_fewer all (λ search. not (is_search_of asa topic search)) s
 sound_find all asa topic Fresh s = s
 
-pub sound_heard : (all : Discoveries) (origin : Origin) (memory : Memory) → IsSound all → IsSound (after_heard all origin memory (heard_reply all origin))
+pub sound_heard : (all : Discoveries) (origin : Origin) (memory : Memory) → IsDiscoveries all → IsDiscoveries (after_heard all origin memory (heard_reply all origin))
 sound_heard all origin memory s = by (remembers all origin) (nat_lt (length all.memories) 256) refl refl
   where
     by : (known room : Bool) → remembers all origin ≡ known → nat_lt (length all.memories) 256 ≡ room
-        → IsSound (after_heard all origin memory (cond known Known (cond room New NoPlace)))
+        → IsDiscoveries (after_heard all origin memory (cond known Known (cond room New NoPlace)))
     by true room e l = s
     by false true e l = sound_remember all origin memory e (ltb-true (length all.memories) 256 l) s
     by false false e l = s
 
-pub sound_answered : (all : Discoveries) (last : ℕ) (ls : List Locator) (asker : Option (Answered × Topic)) → 1 ≤ length ls → IsSound all → IsSound (after_answered all last ls asker)
+pub sound_answered : (all : Discoveries) (last : ℕ) (ls : List Locator) (asker : Option (Answered × Topic)) → 1 ≤ length ls → IsDiscoveries all → IsDiscoveries (after_answered all last ls asker)
 sound_answered all last ls (Some asker) some s = sound_cache all (after_response all.entries asker.1 last ls) (cache_response all.entries asker.1 last ls some s.cache) s
 sound_answered all last ls None some s = s
 
-pub sound_begin : (all : Discoveries) (search : Search) → is_searching all search.asa search.topic ≡ false → is_full all ≡ false → IsSound all → IsSound (with_search all search)
+pub sound_begin : (all : Discoveries) (search : Search) → is_searching all search.asa search.topic ≡ false → is_full all ≡ false → IsDiscoveries all → IsDiscoveries (with_search all search)
 sound_begin all search none room s =
     let few : length all.searches < 64 = grind (arith, s.few_searches, room) in
     sound_more all search none few s
 
-pub sound_drop : (all : Discoveries) (asa : ℕ) → IsSound all → IsSound (without_asa all asa)
+pub sound_drop : (all : Discoveries) (asa : ℕ) → IsDiscoveries all → IsDiscoveries (without_asa all asa)
 sound_drop all asa s = sound_fewer all (λ search. not (search.asa == asa)) s

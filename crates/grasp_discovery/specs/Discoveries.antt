@@ -5,7 +5,7 @@
 use Rattle.std.specs.Prelude.{◌≡◌, ℕ, ◌-◌, ◌≤◌, Bool, false, ◌==◌, ◌&&◌, ◌||◌, nat_lt, if◌then◌else◌, not, max, min, List, [], ◌∷◌, ◌++◌, length, map, filter, fold, find, All, Option, Some, None, option_map}
 use Rattle.std.specs.Bool.{⊤}
 use Rattle.std.specs.List.{list_any}
-use Rattle.grasp_types.specs.Origin.{same_address, same_origin}
+use Rattle.grasp_types.specs.Same.{same_address, same_origin}
 use Rattle.grasp_types.specs.Reading.{reading_after}
 use Rattle.grasp_types.specs.declared.address.Address.{Address}
 use Rattle.grasp_types.specs.declared.address.Locator.{Locator}
@@ -13,8 +13,6 @@ use Rattle.grasp_types.specs.declared.objective.Objective.{Objective}
 use Rattle.grasp_types.specs.declared.origin.Origin.{Origin}
 use Rattle.grasp_discovery.specs.declared.answers.Answered.{Answered}
 use Rattle.grasp_discovery.specs.declared.answers.Answered.TheVariants.{Mine, Relay, Stranger}
-use Rattle.grasp_discovery.specs.declared.answers.BeginRefused.{BeginRefused}
-use Rattle.grasp_discovery.specs.declared.answers.BeginRefused.TheVariants.{SessionsFull, OutOfMemory}
 use Rattle.grasp_discovery.specs.declared.answers.Cause.{Cause}
 use Rattle.grasp_discovery.specs.declared.answers.Find.{Find}
 use Rattle.grasp_discovery.specs.declared.answers.Find.TheVariants.{Found, NotYet, Nothing, Fresh}
@@ -24,7 +22,7 @@ use Rattle.grasp_discovery.specs.declared.cached.Cached.{Cached}
 use Rattle.grasp_discovery.specs.declared.memory.Memory.{Memory}
 use Rattle.grasp_discovery.specs.declared.search.Search.{Search}
 use Rattle.grasp_discovery.specs.declared.topic.Topic.{Topic}
-use Rattle.grasp_discovery.specs.Locator.{same_locator}
+use Rattle.grasp_types.specs.Same.{same_locator}
 use Rattle.grasp_discovery.specs.Topic.{same_topic, topic_of, kind_of}
 
 -- the searches in order; the cached locators under each topic, both in the order in which they were first kept; and
@@ -81,10 +79,6 @@ search_from now asa topic session timeout = record {
 -- with one more search, the last
 abbrev pub with_search : Discoveries → Search → Discoveries
 with_search all search = record all { searches = all.searches ++ search ∷ [] }
-
--- why a search isn't begun: 64 are kept, and else there is no memory
-abbrev pub begin_refusal : Discoveries → BeginRefused
-begin_refusal all = if is_full all then SessionsFull else OutOfMemory
 
 -- The cache
 
@@ -292,7 +286,7 @@ pub record IsCache (entries : List (Topic × List Cached)) : Type 0 where
   pub each : All (λ entry. IsEntry entry.1) entries
 
 -- at most 64 searches, one for an agent and a topic; a sound cache; and at most 256 memories of discoveries that differ
-pub record IsSound (all : Discoveries) : Type 0 where
+pub record IsDiscoveries (all : Discoveries) : Type 0 where
   pub few_searches : length all.searches ≤ 64
   pub own_searches : AllDiffer same_search all.searches
   pub cache : IsCache all.entries

@@ -1,5 +1,4 @@
+pub mod Room
 pub mod Topic
-pub mod TopicLaws
-pub mod Locator
 pub mod Discoveries
 pub mod Laws

@@ -20,8 +20,6 @@ pub enum Find {
 pub enum BeginRefused {
     /// 64 searches are kept.
     SessionsFull,
-    /// There was no memory for it.
-    OutOfMemory,
 }
 
 /// The neighbour that a discovery came from: the number of the link, and the neighbour's number on it.

@@ -2,11 +2,11 @@
 
 ghost use Rattle.std.specs.Prelude.{◌≡◌, ◌≤◌, ◌++◌, [], ◌∷◌, nat_lt, not, min, length, position, IfOk, IsSome, OnOk, OnErr};
 ghost use Rattle.grasp_discovery.specs.Discoveries.{or_none, end_of, locators_of, live, least_left, keep_locator, keep_locators, put_locator};
-ghost use Rattle.grasp_discovery.specs.Locator.{same_locator};
+ghost use Rattle.grasp_types.specs.Same.{same_locator};
 
 use grasp_cbor::OutOfMemory;
-use grasp_types::{Locator, Locators, reading_after};
-use std::alloc::Global;
+use grasp_types::{Locator, Locators, Plain, reading_after};
+use std::alloc::{AllocError, Global};
 use std::marker::Model;
 
 /// So many locators are cached under a topic at most.
@@ -16,28 +16,24 @@ const MOST_LOCATORS: usize = 8;
 const LONGEST: u64 = 600_000;
 
 /// A locator, and the reading at which it ends.
-#[derive(Debug, Drop)]
+#[derive(Clone, Debug, Drop)]
 pub(crate) struct Cached {
     pub(crate) locator: Locator,
     pub(crate) end: u64,
 }
 
-impl Cached {
-    /// Another of the same.
-    fn copy(&self) -> Result<Cached, OutOfMemory>
-        ensures { IfOk result (λ r. r ≡ self.now) }
-    {
-        Ok(Cached {
-            locator: self.locator.copy()?,
-            end: self.end,
-        })
-    }
+impl Plain for Cached {
+    ghost use Rattle.std.proofs.Common.{rules};
 
+    ghost clones_are_same = { Prim.search rules };
+}
+
+impl Cached {
     /// Whether it is this locator.
     fn is(&self, locator: &Locator) -> bool
         ensures { result ≡ same_locator locator.now self.now.locator }
     {
-        locator.is_same(&self.locator)
+        *locator == self.locator
     }
 }
 
@@ -56,6 +52,20 @@ impl Model for CachedLocators {
     ghost view = { λ a. a.held.items };
 }
 
+impl Clone for CachedLocators {
+    ghost is_clone = { λ a b. b ≡ a };
+
+    fn clone(&self) -> Result<CachedLocators, AllocError> {
+        Ok(CachedLocators {
+            held: self.held.clone()?,
+        })
+    }
+}
+
+impl Plain for CachedLocators {
+    ghost clones_are_same = { λ a b e. e };
+}
+
 impl CachedLocators {
     /// None.
     pub(crate) fn new(alloc: Global) -> CachedLocators
@@ -71,18 +81,6 @@ impl CachedLocators {
         ensures { result ≡ not (nat_lt 0 (length self.now)) }
     {
         self.held.is_empty()
-    }
-
-    /// Another of the same.
-    pub(crate) fn copy(&self) -> Result<CachedLocators, OutOfMemory>
-        ensures { IfOk result (λ r. r ≡ self.now) }
-    {
-        let alloc = *self.held.allocator();
-        let mut held = Vec::new(alloc);
-        for cached in &self.held {
-            held.push(cached.copy()?)?;
-        }
-        Ok(CachedLocators { held })
     }
 
     /// All of the locators, or `None` where there are none.
@@ -139,10 +137,7 @@ impl CachedLocators {
         ensures ok { OnOk result (self.new ≡ keep_locators end self.old locators.now) }
         ensures some { 1 ≤ length locators.now }
     {
-        for i in 0..locators.len() {
-            let Some(locator) = locators.at(i) else {
-                unreachable!()
-            };
+        for locator in locators.slice() {
             self.keep(end, locator)?;
         }
         Ok(())

@@ -1,10 +1,10 @@
 //! Searches, the cache and memories, and what responses do to them.
 
-ghost use Rattle.std.specs.Prelude.{◌≡◌, ◌≤◌, true, false, find, option_map, IsSome, IfSome, IfOk, IfErr, OnOk, OnErr};
+ghost use Rattle.std.specs.Prelude.{◌≡◌, ◌≤◌, true, false, find, option_map, IsSome, IfSome, IfOk, OnOk, OnErr};
 ghost use Rattle.grasp_types.specs.Origin.{origin_of};
 ghost use Rattle.grasp_discovery.specs.declared.answers.Find.TheVariants.{Fresh};
 ghost use Rattle.grasp_discovery.specs.declared.answers.Heard.TheVariants.{New};
-ghost use Rattle.grasp_discovery.specs.Discoveries.{no_discoveries, is_search_of, is_numbered, is_searching, is_full, is_used, without_asa, search_from, with_search, begin_refusal, has_topic, known_of, find_answer, after_find, heard_reply, memory_from, after_heard, own_search, asker_of, answered_reply, end_of, after_answered, after_expiry, IsSound};
+ghost use Rattle.grasp_discovery.specs.Discoveries.{no_discoveries, is_search_of, is_numbered, is_searching, is_full, is_used, without_asa, search_from, with_search, has_topic, known_of, find_answer, after_find, heard_reply, memory_from, after_heard, remembers, own_search, asker_of, answered_reply, end_of, after_answered, after_expiry, IsDiscoveries};
 ghost use Rattle.grasp_discovery.specs.Topic.{topic_of};
 
 use crate::answers::{Answered, BeginRefused, Cause, Find, Heard};
@@ -14,7 +14,7 @@ use crate::memory::{Memory, memory_from};
 use crate::search::{Search, find_reply, mark_over};
 use crate::topic::Topic;
 use grasp_cbor::{Chars, OutOfMemory};
-use grasp_types::{Address, Kind, Locators, Objective, Origin, reading_after};
+use grasp_types::{Address, Kind, Locators, Objective, Origin, Plain, reading_after};
 use indexmap::IndexMap;
 use std::alloc::Global;
 use std::marker::Model;
@@ -42,22 +42,23 @@ impl Model for Discovery {
     ghost use Rattle.grasp_discovery.specs.contracts.memory.Memory as memory;
     ghost use Rattle.grasp_discovery.specs.contracts.search.Search as search;
     ghost use Rattle.grasp_discovery.specs.contracts.topic.Topic as topic;
-    ghost use Rattle.grasp_discovery.specs.Discoveries.{Discoveries, IsSound};
+    ghost use Rattle.grasp_discovery.specs.Discoveries.{Discoveries};
+    ghost use Rattle.grasp_discovery.specs.Room.{discoveries_of, HasRoom};
 
     ghost Value = { Discoveries };
 
     ghost coded = { Prim.hlevel (codes, search.the_row.coded, topic.the_row.coded, cached.the_row.coded, origin.the_row.coded, memory.the_row.coded) };
 
-    ghost view = { λ a. record { searches = a.searches.items; entries = a.entries.entries; memories = a.memories.entries } };
+    ghost view = { discoveries_of };
 
-    ghost invariant = { λ a. IsSound (record { searches = a.searches.items; entries = a.entries.entries; memories = a.memories.entries }) };
+    ghost invariant = { HasRoom };
 }
 
 impl Discovery {
     /// Nothing yet, with memory for 64 searches, 128 entries and 256 memories.
     pub fn new(alloc: Global) -> Result<Discovery, OutOfMemory>
         ensures empty { IfOk result (λ all. all ≡ no_discoveries) }
-        ensures sound { IfOk result IsSound }
+        ensures sound { IfOk result IsDiscoveries }
     {
         Ok(Discovery {
             searches: Vec::with_capacity(alloc, MOST_SEARCHES)?,
@@ -77,7 +78,7 @@ impl Discovery {
         ensures fresh { IfOk result (λ answer. answer ≡ Fresh → is_searching self.new asa (topic_of name.now kind) ≡ false) }
         ensures err { OnErr result (self.new ≡ self.old) }
         ensures wanted { OnErr result (has_topic (topic_of name.now kind) self.old.entries ≡ true) }
-        ensures sound { IsSound self.new }
+        ensures sound { IsDiscoveries self.new }
     {
         let locators = locators_of(&self.entries, name, kind)?;
         let answer = find_reply(locators, self.search_of(asa, name, kind));
@@ -86,7 +87,7 @@ impl Discovery {
     }
 
     /// Begins this agent's search for an objective of this name and use, by a discovery of this session number. It is
-    /// over at the reading plus the timeout. After an `Err` nothing has changed.
+    /// over at the reading plus the timeout. It takes no memory. After an `Err` nothing has changed.
     pub fn begin(
         &mut self,
         now: u64,
@@ -97,11 +98,11 @@ impl Discovery {
         timeout: u32,
     ) -> Result<(), BeginRefused>
         requires { is_searching self.old asa (topic_of name kind) ≡ false }
-        ensures refused { IfErr result (λ refused. refused ≡ begin_refusal self.old) }
+        ensures refused { OnErr result (is_full self.old ≡ true) }
         ensures room { OnOk result (is_full self.old ≡ false) }
         ensures after { OnOk result (self.new ≡ with_search self.old (search_from now asa (topic_of name kind) session timeout)) }
         ensures err { OnErr result (self.new ≡ self.old) }
-        ensures sound { IsSound self.new }
+        ensures sound { IsDiscoveries self.new }
     {
         if self.full() {
             return Err(BeginRefused::SessionsFull);
@@ -114,7 +115,7 @@ impl Discovery {
             over: false,
         };
         let Ok(()) = self.searches.push(search) else {
-            return Err(BeginRefused::OutOfMemory);
+            unreachable!()
         };
         Ok(())
     }
@@ -136,7 +137,7 @@ impl Discovery {
         ensures after { IfOk result (λ heard. self.new ≡ after_heard self.old (origin_of session initiator) (memory_from now cause objective.now) heard) }
         ensures err { OnErr result (self.new ≡ self.old) }
         ensures wanted { OnErr result (heard_reply self.old (origin_of session initiator) ≡ New) }
-        ensures sound { IsSound self.new }
+        ensures sound { IsDiscoveries self.new }
     {
         let origin = Origin { session, initiator };
         if self.memories.contains_key(&origin) {
@@ -148,6 +149,25 @@ impl Discovery {
         let memory = memory_from(now, cause, objective)?;
         self.memories.insert(origin, memory)?;
         Ok(Heard::New)
+    }
+
+    /// Whether a discovery of this session number and initiator is remembered. It takes no memory.
+    pub fn remembers(&self, session: u32, initiator: Address) -> bool
+        ensures { result ≡ remembers self.now (origin_of session initiator) }
+    {
+        self.memories.contains_key(&Origin { session, initiator })
+    }
+
+    /// Who asked for a response of this session number and initiator, at the node of this address. It takes no memory.
+    pub fn asker(&self, own: Address, session: u32, initiator: Address) -> Answered
+        ensures { result ≡ answered_reply (asker_of self.now own (origin_of session initiator)) }
+    {
+        let origin = Origin { session, initiator };
+        match (self.own_search(own, origin), self.memories.get(&origin)) {
+            (Some(_), _) => Answered::Mine,
+            (None, Some(memory)) => Answered::Relay(memory.cause),
+            (None, None) => Answered::Stranger,
+        }
     }
 
     /// The cached locators of this name and use that end after this reading, and the least of their remaining lifetimes,
@@ -162,7 +182,7 @@ impl Discovery {
         ensures known { IfOk result (λ known. known ≡ known_of self.now (topic_of name.now kind) now) }
         ensures lifetime { IfOk result (λ known. IfSome known (λ told. 1 ≤ told.1)) }
         ensures wanted { OnErr result (IsSome (known_of self.now (topic_of name.now kind) now)) }
-        ensures sound { IsSound self.now }
+        ensures sound { IsDiscoveries self.now }
     {
         let Some(cached) = entry_of(&self.entries, name, kind) else {
             return Ok(None);
@@ -191,7 +211,7 @@ impl Discovery {
         ensures after { OnOk result (self.new ≡ after_answered self.old (end_of now ttl) locators.now (asker_of self.old own (origin_of session initiator))) }
         ensures err { OnErr result (self.new ≡ self.old) }
         ensures wanted { OnErr result (IsSome (asker_of self.old own (origin_of session initiator))) }
-        ensures sound { IsSound self.new }
+        ensures sound { IsDiscoveries self.new }
     {
         let origin = Origin { session, initiator };
         let Some((answered, topic)) = self.asker_of(own, origin)? else {
@@ -205,7 +225,7 @@ impl Discovery {
     /// entry goes with its last locator. It takes no memory.
     pub fn expire(&mut self, now: u64)
         ensures after { self.new ≡ after_expiry self.old now }
-        ensures sound { IsSound self.new }
+        ensures sound { IsDiscoveries self.new }
     {
         mark_over(&mut self.searches, now);
         expire_all(&mut self.entries, now);
@@ -230,7 +250,7 @@ impl Discovery {
     /// Drops the searches of this agent. It takes no memory.
     pub fn drop_asa(&mut self, asa: u32)
         ensures after { self.new ≡ without_asa self.old asa }
-        ensures sound { IsSound self.new }
+        ensures sound { IsDiscoveries self.new }
     {
         self.searches.retain(|search| search.asa != asa);
     }
@@ -238,7 +258,7 @@ impl Discovery {
     /// Ends this agent's search for this name and use, where this answer does.
     fn end_search(&mut self, asa: u32, name: &Chars, kind: Kind, answer: &Find)
         ensures after { self.new ≡ after_find self.old asa (topic_of name.now kind) answer.now }
-        ensures sound { IsSound self.new }
+        ensures sound { IsDiscoveries self.new }
     {
         match answer {
             Find::Found(_) | Find::Nothing => {

@@ -8,7 +8,7 @@ ghost use Rattle.grasp_discovery.specs.Topic.{same_topic, topic_of};
 use crate::cached::CachedLocators;
 use crate::topic::Topic;
 use grasp_cbor::{Chars, OutOfMemory};
-use grasp_types::{Kind, Locators};
+use grasp_types::{Kind, Locators, Plain};
 use indexmap::IndexMap;
 
 /// At most so many entries are cached.

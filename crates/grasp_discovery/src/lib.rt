@@ -14,8 +14,13 @@ mod memory;
 mod search;
 #[cfg(test)]
 mod tests;
+mod threads;
 mod topic;
 
 pub use answers::{Answered, BeginRefused, Cause, Find, Heard};
 pub use discovery::Discovery;
-pub use laws::{all_stays_sound, expiry_twice_is_once, known_is_found, nothing_ended_stays};
+pub use laws::{
+    discoveries_are_kept, expiry_twice_is_once, known_is_found, locators_are_answers,
+    nothing_ended_stays, only_the_ended_go, remembered_stays, told_is_cached,
+};
+pub use threads::discoveries_may_cross;

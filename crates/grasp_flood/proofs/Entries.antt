@@ -1,11 +1,11 @@
 -- What the calls of a map do to lists of entries.
-use Rattle.std.specs.Prelude.{Result, Ok, Err, OnErr}
+use Rattle.std.specs.Prelude.{Result, Ok, Err, OnErr, Any}
 use Rattle.std.proofs.Common.{lt-ltb, zero, suc, ◌≡◌, ℕ, ◌+◌, ◌<◌, ◌≤◌, Bool, true, false, cond, not, ◌||◌, nat_lt, List, [], ◌∷◌, ◌++◌, length, map, filter, take, slice_get, Some, is_some, refl, sym, ap, ◌∙◌, true≢false, arith, add-one}
 use Rattle.std.specs.List.{list_any}
 use Rattle.std.specs.Map.{lookup}
-use Rattle.indexmap.specs.IndexMap.{insert_entry, set_value_at}
+use Rattle.indexmap.specs.IndexMap.{insert_entry}
 use Rattle.grasp_types.specs.declared.origin.Origin.{Origin}
-use Rattle.grasp_types.specs.Origin.{same_origin}
+use Rattle.grasp_types.specs.Same.{same_origin}
 use Rattle.grasp_flood.specs.declared.keys.FloodKey.{FloodKey}
 use Rattle.grasp_flood.specs.declared.kept.FloodKept.{FloodKept}
 use Rattle.grasp_flood.specs.Flood.{same_key}
@@ -66,10 +66,6 @@ pub map_append : {X Y : Type 0} (f : X → Y) (xs ys : List X) → map f (xs ++ 
 map_append f [] ys = refl
 map_append f (x ∷ xs) ys = ap (λ rest. f x ∷ rest) (map_append f xs ys)
 
--- the parts so far and one more, each through f
-pub map_one_more : {X Y : Type 0} (f : X → Y) (xs : List X) (i : ℕ) (x : X) → slice_get xs i ≡ Some x → map f (take (i + 1) xs) ≡ map f (take i xs) ++ f x ∷ []
-map_one_more f xs i x e = ap (map f) (take_one_more xs i x e) ∙ map_append f (take i xs) (x ∷ [])
-
 filter_append : {X : Type 0} (p : X → Bool) (xs ys : List X) → filter p (xs ++ ys) ≡ filter p xs ++ filter p ys
 filter_append p [] ys = refl
 filter_append p (x ∷ xs) ys = let rest = filter_append p xs ys in
@@ -92,40 +88,6 @@ module _ {X Y : Type 0} (p : X → Bool) (f : X → Y) (xs : List X) (i : ℕ) (
       append_nil [] = refl
       append_nil (z ∷ zs) = ap (λ rest. z ∷ rest) (append_nil zs)
 
--- the first i entries through f, and the others as they were
-abbrev pub first_through : {X : Type 0} → (X → X) → ℕ → List X → List X
-first_through f i [] = []
-first_through f zero (x ∷ xs) = x ∷ xs
-first_through f (suc i) (x ∷ xs) = f x ∷ first_through f i xs
-
-pub first_through_none : {X : Type 0} (f : X → X) (xs : List X) → first_through f 0 xs ≡ xs
-first_through_none f [] = refl
-first_through_none f (x ∷ xs) = refl
-
-pub first_through_all : {X : Type 0} (f : X → X) (i : ℕ) (xs : List X) → length xs ≤ i → first_through f i xs ≡ map f xs
-first_through_all f i [] h = refl
-first_through_all f zero (x ∷ xs) h = absurd (omega arith)
-first_through_all f (suc i) (x ∷ xs) h = ap (λ rest. f x ∷ rest) (first_through_all f i xs (omega arith))
-
-pub length_first_through : {X : Type 0} (f : X → X) (i : ℕ) (xs : List X) → length (first_through f i xs) ≡ length xs
-length_first_through f i [] = refl
-length_first_through f zero (x ∷ xs) = refl
-length_first_through f (suc i) (x ∷ xs) = ap suc (length_first_through f i xs)
-
-first_through_suc : {K V : Type 0} (f : K × V → K × V) (i : ℕ) (xs : List (K × V)) (k : K) (v w : V)
-    → slice_get (first_through f i xs) i ≡ Some (k, v) → (k, w) ≡ f (k, v) → set_value_at (first_through f i xs) i w ≡ first_through f (suc i) xs
-first_through_suc f i [] k v w at is = refl
-first_through_suc {K} {V} f zero (x ∷ xs) k v w at is =
-    let here : x ≡ (k, v) = cc in
-    let front : (x.0, w) ≡ f x = ap (λ (p : K × V). (p.0, w)) here ∙ is ∙ ap f (sym here) in
-    ap (λ p. p ∷ xs) front ∙ ap (λ rest. f x ∷ rest) (sym (first_through_none f xs))
-first_through_suc f (suc i) (x ∷ xs) k v w at is = ap (λ rest. f x ∷ rest) (first_through_suc f i xs k v w at is)
-
--- a write of the next value through f
-pub first_through_more : {K V : Type 0} (f : K × V → K × V) (i : ℕ) (xs : List (K × V)) (k : K) (v w : V)
-    → slice_get (first_through f i xs) i ≡ Some (k, v) → (k, w) ≡ f (k, v) → set_value_at (first_through f i xs) i w ≡ first_through f (i + 1) xs
-first_through_more f i xs k v w at is = first_through_suc f i xs k v w at is ∙ sym (ap (λ n. first_through f n xs) (add-one i))
-
 -- what the look-up of a flood says of the memories
 pub remembered_is : (flood : Origin) (es : List (Origin × ℕ)) (found answer : Bool) → found ≡ is_some (lookup (same_origin flood) es) → found ≡ answer
     → list_any (λ m. same_origin flood m.0) es ≡ answer
@@ -140,6 +102,12 @@ has_no_place floods flood unknown full = let no : nat_lt (length floods.memories
 
 pub is_known : (floods : Floods) (flood : Origin) → list_any (λ m. same_origin flood m.0) floods.memories ≡ true → heard_reply floods flood ≡ Known
 is_known floods flood known = rw known
+
+-- what stands at a place is in the list
+pub any_at : {X : Type 0} (P : X → Type 0) (xs : List X) (i : ℕ) (x : X) → slice_get xs i ≡ Some x → P x → Any P xs
+any_at P [] i x e h = absurd (cc)
+any_at P (y ∷ ys) zero x e h = let same : y ≡ x = cc in (0, x, omega arith, same, h)
+any_at P (y ∷ ys) (suc i) x e h = let rest = any_at P ys i x e h in (suc rest.0, rest.1, omega (arith, rest.2), rest.3, rest.4)
 
 -- what holds anyhow holds after an error
 pub OnErr_anyhow : {T E P : Type 0} (r : Result T E) → P → OnErr r P

@@ -1,3 +1,5 @@
 pub mod Entries
+pub mod SameKeys
 pub mod Soundness
 pub mod Expiry
+pub mod LawFloods

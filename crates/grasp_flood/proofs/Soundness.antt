@@ -4,17 +4,17 @@ use Rattle.std.specs.List.{list_any}
 use Rattle.std.specs.Cmp.{decided}
 use Rattle.grasp_types.specs.declared.flood.FloodPart.{FloodPart}
 use Rattle.grasp_types.specs.declared.origin.Origin.{Origin}
-use Rattle.grasp_types.specs.Origin.{same_origin}
-use Rattle.grasp_types.specs.OriginLaws.{same_origin_decides}
+use Rattle.grasp_types.specs.Same.{same_origin}
+use Rattle.grasp_types.proofs.Same.{same_origin_decides}
 use Rattle.grasp_types.specs.Reading.{reading_after}
 use Rattle.grasp_flood.specs.declared.heard.Heard.TheVariants.{Known, NoPlace, New}
 use Rattle.grasp_flood.specs.declared.keys.FloodKey.{FloodKey}
 use Rattle.grasp_flood.specs.declared.kept.FloodKept.{FloodKept}
 use Rattle.grasp_flood.specs.Flood.{same_key}
-use Rattle.grasp_flood.specs.FloodLaws.{same_key_decides}
-use Rattle.grasp_flood.specs.Floods.{Floods, no_floods, has_key, put, after_keep, after_renewal, is_made_by, later_end, end_of, entry_of, is_after, remembers, heard_reply, after_heard, after_drop, after_expiry, AllDiffer, IsSound}
+use Rattle.grasp_flood.proofs.SameKeys.{same_key_decides}
+use Rattle.grasp_flood.specs.Floods.{Floods, no_floods, has_key, put, after_keep, after_renewal, is_made_by, later_end, end_of, entry_of, is_after, remembers, heard_reply, after_heard, after_drop, after_expiry, AllDiffer, IsFloods}
 
-both_false : (s t : Bool) → (s || t) ≡ false → (s ≡ false) × (t ≡ false)
+pub both_false : (s t : Bool) → (s || t) ≡ false → (s ≡ false) × (t ≡ false)
 both_false true t e = absurd (true≢false e)
 both_false false t e = (refl, e)
 
@@ -82,7 +82,7 @@ differ_put new (x ∷ xs) d = by (same_key new.0 x.0) refl (differ_put new xs d.
     by true e rest = d
     by false e rest = (any_put x.0 new xs d.0 ((decided same_key same_key_decides).symm x.0 new.0 ∙ e), rest)
 
-length_put : (new : FloodKey × FloodKept) (xs : List (FloodKey × FloodKept)) → length (put new xs) ≡ length xs + cond (has_key new.0 xs) 0 1
+pub length_put : (new : FloodKey × FloodKept) (xs : List (FloodKey × FloodKept)) → length (put new xs) ≡ length xs + cond (has_key new.0 xs) 0 1
 length_put new [] = refl
 length_put new (x ∷ xs) =
     let rest = length_put new xs in
@@ -144,11 +144,11 @@ length_map f (x ∷ xs) = ap suc (length_map f xs)
 
 -- the calls
 
-pub sound_none : IsSound no_floods
+pub sound_none : IsFloods no_floods
 sound_none = record { few_entries = omega arith; own_keys = tt; few_memories = omega arith; own_floods = tt }
 
-pub sound_known : (floods : Floods) (flood : Origin) (last : Option ℕ) → IsSound floods
-    → IsSound (record { entries = map (after_renewal flood last) floods.entries; memories = floods.memories })
+pub sound_known : (floods : Floods) (flood : Origin) (last : Option ℕ) → IsFloods floods
+    → IsFloods (record { entries = map (after_renewal flood last) floods.entries; memories = floods.memories })
 sound_known floods flood last s =
     let same = length_map (after_renewal flood last) floods.entries in
     record {
@@ -158,8 +158,8 @@ sound_known floods flood last s =
       own_floods = s.own_floods;
     }
 
-pub sound_new : (floods : Floods) (flood : Origin) (last : ℕ) (told : List (FloodKey × FloodKept)) → remembers floods flood ≡ false → length floods.memories < 256 → IsSound floods
-    → IsSound (record { entries = fold after_keep floods.entries told; memories = floods.memories ++ (flood, last) ∷ [] })
+pub sound_new : (floods : Floods) (flood : Origin) (last : ℕ) (told : List (FloodKey × FloodKept)) → remembers floods flood ≡ false → length floods.memories < 256 → IsFloods floods
+    → IsFloods (record { entries = fold after_keep floods.entries told; memories = floods.memories ++ (flood, last) ∷ [] })
 sound_new floods flood last told unknown room s =
     let one = length_push floods.memories (flood, last) in
     record {
@@ -169,7 +169,7 @@ sound_new floods flood last told unknown room s =
       own_floods = differ_push floods.memories (flood, last) unknown s.own_floods;
     }
 
-pub sound_drop : (floods : Floods) (key : FloodKey) → IsSound floods → IsSound (after_drop floods key)
+pub sound_drop : (floods : Floods) (key : FloodKey) → IsFloods floods → IsFloods (after_drop floods key)
 sound_drop floods key s = record {
   few_entries = few_filter (λ entry. not (same_key key entry.0)) floods.entries 128 s.few_entries;
   own_keys = AllDiffer_filter (λ a b. same_key a.0 b.0) (λ entry. not (same_key key entry.0)) floods.entries s.own_keys;
@@ -177,7 +177,7 @@ sound_drop floods key s = record {
   own_floods = s.own_floods;
 }
 
-pub sound_expiry : (floods : Floods) (now : ℕ) → IsSound floods → IsSound (after_expiry floods now)
+pub sound_expiry : (floods : Floods) (now : ℕ) → IsFloods floods → IsFloods (after_expiry floods now)
 sound_expiry floods now s = record {
   few_entries = few_filter (λ entry. is_after now entry.1.end) floods.entries 128 s.few_entries;
   own_keys = AllDiffer_filter (λ a b. same_key a.0 b.0) (λ entry. is_after now entry.1.end) floods.entries s.own_keys;
@@ -185,12 +185,12 @@ sound_expiry floods now s = record {
   own_floods = AllDiffer_filter (λ a b. same_origin a.0 b.0) (λ memory. nat_lt now memory.1) floods.memories s.own_floods;
 }
 
-pub sound_heard : (floods : Floods) (now : ℕ) (flood : Origin) (ttl : ℕ) (parts : List FloodPart) → IsSound floods
-    → IsSound (after_heard floods now flood ttl parts (heard_reply floods flood))
+pub sound_heard : (floods : Floods) (now : ℕ) (flood : Origin) (ttl : ℕ) (parts : List FloodPart) → IsFloods floods
+    → IsFloods (after_heard floods now flood ttl parts (heard_reply floods flood))
 sound_heard floods now flood ttl parts s = by (remembers floods flood) (nat_lt (length floods.memories) 256) refl refl
   where
     by : (known room : Bool) → remembers floods flood ≡ known → nat_lt (length floods.memories) 256 ≡ room
-        → IsSound (after_heard floods now flood ttl parts (cond known Known (cond room New NoPlace)))
+        → IsFloods (after_heard floods now flood ttl parts (cond known Known (cond room New NoPlace)))
     by true room e l = sound_known floods flood (end_of now ttl) s
     by false true e l = sound_new floods flood (reading_after now 120000) (map (entry_of flood (end_of now ttl)) parts) e (ltb-true (length floods.memories) 256 l) s
     by false false e l = s

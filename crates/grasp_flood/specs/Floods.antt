@@ -8,7 +8,8 @@ use Rattle.std.specs.List.{list_any}
 use Rattle.grasp_types.specs.declared.flood.FloodPart.{FloodPart}
 use Rattle.grasp_types.specs.declared.flood.FloodRead.{FloodRead}
 use Rattle.grasp_types.specs.declared.origin.Origin.{Origin}
-use Rattle.grasp_types.specs.Origin.{same_origin, origin_of}
+use Rattle.grasp_types.specs.Origin.{origin_of}
+use Rattle.grasp_types.specs.Same.{same_origin}
 use Rattle.grasp_types.specs.Reading.{reading_after}
 use Rattle.grasp_flood.specs.declared.heard.Heard.{Heard}
 use Rattle.grasp_flood.specs.declared.heard.Heard.TheVariants.{Known, NoPlace, New}
@@ -134,7 +135,7 @@ AllDiffer same [] = ⊤
 AllDiffer same (x ∷ xs) = (list_any (same x) xs ≡ false) × AllDiffer same xs
 
 -- at most 128 entries under keys that differ, and at most 256 memories of floods that differ
-pub record IsSound (floods : Floods) : Type 0 where
+pub record IsFloods (floods : Floods) : Type 0 where
   pub few_entries : length floods.entries ≤ 128
   pub own_keys : AllDiffer (λ a b. same_key a.0 b.0) floods.entries
   pub few_memories : length floods.memories ≤ 256

@@ -1,4 +1,3 @@
 pub mod Flood
-pub mod FloodLaws
 pub mod Floods
 pub mod Laws

@@ -1,11 +1,11 @@
 //! The cache of floods.
 
-ghost use Rattle.std.specs.Prelude.{◌≡◌, ◌+◌, ◌≤◌, ◌<◌, length, map, fold, IfOk, OnErr};
+ghost use Rattle.std.specs.Prelude.{◌≡◌, ◌+◌, ◌≤◌, ◌<◌, length, map, fold, Any, IfOk, OnErr};
 ghost use Rattle.indexmap.specs.IndexMap.{spare};
 ghost use Rattle.grasp_types.specs.Origin.{origin_of};
 ghost use Rattle.grasp_flood.specs.Flood.{key_of};
 ghost use Rattle.grasp_flood.specs.declared.heard.Heard.TheVariants.{New};
-ghost use Rattle.grasp_flood.specs.Floods.{no_floods, has_key, entry_of, after_keep, after_renewal, heard_reply, after_heard, reads_of, after_drop, after_expiry, IsSound};
+ghost use Rattle.grasp_flood.specs.Floods.{no_floods, has_key, entry_of, after_keep, after_renewal, heard_reply, after_heard, remembers, reads_of, after_drop, after_expiry, IsFloods};
 
 use crate::kept::{end_of, entry_of, read_of};
 use crate::{FloodKept, FloodKey, Heard};
@@ -38,7 +38,7 @@ impl Model for FloodCache {
     ghost use Rattle.grasp_flood.specs.contracts.kept.FloodKept as kept;
     ghost use Rattle.grasp_types.specs.contracts.origin.Origin as origin;
     ghost use Rattle.grasp_flood.specs.contracts.keys.FloodKey as key;
-    ghost use Rattle.grasp_flood.specs.Floods.{Floods, IsSound};
+    ghost use Rattle.grasp_flood.specs.Floods.{Floods, IsFloods};
 
     ghost Value = { Floods };
 
@@ -46,14 +46,14 @@ impl Model for FloodCache {
 
     ghost view = { λ a. record { entries = a.entries.entries; memories = a.memories.entries } };
 
-    ghost invariant = { λ a. IsSound (record { entries = a.entries.entries; memories = a.memories.entries }) };
+    ghost invariant = { λ a. IsFloods (record { entries = a.entries.entries; memories = a.memories.entries }) };
 }
 
 impl FloodCache {
     /// An empty cache, with memory for 128 entries and 256 memories.
     pub fn new(alloc: Global) -> Result<FloodCache, OutOfMemory>
         ensures empty { IfOk result (λ cache. cache ≡ no_floods) }
-        ensures sound { IfOk result IsSound }
+        ensures sound { IfOk result IsFloods }
     {
         Ok(FloodCache {
             entries: IndexMap::with_capacity(alloc, MOST_ENTRIES)?,
@@ -79,7 +79,7 @@ impl FloodCache {
         ensures after { IfOk result (λ heard. self.new ≡ after_heard self.old now (origin_of session initiator) ttl parts.now heard) }
         ensures err { OnErr result (self.new ≡ self.old) }
         ensures wanted { OnErr result (heard_reply self.old (origin_of session initiator) ≡ New) }
-        ensures sound { IsSound self.new }
+        ensures sound { IsFloods self.new }
     {
         let flood = Origin { session, initiator };
         let end = end_of(now, ttl);
@@ -97,10 +97,18 @@ impl FloodCache {
         Ok(Heard::New)
     }
 
-    /// What is kept of this name, in the order in which the keys were first kept.
+    /// Whether a flood of this session number and initiator is remembered. It takes no memory.
+    pub fn remembers(&self, session: u32, initiator: Address) -> bool
+        ensures { result ≡ remembers self.now (origin_of session initiator) }
+    {
+        self.memories.contains_key(&Origin { session, initiator })
+    }
+
+    /// What is kept of this name, in the order in which the keys were first kept. Memory is wanted for such entries alone.
     pub fn get(&self, name: &Chars) -> Result<FloodReads, OutOfMemory>
         ensures reads { IfOk result (λ reads. reads ≡ reads_of self.now name.now) }
-        ensures sound { IsSound self.now }
+        ensures wanted { OnErr result (Any (λ entry. entry.0.name ≡ name.now) self.now.entries) }
+        ensures sound { IsFloods self.now }
     {
         let alloc = *self.entries.allocator();
         let mut reads = FloodReads::new(alloc);
@@ -108,7 +116,7 @@ impl FloodCache {
             let Some((key, kept)) = self.entries.get_index(i) else {
                 unreachable!()
             };
-            if key.name.bytes() == name.bytes() {
+            if key.name == *name {
                 reads.push(read_of(key, kept)?)?;
             }
         }
@@ -119,7 +127,7 @@ impl FloodCache {
     pub fn drop_one(&mut self, name: &Chars, initiator: Address) -> bool
         ensures there { result ≡ has_key (key_of name.now initiator) self.old.entries }
         ensures after { self.new ≡ after_drop self.old (key_of name.now initiator) }
-        ensures sound { IsSound self.new }
+        ensures sound { IsFloods self.new }
     {
         let before = self.entries.len();
         self.entries.retain(|key, _kept| !key.is(name, initiator));
@@ -129,7 +137,7 @@ impl FloodCache {
     /// Drops what has ended by this reading, and forgets the floods whose memory has. It takes no memory.
     pub fn expire(&mut self, now: u64)
         ensures after { self.new ≡ after_expiry self.old now }
-        ensures sound { IsSound self.new }
+        ensures sound { IsFloods self.new }
     {
         self.entries.retain(|_key, kept| kept.is_after(now));
         self.memories.retain(|_flood, end| now < *end);
@@ -146,10 +154,7 @@ fn entries_of(
     ensures { IfOk result (λ told. told.items ≡ map (entry_of flood end) parts.now) }
 {
     let mut told = Vec::new(alloc);
-    for i in 0..parts.len() {
-        let Some(part) = parts.at(i) else {
-            unreachable!()
-        };
+    for part in parts.slice() {
         told.push(entry_of(flood, end, part)?)?;
     }
     Ok(told)

@@ -5,7 +5,9 @@ ghost use Rattle.grasp_flood.specs.Floods.{end_of, entry_of, is_after, later_end
 
 use crate::FloodKey;
 use grasp_cbor::OutOfMemory;
-use grasp_types::{Flags, FloodPart, FloodRead, Locator, Objective, Origin, Value, reading_after};
+use grasp_types::{
+    Flags, FloodPart, FloodRead, Locator, Objective, Origin, Plain, Value, reading_after,
+};
 
 /// What is kept of one part of a flood, beside its key.
 #[derive(Debug, Drop)]
@@ -75,24 +77,16 @@ pub(crate) fn entry_of(
 pub(crate) fn read_of(key: &FloodKey, kept: &FloodKept) -> Result<FloodRead, OutOfMemory>
     ensures { IfOk result (λ read. read ≡ read_of (key.now, kept.now)) }
 {
-    let value = match &kept.value {
-        Some(value) => Some(value.copy()?),
-        None => None,
-    };
-    let locator = match &kept.locator {
-        Some(locator) => Some(locator.copy()?),
-        None => None,
-    };
     let objective = Objective {
         name: key.name.copy()?,
         flags: kept.flags,
         loops: kept.loops,
-        value,
+        value: kept.value.copy()?,
     };
     Ok(FloodRead {
         initiator: key.initiator,
         objective,
-        locator,
+        locator: kept.locator.copy()?,
     })
 }
 

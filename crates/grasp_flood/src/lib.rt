@@ -11,9 +11,14 @@ mod keys;
 mod laws;
 #[cfg(test)]
 mod tests;
+mod threads;
 
 pub use cache::FloodCache;
 pub use heard::Heard;
 pub use kept::FloodKept;
 pub use keys::FloodKey;
-pub use laws::{all_stays_sound, expiry_twice_is_once, nothing_ended_stays};
+pub use laws::{
+    entries_are_told, expiry_twice_is_once, floods_are_kept, last_part_is_kept,
+    nothing_ended_stays, only_the_ended_go, reads_are_entries, remembered_stays,
+};
+pub use threads::floods_may_cross;

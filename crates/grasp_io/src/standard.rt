@@ -3,7 +3,7 @@ ghost use Rattle.std.specs.Prelude.{◌≡◌, ◌≤◌, length, None, IfOk, If
 
 use crate::{Failed, Sink, Source};
 use std::io::{ErrorKind, Read, Write};
-use std::rt::{Stdin, Stdout};
+use std::rt::Stdin;
 
 /// Standard input. It tells no content.
 #[derive(Drop)]
@@ -35,29 +35,29 @@ impl Source for StdSource {
     }
 }
 
-/// Standard output. It tells no content.
+/// A standard stream that takes bytes: standard output, or standard error. It tells no content.
 #[derive(Drop)]
-pub struct StdSink {
-    stdout: Stdout,
+pub struct StdSink<W> {
+    stream: W,
     faults: u64,
 }
 
-impl StdSink {
-    /// Standard output, with no fault so far.
-    pub fn new(stdout: Stdout) -> Self
-        ensures { ⟦<StdSink as Sink>⟧.faults result ≡ 0 }
+impl<W: Write> StdSink<W> {
+    /// This stream, with no fault so far.
+    pub fn new(stream: W) -> Self
+        ensures { ⟦<StdSink<W> as Sink>⟧.faults result ≡ 0 }
     {
-        StdSink { stdout, faults: 0 }
+        StdSink { stream, faults: 0 }
     }
 }
 
-impl Sink for StdSink {
+impl<W: Write> Sink for StdSink<W> {
     ghost written = { λ _. None };
 
     ghost faults = { λ s. s.faults };
 
     fn write(&mut self, piece: &[u8]) -> Result<usize, Failed> {
-        let taken = write_some(&mut self.stdout, piece);
+        let taken = write_some(&mut self.stream, piece);
         if taken.is_err() || taken == Ok(0) {
             self.faults = self.faults.saturating_add(1);
         }

@@ -1,13 +1,15 @@
 -- A prefix and the other half of its parent.
-use Rattle.std.proofs.Common.{◌≡◌, ℕ, suc, ◌+◌, ◌-◌, ◌*◌, ◌/◌, ◌%◌, ◌^◌, ◌<◌, ◌≤◌, ◌⊎◌, inl, inr, refl, sym, ◌∙◌, ap, subst, arith}
-use Rattle.std.proofs.lemmas.Nat.{div-add-mod', mod_below, pow_below}
+use Rattle.std.proofs.Common.{◌≡◌, ℕ, suc, ◌+◌, ◌-◌, ◌*◌, ◌/◌, ◌%◌, ◌^◌, ◌<◌, ◌≤◌, ◌⊎◌, inl, inr, refl, sym, ◌∙◌, ap, subst, arith, bit_and, bit_xor}
+use Rattle.std.proofs.lemmas.Nat.{div-add-mod', mod_below, pow_below, and_comm, and-not}
+use Rattle.std.proofs.lemmas.Nat.Bits.{and_pow}
+use Rattle.std.specs.Int.Bits.{xor_add_and}
 use Rattle.std.proofs.lemmas.Bool.{cases_eq}
-use Rattle.std.proofs.Math.Nat.{pow-suc}
+use Rattle.std.proofs.Math.Nat.{pow-suc, mul-div_cancel}
 use Rattle.grasp_types.specs.Prefix.{AddressBlock as Prefix, IsMultiple}
 use Rattle.grasp_pool.specs.Spans.{size, IsValid}
 use Rattle.grasp_pool.specs.Canonical.{lower, upper}
-use Rattle.grasp_pool.proofs.Dyadic.{size_pos, next_multiple, ends_within, multiple_plus, own_multiple, same_prefix, lower_valid, upper_valid}
-use Rattle.grasp_pool.specs.Parts.{AreHalves}
+use Rattle.grasp_pool.proofs.Dyadic.{size_pos, next_multiple, multiple_plus, own_multiple, same_prefix, lower_valid, upper_valid}
+use Rattle.grasp_pool.proofs.Words.{AreHalves}
 use Rattle.grasp_pool.specs.Functions.{offset_of, parent_of, buddy_of}
 
 -- a power below 128 fits
@@ -89,19 +91,6 @@ upper_case p v h le e =
       );
     }
 
--- the lower half ends below the end of all addresses
-pub lower_room : (p : Prefix) → IsValid p → 2 ≤ p.length → p.address % (size p + size p) ≡ 0 → p.address + size p < 2 ^ 128
-lower_room p v h e =
-    let a : AreHalves p (record { parent = record { address = p.address; length = p.length - 1 }; buddy = record { address = p.address + size p; length = p.length } }) = lower_case p v h e
-    in let s : size (record { address = p.address; length = p.length - 1 }) ≡ size p + size p = parent_size p (record { address = p.address; length = p.length - 1 }) (omega arith) v.most
-    in let w : p.address + size (record { address = p.address; length = p.length - 1 }) ≤ 2 ^ 128 = ends_within (record { address = p.address; length = p.length - 1 }) a.valid
-    in let pos : 0 < size p = size_pos p
-    in omega arith
-
--- the other remainder
-pub upper_rest : (p : Prefix) → IsValid p → ¬ (p.address % (size p + size p) ≡ 0) → (p.address % (size p + size p) ≡ size p) × (size p ≤ p.address)
-upper_rest p v ne = elim (remainders (size p) p.address (size_pos p) v.aligned) [ inl e ↦ absurd (ne e) | inr h ↦ h ]
-
 -- a prefix is as far from its parent's first address as the other half is from its own
 pub offset_cases : (p : Prefix) → IsValid p → (offset_of p ≡ 0) ⊎ ((offset_of p ≡ size p) × (size p ≤ p.address))
 offset_cases p v = remainders (size p) p.address (size_pos p) v.aligned
@@ -146,5 +135,60 @@ lower_from w p a l e f g = e ∙ same_prefix (record { address = a; length = l +
 pub half_from : (w p : Prefix) (h : ℕ) → h ≡ size p → p ≡ lower w → h ≡ size (lower w)
 half_from w p h e f = e ∙ ap size f
 
-pub upper_from : (w p : Prefix) (a h l : ℕ) → p ≡ record { address = a + h; length = l + 1 } → a ≡ w.address → h ≡ size (lower w) → l ≡ w.length → p ≡ upper w
+upper_from : (w p : Prefix) (a h l : ℕ) → p ≡ record { address = a + h; length = l + 1 } → a ≡ w.address → h ≡ size (lower w) → l ≡ w.length → p ≡ upper w
 upper_from w p a h l e f g k = e ∙ same_prefix (record { address = a + h; length = l + 1 }) (upper w) (ap (λ n. n + h) f ∙ ap (λ n. w.address + n) g) (ap (λ n. n + 1) k)
+
+-- the upper half, made of the size of the lower one
+pub upper_made : (w low up : Prefix) (a h l : ℕ) → low ≡ record { address = a; length = l + 1 } → up ≡ record { address = a + h; length = l + 1 } → a ≡ w.address → h ≡ size low → l ≡ w.length → up ≡ upper w
+upper_made w low up a h l d e f g k = upper_from w up a h l e f (half_from w low h g (lower_from w low a l d f k)) k
+
+-- where each half begins: the bit of the size that an address has is its offset
+pub offset_bit : (p : Prefix) → IsValid p → bit_and p.address (size p) ≡ offset_of p
+offset_bit p v =
+    let s : ℕ = size p
+    in let q : ℕ = p.address / (s + s)
+    in let pos : 0 < s = size_pos p
+    in let split : q * (s + s) + offset_of p ≡ p.address = div-add-mod' p.address (s + s)
+    in elim (offset_cases p v) [
+      | inl e ↦
+          let is : p.address ≡ (q * 2) * s = grind arith
+          in let d : p.address / s ≡ q * 2 = ap (λ n. n / s) is ∙ mul-div_cancel (q * 2) pos
+          in let even : (q * 2) % 2 ≡ 0 = omega arith
+          in let none : 0 * s ≡ 0 = omega arith
+          in and_pow p.address (128 - p.length) ∙ ap (λ n. n % 2 * s) d ∙ ap (λ n. n * s) even ∙ none ∙ sym e
+      | inr h ↦
+          let e : offset_of p ≡ s = h.0
+          in let is : p.address ≡ (q * 2 + 1) * s = grind arith
+          in let d : p.address / s ≡ q * 2 + 1 = ap (λ n. n / s) is ∙ mul-div_cancel (q * 2 + 1) pos
+          in let odd : (q * 2 + 1) % 2 ≡ 1 = omega arith
+          in let one : 1 * s ≡ s = omega arith
+          in and_pow p.address (128 - p.length) ∙ ap (λ n. n % 2 * s) d ∙ ap (λ n. n * s) odd ∙ one ∙ sym e
+    ]
+
+pub parent_bits : (p : Prefix) → IsValid p → 2 ≤ p.length → bit_and p.address (2 ^ 128 - 1 - size p) ≡ (parent_of p).address
+parent_bits p v h =
+    let small : size p + size p ≤ 2 ^ 127 = size_small p v h
+    in let within : p.address < 2 ^ 128 = v.within
+    in let e : bit_and (2 ^ 128 - 1 - size p) p.address + bit_and (size p) p.address ≡ p.address = and-not 128 (size p) p.address (omega arith) within
+    in let f : bit_and (size p) p.address ≡ offset_of p = and_comm (size p) p.address ∙ offset_bit p v
+    in let g : bit_and p.address (2 ^ 128 - 1 - size p) ≡ bit_and (2 ^ 128 - 1 - size p) p.address = and_comm p.address (2 ^ 128 - 1 - size p)
+    in omega arith
+
+pub buddy_bits : (p : Prefix) → IsValid p → bit_xor p.address (size p) ≡ (buddy_of p).address
+buddy_bits p v =
+    let e : bit_xor p.address (size p) + bit_and p.address (size p) * 2 ≡ p.address + size p = xor_add_and p.address (size p)
+    in let f : bit_and p.address (size p) ≡ offset_of p = offset_bit p v
+    in let small = offset_small p v
+    in let a : offset_of p ≤ size p = small.0
+    in let b : offset_of p ≤ p.address = small.1
+    in omega arith
+
+-- the two, made by these bits
+pub parent_made : (p q : Prefix) (h a l : ℕ) → IsValid p → 2 ≤ p.length → h ≡ size p → a ≡ p.address → l ≡ p.length
+    → q ≡ record { address = bit_and a (2 ^ 128 - 1 - h); length = l - 1 } → q ≡ parent_of p
+parent_made p q h a l v two e f g made = made ∙ same_prefix (record { address = bit_and a (2 ^ 128 - 1 - h); length = l - 1 }) (parent_of p)
+    (of_three (λ m n k. bit_and n (2 ^ 128 - 1 - m) ≡ (parent_of p).address) (size p) p.address p.length h a l e f g (parent_bits p v two)) (ap (λ n. n - 1) g)
+
+pub buddy_made : (p q : Prefix) (h a l : ℕ) → IsValid p → h ≡ size p → a ≡ p.address → l ≡ p.length → q ≡ record { address = bit_xor a h; length = l } → q ≡ buddy_of p
+buddy_made p q h a l v e f g made = made ∙ same_prefix (record { address = bit_xor a h; length = l }) (buddy_of p)
+    (of_three (λ m n k. bit_xor n m ≡ (buddy_of p).address) (size p) p.address p.length h a l e f g (buddy_bits p v)) g

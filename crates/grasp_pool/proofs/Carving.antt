@@ -7,7 +7,8 @@ use Rattle.grasp_pool.specs.Spans.{size, IsValid, Covers}
 use Rattle.grasp_pool.specs.Canonical.{IsInside, IsClean, IsFreeIn, IsTidy, HasNoFree}
 use Rattle.grasp_pool.proofs.Dyadic.{bounds_inside, inside_length}
 use Rattle.grasp_pool.proofs.Maximal.{in_one_of}
-use Rattle.grasp_pool.specs.Parts.{ApartFrom, IsRemoved, IsSame, IsNarrow, IsCarved}
+use Rattle.grasp_pool.specs.Parts.{ApartFrom, IsNarrow}
+use Rattle.grasp_pool.proofs.Words.{IsRemoved, IsSame, IsCarved}
 use Rattle.grasp_pool.proofs.Cleaning.{removed_covers, apart_covers}
 
 -- the prefix around a covered one is as long at most

@@ -7,7 +7,8 @@ use Rattle.grasp_pool.specs.Canonical.{IsRising, lower, upper, IsClean}
 use Rattle.grasp_pool.proofs.Dyadic.{size_pos, first_in, next_multiple, same_prefix, size_halves, upper_valid}
 use Rattle.grasp_pool.proofs.Maximal.{cases_prefix}
 use Rattle.grasp_pool.specs.declared.halves.Halves.{Halves}
-use Rattle.grasp_pool.specs.Parts.{ApartFrom, AreHalves, IsAdded, IsRemoved, IsAlone, IsSame, IsJoined}
+use Rattle.grasp_pool.specs.Parts.{ApartFrom}
+use Rattle.grasp_pool.proofs.Words.{AreHalves, IsAdded, IsRemoved, IsAlone, IsSame, IsJoined}
 
 pub lower_injective : (w r : Prefix) → lower w ≡ lower r → w ≡ r
 lower_injective w r e =

@@ -1,14 +1,15 @@
 -- The lists after each change are those that the functions give.
-use Rattle.std.proofs.Common.{◌≡◌, ℕ, zero, suc, ◌+◌, ◌<◌, ◌≤◌, ◌⊎◌, ◌↔◌, inl, inr, List, [], ◌∷◌, length, Contains, slice_index_or, refl, sym, ◌∙◌, ap, subst, arith, Some, None, Bool, true, false, cond, not, nat_eq, nat_lt, nat_le, ◌==◌, ◌&&◌}
+use Rattle.std.proofs.Common.{◌≡◌, ℕ, zero, suc, ◌+◌, ◌<◌, ◌≤◌, ◌⊎◌, ◌↔◌, inl, inr, List, [], ◌∷◌, length, Contains, slice_index_or, refl, sym, ◌∙◌, ap, subst, arith, Some, None, Bool, true, false, cond, not, nat_eq, nat_lt, nat_le, ◌==◌, ◌&&◌, insert, remove, Option, MatchOption, IsTrue, is_some}
 use Rattle.std.proofs.lemmas.Bool.{cases_lt, cases_eq}
 use Rattle.std.proofs.lemmas.Bool.Decides.{leb_tells}
 use Rattle.grasp_types.specs.Prefix.{AddressBlock as Prefix}
 use Rattle.grasp_pool.specs.Canonical.{IsRising, lower, upper}
-use Rattle.grasp_pool.proofs.Unique.{none_in, cons_cases, cons_more, cons_first, rising_head, rising_tail, same_members}
-use Rattle.grasp_pool.specs.Parts.{IsAdded, IsRemoved, IsNarrow}
+use Rattle.grasp_pool.proofs.Unique.{none_in, cons_cases, cons_more, cons_first, rising_head, rising_tail}
+use Rattle.grasp_pool.specs.Parts.{BeginBelow, BeginFrom, IsNarrow}
+use Rattle.grasp_pool.proofs.Words.{IsAdded, IsRemoved}
 use Rattle.grasp_pool.specs.Functions.{add, without, split, wide, has, joins, merge, parent_of, buddy_of}
 use Rattle.grasp_pool.proofs.Dyadic.{same_prefix}
-use Rattle.grasp_pool.proofs.Lists.{rising_cons, lt_tells}
+use Rattle.grasp_pool.proofs.Lists.{rising_cons, lt_tells, lt_is, lt_not}
 
 pub add_members : (p : Prefix) (ps : List Prefix) → IsAdded ps (add p ps) p
 unfolding add
@@ -57,9 +58,21 @@ add_rising p (x ∷ xs) r other = choose (nat_lt p.address x.address) (lt_tells 
         ])
         again
 
-pub added_is : (old new : List Prefix) (p : Prefix) → IsRising old → IsRising new → ((q : Prefix) → Contains old q → ¬ (q.address ≡ p.address)) → IsAdded old new p → new ≡ add p old
-added_is old new p r s other added = same_members new (add p old) s (add_rising p old r other)
-    (λ q h. (add_members p old q).1 ((added q).0 h)) (λ q h. (added q).1 ((add_members p old q).0 h))
+-- put in at its place
+pub insert_is : (xs : List Prefix) (i : ℕ) (p : Prefix) → i ≤ length xs → BeginBelow xs i p.address → BeginFrom xs i p.address
+    → ((q : Prefix) → Contains xs q → ¬ (q.address ≡ p.address)) → insert xs i p ≡ add p xs
+unfolding add
+insert_is [] zero p le below above other = refl
+insert_is [] (suc i) p le below above other = absurd (omega arith)
+insert_is (x ∷ xs) zero p le below above other =
+    let up : p.address ≤ x.address = above 0 x (omega arith) (omega arith)
+    in let ne : ¬ (x.address ≡ p.address) = other x (cons_first x xs)
+    in sym (ap (λ b. cond b (p ∷ x ∷ xs) (x ∷ add p xs)) (lt_is p.address x.address (grind arith)))
+insert_is (x ∷ xs) (suc i) p le below above other =
+    let lt : x.address < p.address = below 0 x (omega arith)
+    in let again : insert xs i p ≡ add p xs
+    = insert_is xs i p (omega arith) (λ k d h. below (suc k) d (omega arith)) (λ k d h within. above (suc k) d (omega arith) (omega arith)) (λ q h. other q (cons_more x q xs h))
+    in ap (λ l. x ∷ l) again ∙ sym (ap (λ b. cond b (p ∷ x ∷ xs) (x ∷ add p xs)) (lt_not p.address x.address (omega arith)))
 
 -- two of a rising list with one address are the same
 one_address : (ps : List Prefix) → IsRising ps → (p q : Prefix) → Contains ps p → Contains ps q → p.address ≡ q.address → p ≡ q
@@ -122,9 +135,25 @@ without_rising p (x ∷ xs) r has = choose (x.address == p.address) (eq_tells x.
         (λ q k. rising_head x xs r q ((without_members p xs (rising_tail x xs r) (tail h.1) q).0 k).0)
         (again (tail h.1))
 
-pub removed_is : (old new : List Prefix) (p : Prefix) → IsRising old → IsRising new → Contains old p → IsRemoved old new p → new ≡ without p.address old
-removed_is old new p r s has removed = same_members new (without p.address old) s (without_rising p old r has)
-    (λ q h. (without_members p old r has q).1 ((removed q).0 h)) (λ q h. (removed q).1 ((without_members p old r has q).0 h))
+-- taken out at its place
+pub remove_is : (xs : List Prefix) (i : ℕ) (p : Prefix) → IsRising xs → i < length xs → p ≡ slice_index_or xs i p → remove xs i ≡ without p.address xs
+unfolding without
+remove_is [] i p r within e = absurd (omega arith)
+remove_is (x ∷ xs) zero p r within e = choose (x.address == p.address) (eq_tells x.address p.address)
+  where
+    choose : (b : Bool) → ((b ≡ true) × (x.address ≡ p.address)) ⊎ ((b ≡ false) × (¬ (x.address ≡ p.address))) → xs ≡ cond b xs (x ∷ without p.address xs)
+    choose true h = refl
+    choose false (inl h) = absurd (cc)
+    choose false (inr h) = absurd (h.1 (ap (λ v. v.address) (sym e)))
+remove_is (x ∷ xs) (suc i) p r within e = choose (x.address == p.address) (eq_tells x.address p.address) (remove_is xs i p (rising_tail x xs r) (omega arith) e)
+  where
+    choose : (b : Bool) → ((b ≡ true) × (x.address ≡ p.address)) ⊎ ((b ≡ false) × (¬ (x.address ≡ p.address))) → remove xs i ≡ without p.address xs
+        → x ∷ remove xs i ≡ cond b xs (x ∷ without p.address xs)
+    choose true (inl h) again =
+        let lt : x.address < p.address = rising_head x xs r p (i, let w : i < length xs = omega arith in w, sym e)
+        in let s : x.address ≡ p.address = h.1 in absurd (omega arith)
+    choose true (inr h) again = absurd (cc)
+    choose false h again = ap (λ l. x ∷ l) again
 
 -- one step down
 pub split_step : (n f : ℕ) (w : Prefix) (ps ps' ps'' : List Prefix) → n ≡ suc f → ps' ≡ add (upper w) ps → ps'' ≡ split f (lower w) ps' → ps'' ≡ split n w ps
@@ -205,6 +234,11 @@ has_false (x ∷ xs) p h = choose (both x p) (both_same x p) (has_false xs p (λ
     choose : (b : Bool) → (b ≡ true → x ≡ p) → has xs p ≡ false → cond b true (has xs p) ≡ false
     choose true e f = absurd (h (subst (Contains (x ∷ xs)) (e refl) (cons_first x xs)))
     choose false e f = f
+
+-- the place of a prefix tells whether the list has it
+pub found_tells : (ps : List Prefix) (p : Prefix) (o : Option ℕ) → MatchOption o (¬ Contains ps p) (λ i. (i < length ps) × (slice_index_or ps i p ≡ p)) → IsTrue (is_some o) ↔ Contains ps p
+found_tells ps p None none = (λ t. absurd (cc), λ h. absurd (none h))
+found_tells ps p (Some i) at = (λ t. (i, at.0, at.1), λ h. refl)
 
 pub joins_short : (ps : List Prefix) (p : Prefix) → p.length < 2 → joins ps p ≡ false
 joins_short ps p h = choose (nat_le 2 p.length) (leb_tells 2 p.length)

@@ -1,16 +1,16 @@
 -- When a prefix can be gained.
-use Rattle.std.proofs.Common.{◌≡◌, ◌+◌, ◌<◌, ◌≤◌, ◌⊎◌, ◌↔◌, inl, inr, List, [], ◌∷◌, Contains, refl, sym, subst, arith, Bool, true, false, cond, nat_lt, ◌&&◌, IsTrue}
+use Rattle.std.proofs.Common.{◌≡◌, ◌+◌, ◌<◌, ◌≤◌, ◌⊎◌, ◌↔◌, inl, inr, List, [], ◌∷◌, Contains, refl, sym, subst, arith, Bool, true, false, cond, nat_lt, ◌&&◌, IsTrue, Option, Some, None, is_some, not}
 use Rattle.std.proofs.lemmas.Bool.{cases_lt}
 use Rattle.grasp_types.specs.Prefix.{AddressBlock as Prefix, span_of, Overlap}
 use Rattle.grasp_pool.specs.Spans.{size}
 use Rattle.grasp_pool.specs.Holdings.{Holding, IsNew}
-use Rattle.grasp_pool.specs.Parts.{ApartFrom}
+use Rattle.grasp_pool.specs.Parts.{ApartFrom, IsAnswer}
 use Rattle.grasp_pool.specs.Pools.{room_of, entries}
 use Rattle.grasp_pool.specs.Functions.{overlap_test, any_overlaps, can_gain}
 use Rattle.grasp_pool.proofs.Dyadic.{size_pos}
 use Rattle.grasp_pool.proofs.Unique.{none_in, cons_cases, cons_more, cons_first}
 use Rattle.grasp_pool.proofs.Lists.{lt_tells}
-use Rattle.grasp_pool.proofs.Meeting.{new_of, entry_cases}
+use Rattle.grasp_pool.proofs.Meeting.{new_of, entry_cases, first_meets}
 
 -- a test and what it says
 overlap_tells : (q p : Prefix) → ((overlap_test q p ≡ true) × Overlap q p) ⊎ ((overlap_test q p ≡ false) × (¬ Overlap q p))
@@ -105,3 +105,10 @@ can_gain_not h p none = same_truth (IsNew h p × (0 < room_of h)) false (can_gai
 -- without room nothing can be gained
 pub none_full : (h : Holding) (p : Prefix) → 0 ≡ room_of h → ¬ (IsNew h p × (0 < room_of h))
 none_full h p e n = let lt : 0 < room_of h = n.1 in omega arith
+
+-- what the first entry that overlaps p tells, where there is room
+pub can_gain_is : (h : Holding) (p : Prefix) (o : Option Prefix) (b : Bool) → IsAnswer (entries h) p o → 0 < room_of h → is_some o ≡ not b → b ≡ can_gain h p
+can_gain_is h p None true apart room e = can_gain_so h p (new_of h p apart) room
+can_gain_is h p None false apart room e = absurd (cc)
+can_gain_is h p (Some k) true first room e = absurd (cc)
+can_gain_is h p (Some k) false first room e = can_gain_not h p (λ n. first_meets h p k first n.0)

@@ -40,9 +40,6 @@ module _ (old new : Ledger) (k j : ℕ) (p : Prefix) (h : HandsOver old new k j 
   free_old : (n a : ℕ) → IsFree (new.pool n) a → IsFree (old.pool n) a
   free_old n a f = subst (λ x. IsFree x a) (h.pools n) f
 
-  listed_old : (n : ℕ) (q : Prefix) → IsListed (new.pool n) q → IsListed (old.pool n) q
-  listed_old n q l = subst (λ x. IsListed x q) (h.pools n) l
-
   pub handed_apart : IsApart old → IsApart new
   handed_apart s = record {
     held = λ n m a ne f g. s.held n m a ne (free_old n a f) (free_old m a g);
@@ -69,7 +66,7 @@ module _ (old new : Ledger) (k j : ℕ) (p : Prefix) (h : HandsOver old new k j 
         in let l : IsListed (old.pool (giver old o.0)) q = s.listed o.0 q (ap kept (sym o.2) ∙ e)
         in subst (λ n. IsListed (new.pool n) q) (sym o.3) (subst (λ x. IsListed x q) (sym (h.pools (giver old o.0))) l);
     owned = λ n q l.
-        let o : (i : ℕ) × (giver old i ≡ n) × (kept (stage old i) ≡ Some q) = s.owned n q (listed_old n q l)
+        let o : (i : ℕ) × (giver old i ≡ n) × (kept (stage old i) ≡ Some q) = s.owned n q (subst (λ x. Contains x.reserved q) (h.pools n) l)
         in elim (same_or_not o.0 k) [
           | inl e ↦ (
             j,
@@ -80,5 +77,4 @@ module _ (old new : Ledger) (k j : ℕ) (p : Prefix) (h : HandsOver old new k j 
               let other : ¬ (o.0 ≡ j) = λ e. none q (sym (ap kept (ap (λ i. stage old i) e ∙ h.idle)) ∙ o.2)
               in (o.0, ap (λ v. v.giver) (h.others o.0 ne other) ∙ o.1, ap (λ v. kept v.stage) (h.others o.0 ne other) ∙ o.2)
         ];
-    once = λ n q x y. s.once n q (subst (λ v. Contains v.reserved q) (h.pools n) x) (subst (λ v. Contains v.doubtful q) (h.pools n) y);
   }

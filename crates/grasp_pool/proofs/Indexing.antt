@@ -4,7 +4,10 @@ use Rattle.std.proofs.lemmas.Bool.{cases_lt, cases_eq}
 use Rattle.std.proofs.lemmas.List.{get_or_default}
 use Rattle.grasp_types.specs.Prefix.{AddressBlock as Prefix}
 use Rattle.grasp_pool.specs.Canonical.{IsRising}
-use Rattle.grasp_pool.specs.Parts.{BeginBelow, IsEntryAt, IsAdded, IsRemoved, IsNarrow, IsFirstOf, IsIndex, IsNoted, earlier_of}
+use Rattle.grasp_pool.specs.Parts.{BeginBelow, IsEntryAt, IsNarrow, IsFirstPlace, IsFirstOf, IsIndex, IsNoted, earlier_of}
+use Rattle.grasp_pool.proofs.Words.{IsAdded, IsRemoved}
+use Rattle.grasp_pool.specs.Functions.{without}
+use Rattle.grasp_pool.proofs.Equal.{without_members, without_rising}
 use Rattle.grasp_pool.proofs.Unique.{cons_cases, cons_more, cons_first}
 use Rattle.grasp_pool.proofs.Maximal.{cases_prefix}
 use Rattle.grasp_pool.proofs.Lists.{lt_tells}
@@ -136,6 +139,16 @@ removed_index old new p table removed has index = record {
       (index.firsts n d lt);
 }
 
+-- where the entry at a place is taken out
+pub taken_rising : (ps new : List Prefix) (i : ℕ) (p : Prefix) → IsRising ps → i < length ps → p ≡ slice_index_or ps i p → new ≡ without p.address ps → IsRising new
+taken_rising ps new i p rising within e is = subst IsRising (sym is) (without_rising p ps rising (i, within, sym e))
+
+pub taken_index : (ps new : List Prefix) (i : ℕ) (p : Prefix) (table : List (Option Prefix)) → IsRising ps → IsIndex ps table → i < length ps → p ≡ slice_index_or ps i p
+    → new ≡ without p.address ps → IsIndex (p ∷ new) table
+taken_index ps new i p table rising index within e is =
+    let has : Contains ps p = (i, within, sym e)
+    in subst (λ xs. IsIndex (p ∷ xs) table) (sym is) (removed_index ps (without p.address ps) p table (without_members p ps rising has) has index)
+
 -- an empty list has none
 pub empty_index : (table : List (Option Prefix)) → length table ≡ 129 → ((n : ℕ) (d : Option Prefix) → n < 129 → slice_index_or table n d ≡ None) → IsIndex [] table
 empty_index table size none = record {
@@ -162,7 +175,7 @@ narrow_all ps n first k d lt within = first (slice_index_or ps k d) (k, within, 
 -- the place of the first entry that is no longer
 pub found_first : (ps : List Prefix) (n : ℕ) (w : Prefix) (o : Option ℕ) → IsRising ps → IsFirstOf ps n (Some w)
     → MatchOption o (¬ Contains ps w) (λ i. (i < length ps) × (slice_index_or ps i w ≡ w))
-    → MatchOption o (IsNarrow ps n (length ps)) (λ i. (i < length ps) × ((d : Prefix) → (slice_index_or ps i d).length ≤ n) × IsNarrow ps n i)
+    → IsFirstPlace ps n o
 found_first ps n w None rising first none = absurd (none first.has)
 found_first ps n w (Some i) rising first at = (
   at.0,

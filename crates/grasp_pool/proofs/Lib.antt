@@ -1,3 +1,4 @@
+pub mod Words
 pub mod Dyadic
 pub mod Maximal
 pub mod Unique
@@ -6,6 +7,7 @@ pub mod Lists
 pub mod Cleaning
 pub mod Meeting
 pub mod Opening
+pub mod Listed
 pub mod Changes
 pub mod Carving
 pub mod Equal

@@ -5,7 +5,8 @@ use Rattle.grasp_types.specs.Prefix.{AddressBlock as Prefix}
 use Rattle.grasp_pool.specs.Spans.{IsValid}
 use Rattle.grasp_pool.specs.Canonical.{IsTidy, IsLowestFree, HasNoFree}
 use Rattle.grasp_pool.specs.Holdings.{Holding, IsNew, Reserves, GivesBack, Confirms, Doubts, Gains}
-use Rattle.grasp_pool.specs.Parts.{IsNarrow, IsCarved, first_part}
+use Rattle.grasp_pool.specs.Parts.{IsNarrow, first_part}
+use Rattle.grasp_pool.proofs.Words.{IsCarved}
 use Rattle.grasp_pool.specs.Pools.{IsPool, room_of, IsTaken, IsNotTaken}
 use Rattle.grasp_pool.specs.Functions.{add, without, split, wide, head_part, rest_of, lowest_free, carved_list, merge, take_reply, after_take, after_back, after_confirm, after_doubt, after_gain}
 use Rattle.grasp_pool.proofs.Lists.{lt_tells}
@@ -22,9 +23,6 @@ pub record IsWideAt (ps : List Prefix) (n : ℕ) (w : Prefix) : Type 0 where
   pub is : w ≡ slice_index_or ps place w
   pub narrow : IsNarrow ps n place
   pub short : w.length ≤ n
-
-narrow_none : (n : ℕ) → IsNarrow [] n 0
-narrow_none n k d lt within = absurd (omega arith)
 
 -- one more in front
 narrow_more : (x : Prefix) (xs : List Prefix) (n i : ℕ) → n < x.length → IsNarrow xs n i → IsNarrow (x ∷ xs) n (suc i)
@@ -133,6 +131,17 @@ take_keeps h n pool some most = choose (take_reply h n) (take_parts h n pool som
     choose : (o : Option Prefix) → MatchOption o (IsNotTaken h h n) (λ p. IsTakenPool h (after_take h n (Some p)) n p) → IsPool (after_take h n o)
     choose None k = pool
     choose (Some p) k = k.pool
+
+-- where the list has a part of this length, and there is room
+module _ (h : Holding) (n : ℕ) (p : Prefix) (pool : IsPool h) (some : 1 ≤ n) (most : n ≤ 128) where
+  part_carved : lowest_free h.free n ≡ Some p → IsCarved h.free (carved_list h.free n) n p
+  part_carved e = subst (λ o. MatchOption o (HasNoFree h.free n × (carved_list h.free n ≡ h.free)) (λ q. IsCarved h.free (carved_list h.free n) n q)) e (lowest_carved h.free n pool.free some most)
+
+  pub took_new : lowest_free h.free n ≡ Some p → (q : Prefix) → Contains h.reserved q → ¬ (q.address ≡ p.address)
+  took_new e = reserved_address h pool p (part_carved e).least.free
+
+  pub took_keeps : 128 ≤ room_of h → lowest_free h.free n ≡ Some p → IsPool (after_take h n (Some p))
+  took_keeps room e = (taken_at h n p pool room (part_carved e)).pool
 
 module _ (h : Holding) (p : Prefix) (pool : IsPool h) (has : Contains h.reserved p) where
   fewer : length (without p.address h.reserved) + 1 ≡ length h.reserved

@@ -10,7 +10,8 @@ use Rattle.grasp_pool.specs.Canonical.{IsRising}
 use Rattle.grasp_pool.specs.Holdings.{Holding, IsListed, IsNew}
 use Rattle.grasp_pool.proofs.Dyadic.{size_pos, first_in}
 use Rattle.grasp_pool.proofs.Maximal.{cases_prefix}
-use Rattle.grasp_pool.specs.Parts.{ApartFrom, ApartBelow, ArePairwiseApart, BeginBelow, BeginFrom, IsOverlapAt, IsFirstIn, IsAnswer, lesser_of}
+use Rattle.grasp_pool.specs.Parts.{ApartFrom, ArePairwiseApart, BeginBelow, BeginFrom, IsOverlapAt, IsFirstIn, IsAnswer, lesser_of}
+use Rattle.grasp_pool.proofs.Words.{ApartBelow}
 use Rattle.grasp_pool.specs.Pools.{IsPool, entries, IsFirstOverlap}
 
 pub meets : (p q : Prefix) → p.address ≤ q.address + (size q - 1) → q.address ≤ p.address + (size p - 1) → Overlap p q
@@ -21,12 +22,6 @@ meets p q h k =
       | inl lt ↦ (q.address, ((omega arith, omega arith), (omega arith, omega arith)))
       | inr le ↦ (p.address, ((omega arith, omega arith), (omega arith, omega arith)))
     ]
-
-pub misses : (p q : Prefix) → q.address + (size q - 1) < p.address → ¬ Overlap p q
-misses p q h m = let b : m.0 < q.address + size q = m.1.1.1 in let c : p.address ≤ m.0 = m.1.0.0 in omega arith
-
-pub misses_after : (p q : Prefix) → p.address + (size p - 1) < q.address → ¬ Overlap p q
-misses_after p q h m = let b : m.0 < p.address + size p = m.1.0.1 in let c : q.address ≤ m.0 = m.1.1.0 in omega arith
 
 pub apart_of : (p q : Prefix) → ¬ Overlap p q → Apart p q
 apart_of p q miss a i j = miss (a, (i, j))

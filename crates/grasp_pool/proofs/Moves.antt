@@ -2,18 +2,18 @@
 use Rattle.std.proofs.Common.{◌≡◌, ℕ, ◌⊎◌, ◌↔◌, inl, inr, Contains, Option, Some, None, refl, sym, ◌∙◌, ap, subst}
 use Rattle.grasp_types.specs.Prefix.{AddressBlock as Prefix, span_of}
 use Rattle.grasp_pool.specs.Spans.{Apart}
-use Rattle.grasp_pool.specs.Holdings.{Holding, IsFree, IsListed}
+use Rattle.grasp_pool.specs.Holdings.{Holding, IsFree, IsListed, PoolApart}
 use Rattle.grasp_pool.specs.Ledger.{Stage, quiet, unsent, sent, accepted, done, Ledger, kept, authority, offered, stage, giver, taker, Turns, OtherPools, SamePools, SameTalks, Opens, Takes, Offers, IsDoubted, IsAccepted, BeginsAnew}
-use Rattle.grasp_pool.proofs.Apart.{same_or_not, first_in, not_apart, IsApart, shrinks, grows, keeps}
+use Rattle.grasp_pool.proofs.Apart.{same_or_not, not_apart, IsApart, shrinks, grows, keeps}
 
--- what is reserved or doubtful is what the talks keep
+-- what the talks keep is reserved or doubtful, and what is reserved the talks keep
 pub record IsLinked (l : Ledger) : Type 0 where
   pub listed : (k : ℕ) (p : Prefix) → kept (stage l k) ≡ Some p → IsListed (l.pool (giver l k)) p
-  pub owned : (n : ℕ) (q : Prefix) → IsListed (l.pool n) q → (k : ℕ) × (giver l k ≡ n) × (kept (stage l k) ≡ Some q)
-  pub once : (n : ℕ) (q : Prefix) → Contains (l.pool n).reserved q → ¬ Contains (l.pool n).doubtful q
+  pub owned : (n : ℕ) (q : Prefix) → Contains (l.pool n).reserved q → (k : ℕ) × (giver l k ≡ n) × (kept (stage l k) ≡ Some q)
 
 pub record Sound (l : Ledger) : Type 0 where
   pub apart : IsApart l
+  pub pools : (n : ℕ) → PoolApart (l.pool n)
   pub linked : IsLinked l
 
 -- an authority is kept
@@ -171,6 +171,23 @@ unturned_apart old new n talks pools same apart = shrinks old new (record {
   kept' = λ j q e. (subst (λ v. kept v.stage ≡ Some q) (talks j) e, ap (λ v. v.giver) (talks j));
 }) apart
 
+-- a node begins anew
+pub restarted_apart : (old new : Ledger) (n : ℕ) → BeginsAnew old new n → IsApart old → IsApart new
+restarted_apart old new n m apart = shrinks old new (record {
+  free = pools_less old new n m.pools m.here.free;
+  authority' = λ k q e. elim (m.talks k) [
+    | inl same ↦ subst (λ v. authority v.stage ≡ Some q) same e
+    | inr left ↦ absurd (none q (sym (ap (λ v. authority v.stage) left.2) ∙ e))
+  ];
+  kept' = λ k q e. elim (m.talks k) [
+    | inl same ↦ (subst (λ v. kept v.stage ≡ Some q) same e, ap (λ v. v.giver) same)
+    | inr left ↦ absurd (none q (sym (ap (λ v. kept v.stage) left.2) ∙ e))
+  ];
+}) apart
+  where
+    none : (q : Prefix) → ¬ (◌≡◌ {A = Option Prefix} None (Some q))
+    none q e = cc
+
 -- an authority goes back to its giver
 pub returned_apart : (old new : Ledger) (k : ℕ) (p : Prefix) → authority (stage old k) ≡ Some p → Turns old new k quiet
     → OtherPools old new (giver old k) → ((a : ℕ) → IsFree (new.pool (giver old k)) a ↔ (IsFree (old.pool (giver old k)) a ⊎ span_of p a))
@@ -202,14 +219,23 @@ same_some p q e = cc
 listed_of : {x y : Holding} (q : Prefix) → x ≡ y → IsListed x q → IsListed y q
 listed_of q e h = subst (λ v. IsListed v q) e h
 
+-- pools where one alone changed
+pub pools_apart : (old new : Ledger) (n : ℕ) → OtherPools old new n → PoolApart (new.pool n) → ((m : ℕ) → PoolApart (old.pool m)) → (m : ℕ) → PoolApart (new.pool m)
+pools_apart old new n others here all m = elim (same_or_not m n) [
+  | inl e ↦ subst (λ i. PoolApart (new.pool i)) (sym e) here
+  | inr other ↦ subst PoolApart (sym (others m other)) (all m)
+]
+
+pub same_apart : (old new : Ledger) → SamePools old new → ((m : ℕ) → PoolApart (old.pool m)) → (m : ℕ) → PoolApart (new.pool m)
+same_apart old new same all m = subst PoolApart (sym (same m)) (all m)
+
 -- talk k, which kept p, keeps nothing, and p is no longer listed
 pub dropped_linked : (old new : Ledger) (k : ℕ) (s : Stage) (p : Prefix) → Sound old → Turns old new k s → kept (stage old k) ≡ Some p
     → ((q : Prefix) → ¬ (kept s ≡ Some q)) → OtherPools old new (giver old k)
-    → ((q : Prefix) → IsListed (new.pool (giver old k)) q → IsListed (old.pool (giver old k)) q × (¬ (q ≡ p)))
+    → ((q : Prefix) → Contains (new.pool (giver old k)).reserved q → Contains (old.pool (giver old k)).reserved q × (¬ (q ≡ p)))
     → ((q : Prefix) → IsListed (old.pool (giver old k)) q → ¬ (q ≡ p) → IsListed (new.pool (giver old k)) q)
-    → ((q : Prefix) → Contains (new.pool (giver old k)).reserved q → ¬ Contains (new.pool (giver old k)).doubtful q)
     → IsLinked new
-dropped_linked old new k s p sound t was none pools less rest once = record {
+dropped_linked old new k s p sound t was none pools less rest = record {
   listed = λ j q e. elim (turn_cases t j) [
     | inl h ↦ absurd (none q (subst (λ v. kept v ≡ Some q) h.1 e))
     | inr h ↦
@@ -224,30 +250,25 @@ dropped_linked old new k s p sound t was none pools less rest once = record {
   ];
   owned = λ n q l. elim (same_or_not n (giver old k)) [
     | inl g ↦
-        let h : IsListed (old.pool (giver old k)) q × (¬ (q ≡ p)) = less q (subst (λ i. IsListed (new.pool i) q) g l)
+        let h : Contains (old.pool (giver old k)).reserved q × (¬ (q ≡ p)) = less q (subst (λ i. Contains (new.pool i).reserved q) g l)
         in let o : (j : ℕ) × (giver old j ≡ giver old k) × (kept (stage old j) ≡ Some q) = sound.linked.owned (giver old k) q h.0
         in let ne : ¬ (o.0 ≡ k) = λ e. h.1 (same_some p q (sym was ∙ ap (λ i. kept (stage old i)) (sym e) ∙ o.2))
         in (o.0, ap (λ v. v.giver) (t.others o.0 ne) ∙ o.1 ∙ sym g, ap (λ v. kept v.stage) (t.others o.0 ne) ∙ o.2)
     | inr other ↦
-        let o : (j : ℕ) × (giver old j ≡ n) × (kept (stage old j) ≡ Some q) = sound.linked.owned n q (listed_of q (pools n other) l)
+        let o : (j : ℕ) × (giver old j ≡ n) × (kept (stage old j) ≡ Some q) = sound.linked.owned n q (subst (λ v. Contains v.reserved q) (pools n other) l)
         in let ne : ¬ (o.0 ≡ k) = λ e. other (sym o.1 ∙ ap (λ i. giver old i) e)
         in (o.0, ap (λ v. v.giver) (t.others o.0 ne) ∙ o.1, ap (λ v. kept v.stage) (t.others o.0 ne) ∙ o.2)
   ];
-  once = λ n q x y. elim (same_or_not n (giver old k)) [
-    | inl g ↦ once q (subst (λ i. Contains (new.pool i).reserved q) g x) (subst (λ i. Contains (new.pool i).doubtful q) g y)
-    | inr other ↦ sound.linked.once n q (subst (λ v. Contains v.reserved q) (pools n other) x) (subst (λ v. Contains v.doubtful q) (pools n other) y)
-  ];
 }
 
--- what talks keep and what is listed is as it was
+-- what talks keep is as it was and is still listed, and no more is reserved
 same_linked : (old new : Ledger) (n : ℕ) → IsLinked old → OtherPools old new n
     → ((j : ℕ) (q : Prefix) → kept (stage new j) ≡ Some q → (kept (stage old j) ≡ Some q) × (giver new j ≡ giver old j))
     → ((j : ℕ) (q : Prefix) → kept (stage old j) ≡ Some q → (kept (stage new j) ≡ Some q) × (giver new j ≡ giver old j))
     → ((j : ℕ) (q : Prefix) → giver old j ≡ n → kept (stage old j) ≡ Some q → IsListed (old.pool n) q → IsListed (new.pool n) q)
-    → ((q : Prefix) → IsListed (new.pool n) q → IsListed (old.pool n) q)
-    → ((q : Prefix) → Contains (new.pool n).reserved q → ¬ Contains (new.pool n).doubtful q)
+    → ((q : Prefix) → Contains (new.pool n).reserved q → Contains (old.pool n).reserved q)
     → IsLinked new
-same_linked old new n linked pools less more rest listed_before once = record {
+same_linked old new n linked pools less more rest before = record {
   listed = λ j q e.
       let h : (kept (stage old j) ≡ Some q) × (giver new j ≡ giver old j) = less j q e
       in let l : IsListed (old.pool (giver old j)) q = linked.listed j q h.0
@@ -257,17 +278,13 @@ same_linked old new n linked pools less more rest listed_before once = record {
       ]
       in subst (λ i. IsListed (new.pool i) q) (sym h.1) l';
   owned = λ m q l.
-      let l' : IsListed (old.pool m) q = elim (same_or_not m n) [
-        | inl g ↦ subst (λ i. IsListed (old.pool i) q) (sym g) (listed_before q (subst (λ i. IsListed (new.pool i) q) g l))
-        | inr other ↦ listed_of q (pools m other) l
+      let l' : Contains (old.pool m).reserved q = elim (same_or_not m n) [
+        | inl g ↦ subst (λ i. Contains (old.pool i).reserved q) (sym g) (before q (subst (λ i. Contains (new.pool i).reserved q) g l))
+        | inr other ↦ subst (λ v. Contains v.reserved q) (pools m other) l
       ]
       in let o : (j : ℕ) × (giver old j ≡ m) × (kept (stage old j) ≡ Some q) = linked.owned m q l'
       in let h : (kept (stage new o.0) ≡ Some q) × (giver new o.0 ≡ giver old o.0) = more o.0 q o.2
       in (o.0, h.1 ∙ o.1, h.0);
-  once = λ m q x y. elim (same_or_not m n) [
-    | inl g ↦ once q (subst (λ i. Contains (new.pool i).reserved q) g x) (subst (λ i. Contains (new.pool i).doubtful q) g y)
-    | inr other ↦ linked.once m q (subst (λ v. Contains v.reserved q) (pools m other) x) (subst (λ v. Contains v.doubtful q) (pools m other) y)
-  ];
 }
 
 -- a turn that keeps what it kept
@@ -289,8 +306,7 @@ opened_linked old new k n m o linked = same_linked old new n linked (λ i ne. o.
       | inr other ↦ (ap (λ v. kept v.stage) (o.others j other) ∙ e, ap (λ v. v.giver) (o.others j other))
     ])
     (λ j q g e l. listed_of q (sym (o.pools n)) l)
-    (λ q l. listed_of q (o.pools n) l)
-    (λ q x y. linked.once n q (subst (λ v. Contains v.reserved q) (o.pools n) x) (subst (λ v. Contains v.doubtful q) (o.pools n) y))
+    (λ q l. subst (λ v. Contains v.reserved q) (o.pools n) l)
   where
     none : (q : Prefix) → ¬ (◌≡◌ {A = Option Prefix} None (Some q))
     none q e = cc
@@ -300,8 +316,7 @@ offered_linked old new k p m linked = same_linked old new 0 linked (λ i ne. m.p
     (turn_kept old new k (sent p) m.turns (λ q e. ap kept m.was ∙ e))
     (turn_keeps old new k (sent p) m.turns (ap kept m.was))
     (λ j q g e l. listed_of q (sym (m.pools 0)) l)
-    (λ q l. listed_of q (m.pools 0) l)
-    (λ q x y. linked.once 0 q (subst (λ v. Contains v.reserved q) (m.pools 0) x) (subst (λ v. Contains v.doubtful q) (m.pools 0) y))
+    (λ q l. subst (λ v. Contains v.reserved q) (m.pools 0) l)
 
 pub accepted_linked : (old new : Ledger) (k : ℕ) (p : Prefix) → IsAccepted old new k p → IsLinked old → IsLinked new
 accepted_linked old new k p m linked = same_linked old new (taker old k) linked m.pools
@@ -311,11 +326,7 @@ accepted_linked old new k p m linked = same_linked old new (taker old k) linked 
       | inl h ↦ inl (subst (λ xs. Contains xs q) (sym m.here.reserved) h)
       | inr h ↦ inr (subst (λ xs. Contains xs q) (sym m.here.doubtful) h)
     ])
-    (λ q l. elim l [
-      | inl h ↦ inl (subst (λ xs. Contains xs q) m.here.reserved h)
-      | inr h ↦ inr (subst (λ xs. Contains xs q) m.here.doubtful h)
-    ])
-    (λ q x y. linked.once (taker old k) q (subst (λ xs. Contains xs q) m.here.reserved x) (subst (λ xs. Contains xs q) m.here.doubtful y))
+    (λ q l. subst (λ xs. Contains xs q) m.here.reserved l)
 
 pub doubted_linked : (old new : Ledger) (k : ℕ) (p : Prefix) → IsDoubted old new k p → Sound old → IsLinked new
 doubted_linked old new k p m s = same_linked old new (giver old k) s.linked m.pools
@@ -328,28 +339,28 @@ doubted_linked old new k p m s = same_linked old new (giver old k) s.linked m.po
       ]
       | inr h ↦ inr ((m.here.doubtful q).1 (inl h))
     ])
-    (λ q l. elim l [
-      | inl h ↦ inl ((m.here.reserved q).0 h).0
-      | inr h ↦ elim ((m.here.doubtful q).0 h) [
-        | inl h' ↦ inr h'
-        | inr e ↦ inl (subst (λ v. Contains (old.pool (giver old k)).reserved v) (sym e) m.here.was)
-      ]
-    ])
-    (λ q x y. elim ((m.here.doubtful q).0 y) [
-      | inl h ↦ s.linked.once (giver old k) q ((m.here.reserved q).0 x).0 h
-      | inr e ↦ ((m.here.reserved q).0 x).1 e
-    ])
+    (λ q l. ((m.here.reserved q).0 l).0)
 
 pub restarted_linked : (old new : Ledger) (n : ℕ) → BeginsAnew old new n → IsLinked old → IsLinked new
-restarted_linked old new n m linked = same_linked old new n linked m.pools
-    (λ j q e. (sym (ap (λ v. kept v.stage) (m.talks j)) ∙ e, ap (λ v. v.giver) (m.talks j)))
-    (λ j q e. (ap (λ v. kept v.stage) (m.talks j) ∙ e, ap (λ v. v.giver) (m.talks j)))
-    (λ j q g e l. inr ((m.here.doubtful q).1 l))
-    (λ q l. elim l [
-      | inl h ↦ absurd (m.here.reserved q h)
-      | inr h ↦ (m.here.doubtful q).0 h
-    ])
-    (λ q x y. m.here.reserved q x)
+restarted_linked old new n m linked = record {
+  listed = λ k p e. elim (same_or_not (giver new k) n) [
+    | inl g ↦ inr (subst (λ i. Contains (new.pool i).doubtful p) (sym g) (m.doubtful k p g e))
+    | inr other ↦ elim (m.talks k) [
+      | inl same ↦ listed_of p (sym (m.pools (giver new k) other))
+          (subst (λ v. IsListed (old.pool v.giver) p) (sym same) (linked.listed k p (subst (λ v. kept v.stage ≡ Some p) same e)))
+      | inr left ↦ absurd (other (ap (λ v. v.giver) left.2 ∙ left.0))
+    ]
+  ];
+  owned = λ i q h. elim (same_or_not i n) [
+    | inl g ↦ absurd (m.here.reserved q (subst (λ v. Contains (new.pool v).reserved q) g h))
+    | inr other ↦
+        let o : (k : ℕ) × (giver old k ≡ i) × (kept (stage old k) ≡ Some q) = linked.owned i q (subst (λ v. Contains v.reserved q) (m.pools i other) h)
+        in elim (m.talks o.0) [
+          | inl same ↦ (o.0, ap (λ v. v.giver) same ∙ o.1, ap (λ v. kept v.stage) same ∙ o.2)
+          | inr left ↦ absurd (other (sym o.1 ∙ left.0))
+        ]
+  ];
+}
 
 pub taken_linked : (old new : Ledger) (k : ℕ) (p : Prefix) → Takes old new k p → Sound old → IsLinked new
 taken_linked old new k p m s = record {
@@ -365,15 +376,11 @@ taken_linked old new k p m s = record {
         in subst (λ v. IsListed (new.pool v.giver) q) (sym h.1) l'
   ];
   owned = λ n q l. elim (same_or_not n (giver old k)) [
-    | inl g ↦ elim (less q (subst (λ i. IsListed (new.pool i) q) g l)) [
+    | inl g ↦ elim ((m.here.reserved q).0 (subst (λ i. Contains (new.pool i).reserved q) g l)) [
       | inl l' ↦ still n q (sym g) (s.linked.owned (giver old k) q l')
       | inr e ↦ (k, ap (λ v. v.giver) m.turns.this ∙ sym g, ap (λ v. kept v.stage) m.turns.this ∙ ap (λ v. Some v) (sym e))
     ]
-    | inr other ↦ still n q refl (s.linked.owned n q (listed_of q (m.pools n other) l))
-  ];
-  once = λ n q x y. elim (same_or_not n (giver old k)) [
-    | inl g ↦ once q (subst (λ i. Contains (new.pool i).reserved q) g x) (subst (λ i. Contains (new.pool i).doubtful q) g y)
-    | inr other ↦ s.linked.once n q (subst (λ v. Contains v.reserved q) (m.pools n other) x) (subst (λ v. Contains v.doubtful q) (m.pools n other) y)
+    | inr other ↦ still n q refl (s.linked.owned n q (subst (λ v. Contains v.reserved q) (m.pools n other) l))
   ];
 }
   where
@@ -381,12 +388,6 @@ taken_linked old new k p m s = record {
     more q l = elim l [
       | inl h ↦ inl ((m.here.reserved q).1 (inl h))
       | inr h ↦ inr (subst (λ xs. Contains xs q) (sym m.here.doubtful) h)
-    ]
-
-    less : (q : Prefix) → IsListed (new.pool (giver old k)) q → IsListed (old.pool (giver old k)) q ⊎ (q ≡ p)
-    less q l = elim l [
-      | inl h ↦ elim ((m.here.reserved q).0 h) [ inl h' ↦ inl (inl h') | inr e ↦ inr e ]
-      | inr h ↦ inl (inr (subst (λ xs. Contains xs q) m.here.doubtful h))
     ]
 
     still : (n : ℕ) (q : Prefix) {i : ℕ} → i ≡ n → (j : ℕ) × (giver old j ≡ i) × (kept (stage old j) ≡ Some q)
@@ -397,13 +398,3 @@ taken_linked old new k p m s = record {
       where
         none : (q : Prefix) → ¬ (◌≡◌ {A = Option Prefix} None (Some q))
         none q e = cc
-
-    once : (q : Prefix) → Contains (new.pool (giver old k)).reserved q → ¬ Contains (new.pool (giver old k)).doubtful q
-    once q x y = let y' : Contains (old.pool (giver old k)).doubtful q = subst (λ xs. Contains xs q) m.here.doubtful y
-        in elim ((m.here.reserved q).0 x) [
-          | inl h ↦ s.linked.once (giver old k) q h y'
-          | inr e ↦
-              let o : (j : ℕ) × (giver old j ≡ giver old k) × (kept (stage old j) ≡ Some q) = s.linked.owned (giver old k) q (inr y')
-              in s.apart.kept_held o.0 q.address q o.2 (first_in q)
-              (subst (λ i. IsFree (old.pool i) q.address) (sym o.1) (m.here.was q.address (subst (λ v. span_of v q.address) e (first_in q))))
-        ]

@@ -1,5 +1,5 @@
 -- From roots to a list.
-use Rattle.std.proofs.Common.{ℕ, ◌+◌, ◌<◌, ◌≤◌, ◌⊎◌, ◌↔◌, inl, inr, List, [], length, slice_index_or, sym, ◌∙◌, ap, subst, arith, Option, Some, None, is_some, IfSome, false, Bool, not, ◌≡◌, drop, suc}
+use Rattle.std.proofs.Common.{ℕ, ◌+◌, ◌<◌, ◌≤◌, ◌⊎◌, ◌↔◌, inl, inr, List, [], length, slice_index_or, sym, ◌∙◌, ap, subst, arith, Option, Some, None, is_some, IfSome, false, Bool, not, ◌≡◌, drop, suc, zero, refl}
 use Rattle.std.proofs.lemmas.Bool.{cases_eq}
 use Rattle.std.proofs.lemmas.List.{get_or_default, drop_all}
 use Rattle.std.proofs.Math.Seq.{drop-cons}
@@ -11,19 +11,14 @@ use Rattle.grasp_pool.specs.Canonical.{IsTidy}
 use Rattle.grasp_pool.specs.Parts.{ApartFrom}
 use Rattle.grasp_pool.specs.Pools.{IsPool}
 use Rattle.grasp_pool.specs.declared.roots.RootPrefix.{RootPrefix}
-use Rattle.grasp_pool.specs.Roots.{block_of, AllValid, AllApart, RootsApart, IsRootAddress, CoversBelow, IsBad, IsHit}
-use Rattle.grasp_pool.specs.Functions.{merge, join_roots}
+use Rattle.grasp_pool.specs.Roots.{block_of, AllValid, AllApart, RootsApart, IsRootAddress, CoversBelow, IsHit}
+use Rattle.grasp_pool.specs.Answers.{IsOpened}
+use Rattle.grasp_pool.specs.Functions.{merge, join_roots, pool_of}
+use Rattle.grasp_pool.proofs.Growing.{IsMerged, merged}
 use Rattle.grasp_pool.proofs.Unique.{none_in}
 
 abbrev pub no_root : RootPrefix
 no_root = record { address = 0; length = 0 }
-
-pub bad_at : (roots : List RootPrefix) (i : ℕ) (z : RootPrefix) → i < length roots → ¬ IsValid (block_of (slice_index_or roots i z)) → AllValid roots i → IsBad roots i
-bad_at roots i z h bad before = record {
-  within = h;
-  bad = λ d v. bad (subst (λ r. IsValid (block_of r)) (get_or_default roots i d z h) v);
-  before = before;
-}
 
 pub valid_more : (roots : List RootPrefix) (i : ℕ) (z : RootPrefix) → AllValid roots i → i < length roots → IsValid (block_of (slice_index_or roots i z)) → AllValid roots (i + 1)
 valid_more roots i z before h v k d lt within = elim (cases_eq k i) [
@@ -141,3 +136,54 @@ join_next roots i ps new h e =
 pub join_done : (roots : List RootPrefix) (i : ℕ) (ps : List Prefix) → length roots ≤ i → join_roots (drop i roots) ps ≡ ps
 unfolding join_roots
 join_done roots i ps le = ap (λ rs. join_roots rs ps) (drop_all i roots le)
+
+-- the list of the first n roots
+pub record IsUpTo (roots : List RootPrefix) (n : ℕ) (ps : List Prefix) : Type 0 where
+  pub tidy : IsTidy ps
+  pub covers : (a : ℕ) → Covers ps a ↔ CoversBelow roots n a
+  pub few : length ps ≤ n
+
+pub up_none : (roots : List RootPrefix) → IsUpTo roots 0 []
+up_none roots = record { tidy = tidy_empty; covers = covers_none roots; few = omega arith }
+
+pub up_more : (roots : List RootPrefix) (i : ℕ) (ps : List Prefix) → AllValid roots (length roots) → AllApart roots (length roots) → i < length roots → IsUpTo roots i ps
+    → IsUpTo roots (i + 1) (merge (slice_index_or roots i no_root).length (block_of (slice_index_or roots i no_root)) ps)
+up_more roots i ps valid apart within up =
+    let p : Prefix = block_of (slice_index_or roots i no_root)
+    in let few : length ps ≤ i = up.few
+    in let m : IsMerged ps p (merge p.length p ps)
+    = merged p.length p ps (omega arith) up.tidy (root_valid roots i no_root valid within) (apart_next ps roots i no_root up.covers apart within)
+    in let fewer : length (merge p.length p ps) ≤ length ps + 1 = m.few
+    in record { tidy = m.tidy; covers = covers_more ps (merge p.length p ps) roots i no_root up.covers within m.covers; few = omega arith }
+
+up_all : (roots : List RootPrefix) (n i : ℕ) (ps : List Prefix) → i + n ≡ length roots → AllValid roots (length roots) → AllApart roots (length roots) → IsUpTo roots i ps
+    → IsUpTo roots (length roots) (join_roots (drop i roots) ps)
+up_all roots zero i ps many valid apart up =
+    let e : i ≡ length roots = omega arith
+    in subst (IsUpTo roots (length roots)) (sym (join_done roots i ps (omega arith))) (subst (λ k. IsUpTo roots k ps) e up)
+up_all roots (suc n) i ps many valid apart up =
+    let within : i < length roots = omega arith
+    in let p : Prefix = block_of (slice_index_or roots i no_root)
+    in subst (IsUpTo roots (length roots)) (join_next roots i ps (merge p.length p ps) within refl)
+    (up_all roots n (i + 1) (merge p.length p ps) (omega arith) valid apart (up_more roots i ps valid apart within up))
+
+joined_up : (roots : List RootPrefix) → AllValid roots (length roots) → AllApart roots (length roots) → IsUpTo roots (length roots) (join_roots roots [])
+joined_up roots valid apart = up_all roots (length roots) 0 [] (omega arith) valid apart (up_none roots)
+
+-- good roots make a pool
+pub roots_open : (roots : List RootPrefix) → length roots ≤ 1024 → AllValid roots (length roots) → AllApart roots (length roots) → IsOpened roots (pool_of roots)
+roots_open roots few valid apart = record {
+  few = few;
+  valid = valid;
+  apart = apart;
+  free = covers_all (join_roots roots []) roots (length roots) (omega arith) (joined_up roots valid apart).covers;
+  reserved = refl;
+  doubtful = refl;
+}
+
+pub opened_pool : (roots : List RootPrefix) → IsOpened roots (pool_of roots) → IsPool (pool_of roots)
+opened_pool roots opened =
+    let few : length roots ≤ 1024 = opened.few
+    in let up : IsUpTo roots (length roots) (join_roots roots []) = joined_up roots opened.valid opened.apart
+    in let short : length (join_roots roots []) ≤ length roots = up.few
+    in fresh_pool (join_roots roots []) up.tidy (omega arith)

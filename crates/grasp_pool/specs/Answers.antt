@@ -26,7 +26,7 @@ IsRootFault roots (BadRoot i) = (length roots ≤ 1024) × IsBad roots i
 IsRootFault roots (Overlap i j) = (length roots ≤ 1024) × AllValid roots (length roots) × IsClash roots (record { first = i; second = j })
 IsRootFault roots OutOfMemory = (length roots ≤ 1024) × AllValid roots (length roots) × AllApart roots (length roots)
 
--- why a prefix isn't gained; the pool is as it was
-abbrev pub IsRefused : Holding → Holding → Prefix → GainFault → Type 0
-IsRefused old new p (Overlaps k) = (new ≡ old) × IsFirstOverlap old p k
-IsRefused old new p Full = (new ≡ old) × IsNew old p × (room_of old ≡ 0)
+-- why a prefix isn't gained
+abbrev pub IsRefused : Holding → Prefix → GainFault → Type 0
+IsRefused h p (Overlaps k) = IsFirstOverlap h p k
+IsRefused h p Full = IsNew h p × (room_of h ≡ 0)

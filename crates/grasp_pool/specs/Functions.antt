@@ -116,3 +116,7 @@ any_overlaps (q ∷ qs) p = if overlap_test q p then true else any_overlaps qs p
 -- p overlaps no entry of the pool, which has room
 abbrev pub can_gain : Holding → Prefix → Bool
 can_gain h p = if any_overlaps (entries h) p then false else nat_lt 0 (room_of h)
+
+-- the pool after `gain`, whether it succeeds or not
+abbrev pub after_gaining : Holding → Prefix → Holding
+after_gaining h p = if can_gain h p then after_gain h p else h

@@ -17,6 +17,12 @@ IsFree h a = Covers h.free a
 abbrev pub IsListed : Holding → Prefix → Type 0
 IsListed h p = Contains h.reserved p ⊎ Contains h.doubtful p
 
+-- what a pool has reserved or doubtful overlaps nothing that it holds and nothing else of it, and isn't both
+pub record PoolApart (h : Holding) : Type 0 where
+  pub held : (q : Prefix) (a : ℕ) → IsListed h q → span_of q a → ¬ IsFree h a
+  pub listed : (p q : Prefix) → ¬ (p ≡ q) → IsListed h p → IsListed h q → Apart p q
+  pub once : (q : Prefix) → Contains h.reserved q → ¬ Contains h.doubtful q
+
 -- p, which was all free, is reserved
 pub record Reserves (old new : Holding) (p : Prefix) : Type 0 where
   pub was : (a : ℕ) → span_of p a → IsFree old a
@@ -45,17 +51,10 @@ pub record Doubts (old new : Holding) (p : Prefix) : Type 0 where
   pub reserved : (q : Prefix) → Contains new.reserved q ↔ (Contains old.reserved q × (¬ (q ≡ p)))
   pub doubtful : (q : Prefix) → Contains new.doubtful q ↔ (Contains old.doubtful q ⊎ (q ≡ p))
 
--- p, which was doubtful, is free again
+-- p, which was doubtful, is free again; no call does it yet
 pub record Settles (old new : Holding) (p : Prefix) : Type 0 where
   pub was : Contains old.doubtful p
   pub free : (a : ℕ) → IsFree new a ↔ (IsFree old a ⊎ span_of p a)
-  pub reserved : new.reserved ≡ old.reserved
-  pub doubtful : (q : Prefix) → Contains new.doubtful q ↔ (Contains old.doubtful q × (¬ (q ≡ p)))
-
--- p, which was doubtful, is forgotten
-pub record Forgets (old new : Holding) (p : Prefix) : Type 0 where
-  pub was : Contains old.doubtful p
-  pub free : new.free ≡ old.free
   pub reserved : new.reserved ≡ old.reserved
   pub doubtful : (q : Prefix) → Contains new.doubtful q ↔ (Contains old.doubtful q × (¬ (q ≡ p)))
 
@@ -71,8 +70,8 @@ pub record Gains (old new : Holding) (p : Prefix) : Type 0 where
   pub reserved : new.reserved ≡ old.reserved
   pub doubtful : new.doubtful ≡ old.doubtful
 
--- what was reserved is doubtful
+-- a pool that begins anew: it holds no more than before, nothing is reserved, and what is doubtful is apart; no call does it yet
 pub record Restarts (old new : Holding) : Type 0 where
-  pub free : new.free ≡ old.free
+  pub free : (a : ℕ) → IsFree new a → IsFree old a
   pub reserved : (q : Prefix) → ¬ Contains new.reserved q
-  pub doubtful : (q : Prefix) → Contains new.doubtful q ↔ IsListed old q
+  pub apart : PoolApart new

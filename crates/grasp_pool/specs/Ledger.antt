@@ -1,8 +1,8 @@
 -- Nodes with what they hold, and talks in which prefixes are offered and accepted (RFC 8992, sections 4.1 and 4.2).
-use Rattle.std.specs.Prelude.{◌≡◌, ℕ, List, [], ◌∷◌, Contains, Option, Some, None}
+use Rattle.std.specs.Prelude.{◌≡◌, ℕ, ◌⊎◌, List, [], ◌∷◌, Contains, Option, Some, None}
 use Rattle.grasp_types.specs.Prefix.{AddressBlock as Prefix, span_of}
 use Rattle.grasp_pool.specs.Spans.{Apart}
-use Rattle.grasp_pool.specs.Holdings.{Holding, IsFree, IsListed, Reserves, GivesBack, Confirms, Doubts, Settles, Forgets, Gains, Restarts}
+use Rattle.grasp_pool.specs.Holdings.{Holding, IsFree, IsListed, Reserves, GivesBack, Confirms, Doubts, Settles, Gains, Restarts}
 
 -- how far a talk has come
 pub data Stage : Type 0 where
@@ -83,15 +83,14 @@ pub data Move : Type 0 where
   doubt : ℕ → Prefix → Move
   -- the talk's taker accepts
   accept : ℕ → Prefix → Move
-  -- a node that gives a held prefix back to another reserves it for that talk, of which it is the giver
+  -- no call makes the moves from here on yet: a node that gives a held prefix back to another reserves it for
+  -- that talk, of which it is the giver
   reserve_return : ℕ → Prefix → Move
   -- a prefix that was not offered yet goes over to another talk of its giver
   hand_over : ℕ → ℕ → Prefix → Move
   -- a doubtful prefix, of a talk in which it is not accepted and never will be, goes back
   settle : ℕ → Prefix → Move
-  -- a doubtful prefix, of a talk in which it was accepted, is forgotten
-  resolve : ℕ → Prefix → Move
-  -- a node begins anew
+  -- a node begins anew from what it wrote down
   restart : ℕ → Move
 
 -- the talk is at this stage after, and the others are as they were
@@ -166,17 +165,16 @@ pub record IsSettled (old new : Ledger) (k : ℕ) (p : Prefix) : Type 0 where
   pub here : Settles (old.pool (giver old k)) (new.pool (giver old k)) p
   pub pools : OtherPools old new (giver old k)
 
--- the giver forgets its doubtful prefix
-pub record IsResolved (old new : Ledger) (k : ℕ) (p : Prefix) : Type 0 where
-  pub was : stage old k ≡ accepted p
-  pub turns : Turns old new k (done p)
-  pub here : Forgets (old.pool (giver old k)) (new.pool (giver old k)) p
-  pub pools : OtherPools old new (giver old k)
+-- the talk is as it was, or it is quiet where its giver, of this number, had sent nothing
+abbrev pub IsLeft : Ledger → Ledger → ℕ → ℕ → Type 0
+IsLeft old new n k = (new.talk k ≡ old.talk k)
+    ⊎ ((giver old k ≡ n) × ((p : Prefix) × (stage old k ≡ unsent p)) × (new.talk k ≡ record { giver = giver old k; taker = taker old k; stage = quiet }))
 
--- what the node had reserved becomes doubtful
+-- a node begins anew: what its talks keep is doubtful, and what it hadn't sent may be given up
 pub record BeginsAnew (old new : Ledger) (n : ℕ) : Type 0 where
-  pub talks : SameTalks old new
+  pub talks : (k : ℕ) → IsLeft old new n k
   pub here : Restarts (old.pool n) (new.pool n)
+  pub doubtful : (k : ℕ) (p : Prefix) → giver new k ≡ n → kept (stage new k) ≡ Some p → Contains (new.pool n).doubtful p
   pub pools : OtherPools old new n
 
 -- p goes over from talk k to talk j
@@ -203,7 +201,6 @@ Follows old (accept k p) new = IsAccepted old new k p
 Follows old (reserve_return k p) new = Takes old new k p
 Follows old (hand_over k j p) new = HandsOver old new k j p
 Follows old (settle k p) new = IsSettled old new k p
-Follows old (resolve k p) new = IsResolved old new k p
 Follows old (restart n) new = BeginsAnew old new n
 
 -- a move, and the ledger after it
@@ -235,16 +232,10 @@ pub record OffersKept (l : Ledger) : Type 0 where
   pub listed : (k : ℕ) (p : Prefix) → offered (stage l k) ≡ Some p → IsListed (l.pool (giver l k)) p
   pub held : (k a : ℕ) (p : Prefix) → offered (stage l k) ≡ Some p → span_of p a → ¬ IsFree (l.pool (giver l k)) a
 
--- what a pool has reserved or doubtful overlaps nothing that it holds and nothing else of it, and isn't both
-pub record PoolApart (h : Holding) : Type 0 where
-  pub held : (q : Prefix) (a : ℕ) → IsListed h q → span_of q a → ¬ IsFree h a
-  pub listed : (p q : Prefix) → ¬ (p ≡ q) → IsListed h p → IsListed h q → Apart p q
-  pub once : (q : Prefix) → Contains h.reserved q → ¬ Contains h.doubtful q
-
--- what a node has reserved or doubtful is kept for exactly one talk in which it is the giver
-abbrev pub IsOwned : Ledger → ℕ → Prefix → Type 0
-IsOwned l n q = (k : ℕ) × (giver l k ≡ n) × (kept (stage l k) ≡ Some q)
-    × ((j : ℕ) → giver l j ≡ n → kept (stage l j) ≡ Some q → j ≡ k)
+-- what a node has reserved is kept for exactly one talk in which it gives, and what it has doubtful for at most one
+pub record IsOwned (l : Ledger) (n : ℕ) : Type 0 where
+  pub reserved : (q : Prefix) → Contains (l.pool n).reserved q → (k : ℕ) × (giver l k ≡ n) × (kept (stage l k) ≡ Some q)
+  pub once : (k j : ℕ) (q : Prefix) → giver l k ≡ n → giver l j ≡ n → kept (stage l k) ≡ Some q → kept (stage l j) ≡ Some q → k ≡ j
 
 -- disjoint roots, nothing reserved or doubtful, and no talk
 pub record IsStart (l : Ledger) : Type 0 where

@@ -1,19 +1,12 @@
--- Words for the parts of a pool's work on its lists.
-use Rattle.std.specs.Prelude.{◌≡◌, ℕ, ◌+◌, ◌<◌, ◌≤◌, ◌⊎◌, ◌↔◌, List, Contains, length, slice_index_or, Option, Some, None, MatchOption, if◌then◌else◌, nat_le, nat_lt}
-use Rattle.grasp_types.specs.Prefix.{AddressBlock as Prefix, span_of, Overlap}
-use Rattle.grasp_pool.specs.Spans.{Apart, IsValid, Covers}
-use Rattle.grasp_pool.specs.Canonical.{IsTidy, IsLowestFree, lower, upper}
-use Rattle.grasp_pool.specs.declared.halves.Halves.{Halves}
+-- Inside: what the code keeps of its lists, and what each part of a call does to them.
+use Rattle.std.specs.Prelude.{◌≡◌, ℕ, ◌+◌, ◌<◌, ◌≤◌, List, Contains, length, slice_index_or, Option, Some, None, MatchOption, if◌then◌else◌, nat_le, nat_lt}
+use Rattle.grasp_types.specs.Prefix.{AddressBlock as Prefix, Overlap}
+use Rattle.grasp_pool.specs.Spans.{Apart}
+use Rattle.grasp_pool.specs.Canonical.{IsRising}
 
 -- no prefix of the list overlaps p
 abbrev pub ApartFrom : List Prefix → Prefix → Type 0
 ApartFrom ps p = (q : Prefix) → Contains ps q → Apart q p
-
--- p and its buddy are the halves of the parent
-pub record AreHalves (p : Prefix) (h : Halves) : Type 0 where
-  pub valid : IsValid h.parent
-  pub length : h.parent.length + 1 ≡ p.length
-  pub halves : ((p ≡ lower h.parent) × (h.buddy ≡ upper h.parent)) ⊎ ((p ≡ upper h.parent) × (h.buddy ≡ lower h.parent))
 
 -- the first n of the list begin below the address
 abbrev pub BeginBelow : List Prefix → ℕ → ℕ → Type 0
@@ -27,32 +20,6 @@ BeginFrom ps n a = (k : ℕ) (d : Prefix) → n ≤ k → k < length ps → a �
 abbrev pub IsEntryAt : List Prefix → ℕ → Option Prefix → Type 0
 IsEntryAt ps i o = MatchOption o (length ps ≤ i) (λ w. (i < length ps) × (w ≡ slice_index_or ps i w))
 
--- p is one more
-abbrev pub IsAdded : List Prefix → List Prefix → Prefix → Type 0
-IsAdded old new p = (q : Prefix) → Contains new q ↔ (Contains old q ⊎ (q ≡ p))
-
--- p is one less
-abbrev pub IsRemoved : List Prefix → List Prefix → Prefix → Type 0
-IsRemoved old new p = (q : Prefix) → Contains new q ↔ (Contains old q × (¬ (q ≡ p)))
-
--- p's buddy isn't in the list
-abbrev pub IsAlone : List Prefix → Prefix → Type 0
-IsAlone ps p = (r : Prefix) → IsValid r → r.length < 128
-    → (p ≡ lower r → ¬ Contains ps (upper r)) × (p ≡ upper r → ¬ Contains ps (lower r))
-
--- the list with r has the addresses that the old one had with p
-abbrev pub IsSame : List Prefix → Prefix → List Prefix → Prefix → Type 0
-IsSame old p new r = (a : ℕ) → (Covers new a ⊎ span_of r a) ↔ (Covers old a ⊎ span_of p a)
-
--- p's buddy was taken from the list, and r has both
-pub record IsJoined (old : List Prefix) (p : Prefix) (new : List Prefix) (r : Prefix) : Type 0 where
-  pub tidy : IsTidy new
-  pub valid : IsValid r
-  pub apart : ApartFrom new r
-  pub same : IsSame old p new r
-  pub shorter : r.length + 1 ≡ p.length
-  pub fewer : length new + 1 ≡ length old
-
 -- the part of this length at p's first address
 abbrev pub first_part : Prefix → ℕ → Prefix
 first_part p n = record { address = p.address; length = n }
@@ -60,6 +27,11 @@ first_part p n = record { address = p.address; length = n }
 -- each of the first n prefixes of the list is longer than this
 abbrev pub IsNarrow : List Prefix → ℕ → ℕ → Type 0
 IsNarrow ps most n = (k : ℕ) (d : Prefix) → k < n → k < length ps → most < (slice_index_or ps k d).length
+
+-- the place of the first entry that is no longer than this, or none where all are
+abbrev pub IsFirstPlace : List Prefix → ℕ → Option ℕ → Type 0
+IsFirstPlace ps most o = MatchOption o (IsNarrow ps most (length ps))
+    (λ i. (i < length ps) × ((d : Prefix) → (slice_index_or ps i d).length ≤ most) × IsNarrow ps most i)
 
 -- w is the first of the list that is no longer than n
 pub record IsFirstShort (ps : List Prefix) (n : ℕ) (w : Prefix) : Type 0 where
@@ -76,6 +48,16 @@ pub record IsIndex (ps : List Prefix) (table : List (Option Prefix)) : Type 0 wh
   pub size : length table ≡ 129
   pub firsts : (n : ℕ) (d : Option Prefix) → n < 129 → IsFirstOf ps n (slice_index_or table n d)
 
+-- the list has room for n entries more
+abbrev pub HasRoom : List Prefix → ℕ → Type 0
+HasRoom ps n = length ps + n ≤ 4096
+
+-- the list and its table as they are kept, in memory for 4096 entries
+pub record IsFreeList (ps : List Prefix) (table : List (Option Prefix)) (capacity : ℕ) : Type 0 where
+  pub rising : IsRising ps
+  pub index : IsIndex ps table
+  pub memory : 4096 ≤ capacity
+
 -- the first of a list with p more, where o was that of the list
 abbrev pub earlier_of : Prefix → Option Prefix → Option Prefix
 earlier_of p None = Some p
@@ -86,13 +68,6 @@ pub record IsNoted (old new : List (Option Prefix)) (p : Prefix) (n : ℕ) : Typ
   pub size : length new ≡ length old
   pub below : (k : ℕ) (d : Option Prefix) → k < n → slice_index_or new k d ≡ slice_index_or old k d
   pub from : (k : ℕ) (d : Option Prefix) → n ≤ k → k < length old → slice_index_or new k d ≡ earlier_of p (slice_index_or old k d)
-
--- p was the least of this length, and is no longer covered
-pub record IsCarved (old new : List Prefix) (n : ℕ) (p : Prefix) : Type 0 where
-  pub tidy : IsTidy new
-  pub least : IsLowestFree old n p
-  pub covers : (a : ℕ) → Covers new a ↔ (Covers old a × (¬ span_of p a))
-  pub few : length new ≤ length old + 126
 
 -- any two of the list's prefixes that aren't the same are apart
 abbrev pub ArePairwiseApart : List Prefix → Type 0
@@ -118,7 +93,3 @@ abbrev pub lesser_of : Option Prefix → Option Prefix → Option Prefix
 lesser_of None y = y
 lesser_of (Some p) None = Some p
 lesser_of (Some p) (Some q) = if nat_le p.address q.address then Some p else Some q
-
--- each of the first n prefixes of the list is apart from p
-abbrev pub ApartBelow : List Prefix → Prefix → ℕ → Type 0
-ApartBelow ps p n = (k : ℕ) (d : Prefix) → k < n → k < length ps → Apart (slice_index_or ps k d) p

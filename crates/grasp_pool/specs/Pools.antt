@@ -1,10 +1,9 @@
 -- What is true of every pool, and when its calls answer what.
-use Rattle.std.specs.Prelude.{◌≡◌, ℕ, ◌+◌, ◌-◌, ◌<◌, ◌≤◌, ◌⊎◌, List, Option, ◌++◌, Contains, length}
+use Rattle.std.specs.Prelude.{◌≡◌, ℕ, ◌+◌, ◌-◌, ◌<◌, ◌≤◌, ◌⊎◌, List, ◌++◌, Contains, length}
 use Rattle.grasp_types.specs.Prefix.{AddressBlock as Prefix, span_of, Overlap}
 use Rattle.grasp_pool.specs.Spans.{Apart, IsValid}
 use Rattle.grasp_pool.specs.Canonical.{IsRising, IsTidy, IsLowestFree, HasNoFree}
-use Rattle.grasp_pool.specs.Parts.{IsIndex}
-use Rattle.grasp_pool.specs.Holdings.{Holding, IsFree, IsListed, Reserves, Gains}
+use Rattle.grasp_pool.specs.Holdings.{Holding, IsFree, IsListed, Reserves}
 
 -- what is true of every pool
 pub record IsPool (h : Holding) : Type 0 where
@@ -21,11 +20,9 @@ pub record IsPool (h : Holding) : Type 0 where
   -- the pool has at most 4096 entries
   pub few : (length h.free + length h.reserved) + length h.doubtful ≤ 4096
 
--- a pool as it is kept: the table of the first free entries fits, and each list has memory for 4096 entries
-pub record IsStored (h : Holding) (table : List (Option Prefix)) (f r d : ℕ) : Type 0 where
+-- a pool as it is kept: each list has memory for 4096 entries
+pub record IsStored (h : Holding) (r d : ℕ) : Type 0 where
   pub pool : IsPool h
-  pub index : IsIndex h.free table
-  pub free_memory : 4096 ≤ f
   pub reserved_memory : 4096 ≤ r
   pub doubtful_memory : 4096 ≤ d
 
@@ -53,8 +50,3 @@ pub record IsFirstOverlap (h : Holding) (p k : Prefix) : Type 0 where
   pub has : Contains (entries h) k
   pub meets : Overlap k p
   pub least : (q : Prefix) → Contains (entries h) q → Overlap q p → (k.address < q.address) ⊎ ((k.address ≡ q.address) × (k.length ≤ q.length))
-
--- when `gain` succeeds: there is room, and p becomes free
-pub record IsGained (old new : Holding) (p : Prefix) : Type 0 where
-  pub room : 0 < room_of old
-  pub gains : Gains old new p

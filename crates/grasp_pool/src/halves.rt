@@ -3,7 +3,6 @@
 ghost use Rattle.std.specs.Prelude.{◌≡◌, ◌≤◌};
 ghost use Rattle.grasp_types.specs.Prefix.{IsPrefix};
 ghost use Rattle.grasp_pool.specs.Spans.{IsValid, size};
-ghost use Rattle.grasp_pool.specs.Parts.{AreHalves};
 ghost use Rattle.grasp_pool.specs.Functions.{parent_of, buddy_of};
 
 use grasp_types::Prefix;
@@ -34,18 +33,16 @@ pub fn size_of(prefix: Prefix) -> u128
     1u128 << (128 - prefix.length())
 }
 
-/// The prefix of which it is one half, and the other half.
+/// The prefix of which it is one half, and the other half: one bit of the address tells the two halves apart.
 pub fn halves_of(prefix: Prefix) -> Halves
     requires { 2 ≤ prefix.length }
-    ensures halves { AreHalves prefix result }
-    ensures is { (result.parent ≡ parent_of prefix) × (result.buddy ≡ buddy_of prefix) }
+    ensures parent { result.parent ≡ parent_of prefix }
+    ensures buddy { result.buddy ≡ buddy_of prefix }
 {
     let half = size_of(prefix);
     let address = prefix.address();
     let length = prefix.length();
-    let offset = address % (half + half);
-    let start = address - offset;
-    let parent = prefix_at(start, length - 1);
-    let buddy = prefix_at(start + (half - offset), length);
+    let parent = prefix_at(address & !half, length - 1);
+    let buddy = prefix_at(address ^ half, length);
     Halves { parent, buddy }
 }

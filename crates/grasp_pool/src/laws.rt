@@ -1,22 +1,27 @@
 //! Laws of the definitions that the pool's contracts cite.
 
-ghost use Rattle.std.specs.Prelude.{◌≡◌, ℕ, ◌↔◌, ◌<◌, ◌≤◌, List, Contains, MatchOption, IsTrue};
+ghost use Rattle.std.specs.Prelude.{◌≡◌, ℕ, ◌↔◌, ◌<◌, ◌≤◌, List, Contains, length, MatchOption, IsTrue};
 ghost use Rattle.grasp_types.specs.Prefix.{AddressBlock};
 ghost use Rattle.grasp_pool.specs.Spans.{Covers, IsValid};
 ghost use Rattle.grasp_pool.specs.Canonical.{IsCanonical, IsClean, IsRising, IsTidy, IsLowestFree, HasNoFree};
-ghost use Rattle.grasp_pool.specs.Holdings.{Holding, IsFree, IsListed, IsNew, GivesBack, Confirms, Doubts, Gains};
+ghost use Rattle.grasp_pool.specs.Holdings.{Holding, IsFree, IsNew, PoolApart, GivesBack, Confirms, Doubts, Gains};
 ghost use Rattle.grasp_pool.specs.Pools.{IsPool, room_of, IsTaken, IsNotTaken};
-ghost use Rattle.grasp_pool.specs.Functions.{lowest_free, can_gain, take_reply, after_take, after_back, after_confirm, after_doubt, after_gain};
-ghost use Rattle.grasp_pool.specs.Ledger.{Ledger, Move, Step, Follows, IsReached, IsStart, IsRun, last_of, HeldApart, AuthoritiesApart, OffersKept, PoolApart, IsOwned};
+ghost use Rattle.grasp_pool.specs.Answers.{IsOpened};
+ghost use Rattle.grasp_pool.specs.Roots.{AllValid, AllApart};
+ghost use Rattle.grasp_pool.specs.declared.roots.RootPrefix.{RootPrefix};
+ghost use Rattle.grasp_pool.specs.Functions.{lowest_free, pool_of, can_gain, take_reply, after_take, after_back, after_confirm, after_doubt, after_gain};
+ghost use Rattle.grasp_pool.specs.Ledger.{Ledger, Move, Step, Follows, IsReached, IsStart, IsRun, last_of, HeldApart, AuthoritiesApart, OffersKept, IsOwned, SamePools, SameTalks};
 
 /// A set of addresses has one list of maximal prefixes in rising order.
 pub fn one_canonical_list()
     ensures { (xs ys : List AddressBlock) → IsCanonical xs → IsCanonical ys → ((a : ℕ) → Covers xs a ↔ Covers ys a) → xs ≡ ys }
 {}
 
-/// Where no two prefixes of a rising list overlap or make up a larger one, they are the maximal prefixes of what it covers.
+/// Where no two prefixes of a rising list overlap or make up a larger one, they are the maximal prefixes of what it
+/// covers: so a pool's free prefixes are the maximal ones of its free addresses.
 pub fn clean_lists_are_canonical()
-    ensures { (xs : List AddressBlock) → IsClean xs → IsRising xs → IsCanonical xs }
+    ensures lists { (xs : List AddressBlock) → IsClean xs → IsRising xs → IsCanonical xs }
+    ensures pools { (h : Holding) → IsPool h → IsCanonical h.free }
 {}
 
 /// A pool is its three sets.
@@ -32,6 +37,12 @@ pub fn one_lowest_free()
 /// The lowest free prefix of a length, as a function of the list, is what its definition by addresses says.
 pub fn lowest_free_is_lowest()
     ensures { (ps : List AddressBlock) (n : ℕ) → IsTidy ps → 1 ≤ n → n ≤ 128 → MatchOption (lowest_free ps n) (HasNoFree ps n) (λ p. IsLowestFree ps n p) }
+{}
+
+/// At most 1,024 disjoint prefixes open a pool, whose free addresses are theirs.
+pub fn good_roots_open()
+    ensures opened { (roots : List RootPrefix) → length roots ≤ 1024 → AllValid roots (length roots) → AllApart roots (length roots) → IsOpened roots (pool_of roots) }
+    ensures pool { (roots : List RootPrefix) → IsOpened roots (pool_of roots) → IsPool (pool_of roots) }
 {}
 
 /// What `take` answers and leaves, as functions, is what is said of it by addresses, and a pool stays a pool.
@@ -58,23 +69,25 @@ pub fn gain_means()
 {}
 
 /// Whatever moves are made from disjoint roots: no address is held by two nodes, no authority overlaps what any
-/// node holds or another authority, an offer of unknown outcome stays with its giver, and each reserved or doubtful
-/// prefix is kept for exactly one talk.
+/// node holds or another authority, an offer of unknown outcome stays with its giver, what a pool has reserved or
+/// doubtful is apart, each reserved prefix is kept for exactly one talk, and each doubtful one for at most one.
 pub fn prefixes_stay_apart()
     ensures held { (ledger : Ledger) (steps : List Step) → IsStart ledger → IsRun ledger steps → HeldApart (last_of ledger steps) }
     ensures authorities { (ledger : Ledger) (steps : List Step) → IsStart ledger → IsRun ledger steps → AuthoritiesApart (last_of ledger steps) }
     ensures offers { (ledger : Ledger) (steps : List Step) → IsStart ledger → IsRun ledger steps → OffersKept (last_of ledger steps) }
     ensures pools { (ledger : Ledger) (steps : List Step) → IsStart ledger → IsRun ledger steps → (n : ℕ) → PoolApart ((last_of ledger steps).pool n) }
-    ensures owned { (ledger : Ledger) (steps : List Step) → IsStart ledger → IsRun ledger steps → (n : ℕ) (q : AddressBlock) → IsListed ((last_of ledger steps).pool n) q → IsOwned (last_of ledger steps) n q }
+    ensures owned { (ledger : Ledger) (steps : List Step) → IsStart ledger → IsRun ledger steps → (n : ℕ) → IsOwned (last_of ledger steps) n }
 {}
 
-/// A ledger that is reached stays one under each move, and is disjoint as above.
+/// A ledger that is reached stays one under each move, and is disjoint as above; one that has the same pools and
+/// the same talks is reached too.
 pub fn moves_go_on()
     ensures start { (ledger : Ledger) → IsStart ledger → IsReached ledger }
     ensures more { (old new : Ledger) (move : Move) → IsReached old → Follows old move new → IsReached new }
+    ensures alike { (old new : Ledger) → IsReached old → SamePools old new → SameTalks old new → IsReached new }
     ensures held { (ledger : Ledger) → IsReached ledger → HeldApart ledger }
     ensures authorities { (ledger : Ledger) → IsReached ledger → AuthoritiesApart ledger }
     ensures offers { (ledger : Ledger) → IsReached ledger → OffersKept ledger }
     ensures pools { (ledger : Ledger) → IsReached ledger → (n : ℕ) → PoolApart (ledger.pool n) }
-    ensures owned { (ledger : Ledger) → IsReached ledger → (n : ℕ) (q : AddressBlock) → IsListed (ledger.pool n) q → IsOwned ledger n q }
+    ensures owned { (ledger : Ledger) → IsReached ledger → (n : ℕ) → IsOwned ledger n }
 {}

@@ -1,16 +1,14 @@
 //! The pool: what is free, reserved and doubtful.
 
-ghost use Rattle.std.specs.Prelude.{◌≡◌, ◌↔◌, ◌<◌, ◌≤◌, Contains, IfOk, IsTrue, is_ok, MatchOption, MatchResult, slice_get};
+ghost use Rattle.std.specs.Prelude.{◌≡◌, ◌↔◌, ◌≤◌, Contains, IfOk, IfErr, IsTrue, is_ok, MatchResult, slice_get};
 ghost use Rattle.grasp_pool.specs.Spans.{IsValid};
-ghost use Rattle.grasp_pool.specs.Canonical.{IsCanonical, IsRising};
-ghost use Rattle.grasp_pool.specs.Holdings.{IsNew, Reserves, GivesBack, Confirms, Doubts, Gains};
 ghost use Rattle.grasp_pool.specs.Parts.{IsAnswer};
-ghost use Rattle.grasp_pool.specs.Pools.{IsPool, entries, room_of, IsTaken, IsNotTaken, IsGained};
+ghost use Rattle.grasp_pool.specs.Pools.{IsPool, entries, room_of};
 ghost use Rattle.grasp_pool.specs.Answers.{IsOpened, IsRootFault, IsRefused};
-ghost use Rattle.grasp_pool.specs.Functions.{pool_of, has, can_gain, take_reply, after_take, after_back, after_confirm, after_doubt, after_gain};
+ghost use Rattle.grasp_pool.specs.Functions.{pool_of, can_gain, take_reply, after_take, after_back, after_confirm, after_doubt, after_gaining};
 
 use crate::fault::{GainFault, PoolFault};
-use crate::free_list::{FreeList, MOST_ENTRIES, carve, merge_in};
+use crate::free_list::{FreeList, MOST_ENTRIES};
 use crate::overlapping::{first_overlap, lesser};
 use crate::roots::{RootPrefix, fill, first_bad, first_clash};
 use crate::sorted_list::{drop_prefix, find_prefix, insert_prefix};
@@ -41,9 +39,9 @@ impl Model for Pool {
 
     ghost Value = { Holding };
 
-    ghost view = { λ s. record { free = s.free.entries.items; reserved = s.reserved.items; doubtful = s.doubtful.items } };
+    ghost view = { λ s. record { free = s.free; reserved = s.reserved.items; doubtful = s.doubtful.items } };
 
-    ghost invariant = { λ s. IsStored (record { free = s.free.entries.items; reserved = s.reserved.items; doubtful = s.doubtful.items }) s.free.firsts.items (vec_capacity s.free.entries) (vec_capacity s.reserved) (vec_capacity s.doubtful) };
+    ghost invariant = { λ s. IsStored (record { free = s.free; reserved = s.reserved.items; doubtful = s.doubtful.items }) (vec_capacity s.reserved) (vec_capacity s.doubtful) };
 }
 
 impl Pool {
@@ -88,15 +86,14 @@ impl Pool {
     /// The maximal free prefix at this place, from 0 in rising order of address.
     pub fn free(&self, i: u64) -> Option<Prefix>
         ensures pool { IsPool self.now }
-        ensures canonical { IsCanonical self.now.free }
         ensures at { result ≡ slice_get self.now.free i }
     {
-        self.free.entries.get(i as usize).copied()
+        self.free.entries().get(i as usize).copied()
     }
 
     /// The reserved prefix at this place, from 0 in rising order of address.
     pub fn reserved(&self, i: u64) -> Option<Prefix>
-        ensures rising { IsRising self.now.reserved }
+        ensures pool { IsPool self.now }
         ensures at { result ≡ slice_get self.now.reserved i }
     {
         self.reserved.get(i as usize).copied()
@@ -104,7 +101,7 @@ impl Pool {
 
     /// The doubtful prefix at this place, from 0 in rising order of address.
     pub fn doubtful(&self, i: u64) -> Option<Prefix>
-        ensures rising { IsRising self.now.doubtful }
+        ensures pool { IsPool self.now }
         ensures at { result ≡ slice_get self.now.doubtful i }
     {
         self.doubtful.get(i as usize).copied()
@@ -115,19 +112,15 @@ impl Pool {
         ensures pool { IsPool self.now }
         ensures value { result ≡ room_of self.now }
     {
-        let entries = self.free.entries.len() + self.reserved.len() + self.doubtful.len();
+        let entries = self.free.entries().len() + self.reserved.len() + self.doubtful.len();
         (MOST_ENTRIES - entries) as u64
     }
 
     /// Whether the prefix is reserved, so that it can be confirmed, given back or doubted.
     pub fn is_reserved(&self, prefix: Prefix) -> bool
-        ensures reserved { IsTrue result ↔ Contains self.now.reserved prefix }
-        ensures is { result ≡ has self.now.reserved prefix }
+        ensures { IsTrue result ↔ Contains self.now.reserved prefix }
     {
-        match find_prefix(&self.reserved, prefix) {
-            Some(_) => true,
-            None => false,
-        }
+        find_prefix(&self.reserved, prefix).is_some()
     }
 
     /// Reserves the prefix of this length with the least address whose addresses are all free.
@@ -137,14 +130,13 @@ impl Pool {
         requires some { 1 ≤ length }
         requires most { length ≤ 128 }
         ensures pool { IsPool self.new }
-        ensures taken { MatchOption result (IsNotTaken self.old self.new length) (λ p. IsTaken self.old self.new length p) }
         ensures reply { result ≡ take_reply self.old length }
         ensures after { self.new ≡ after_take self.old length result }
     {
         if self.room() < TAKE_ROOM {
             return None;
         }
-        let Some(part) = carve(&mut self.free, length) else {
+        let Some(part) = self.free.carve(length) else {
             return None;
         };
         insert_prefix(&mut self.reserved, part);
@@ -155,18 +147,16 @@ impl Pool {
     pub fn give_back(&mut self, prefix: Prefix)
         requires { Contains self.old.reserved prefix }
         ensures pool { IsPool self.new }
-        ensures back { GivesBack self.old self.new prefix }
         ensures after { self.new ≡ after_back self.old prefix }
     {
         drop_prefix(&mut self.reserved, prefix);
-        merge_in(&mut self.free, prefix);
+        self.free.merge_in(prefix);
     }
 
     /// Forgets a reserved prefix.
     pub fn confirm(&mut self, prefix: Prefix)
         requires { Contains self.old.reserved prefix }
         ensures pool { IsPool self.new }
-        ensures confirmed { Confirms self.old self.new prefix }
         ensures after { self.new ≡ after_confirm self.old prefix }
     {
         drop_prefix(&mut self.reserved, prefix);
@@ -176,7 +166,6 @@ impl Pool {
     pub fn doubt(&mut self, prefix: Prefix)
         requires { Contains self.old.reserved prefix }
         ensures pool { IsPool self.new }
-        ensures doubted { Doubts self.old self.new prefix }
         ensures after { self.new ≡ after_doubt self.old prefix }
     {
         drop_prefix(&mut self.reserved, prefix);
@@ -189,8 +178,9 @@ impl Pool {
         ensures valid { IsValid prefix }
         ensures first { IsAnswer (entries self.now) prefix result }
     {
+        // What is read of a prefix tells that it is one.
         let _address = prefix.address();
-        let free = first_overlap(&self.free.entries, prefix);
+        let free = first_overlap(self.free.entries(), prefix);
         let reserved = first_overlap(&self.reserved, prefix);
         let doubtful = first_overlap(&self.doubtful, prefix);
         lesser(lesser(free, reserved), doubtful)
@@ -198,16 +188,9 @@ impl Pool {
 
     /// Whether `gain` answers Ok: the prefix overlaps no entry, and there is room.
     pub fn can_gain(&self, prefix: Prefix) -> bool
-        ensures gainable { IsTrue result ↔ (IsNew self.now prefix × (0 < room_of self.now)) }
-        ensures is { result ≡ can_gain self.now prefix }
+        ensures { result ≡ can_gain self.now prefix }
     {
-        if self.room() == 0 {
-            return false;
-        }
-        match self.first_kept(prefix) {
-            None => true,
-            Some(_) => false,
-        }
+        self.room() > 0 && self.first_kept(prefix).is_none()
     }
 
     /// Makes a prefix free here that overlaps no entry.
@@ -216,8 +199,8 @@ impl Pool {
     pub fn gain(&mut self, prefix: Prefix) -> Result<(), GainFault>
         ensures pool { IsPool self.new }
         ensures answers { is_ok result ≡ can_gain self.old prefix }
-        ensures gained { MatchResult result (λ _. IsGained self.old self.new prefix) (λ fault. IsRefused self.old self.new prefix fault) }
-        ensures after { IfOk result (λ _. self.new ≡ after_gain self.old prefix) }
+        ensures refused { IfErr result (λ fault. IsRefused self.old prefix fault) }
+        ensures after { self.new ≡ after_gaining self.old prefix }
     {
         if let Some(kept) = self.first_kept(prefix) {
             return Err(GainFault::Overlaps { kept });
@@ -225,7 +208,7 @@ impl Pool {
         if self.room() == 0 {
             return Err(GainFault::Full);
         }
-        merge_in(&mut self.free, prefix);
+        self.free.merge_in(prefix);
         Ok(())
     }
 }

@@ -1,14 +1,12 @@
 //! The roots that a pool is opened with.
 
-ghost use Rattle.std.specs.Prelude.{◌≡◌, ℕ, ◌≤◌, ◌<◌, ◌↔◌, [], length, MatchOption, vec_len, vec_capacity, slice_index_or};
+ghost use Rattle.std.specs.Prelude.{◌≡◌, ◌≤◌, [], length, MatchOption};
 ghost use Rattle.grasp_types.specs.Prefix.{AddressBlock};
-ghost use Rattle.grasp_pool.specs.Spans.{IsValid, Covers};
-ghost use Rattle.grasp_pool.specs.Canonical.{IsTidy};
-ghost use Rattle.grasp_pool.specs.Parts.{IsIndex};
+ghost use Rattle.grasp_pool.specs.Spans.{IsValid};
 ghost use Rattle.grasp_pool.specs.Functions.{join_roots};
-ghost use Rattle.grasp_pool.specs.Roots.{block_of, AllValid, AllApart, RootsApart, IsRootAddress, IsBad, IsHit, IsClash};
+ghost use Rattle.grasp_pool.specs.Roots.{block_of, AllValid, AllApart, RootsApart, IsBad, IsHit, IsClash};
 
-use crate::free_list::{FreeList, merge_in};
+use crate::free_list::FreeList;
 use crate::halves::prefix_at;
 use crate::overlapping::overlaps;
 use grasp_types::Prefix;
@@ -77,19 +75,13 @@ pub fn first_clash(roots: &[RootPrefix]) -> Option<Clash>
 
 /// Puts the roots into an empty list.
 pub fn fill(list: &mut FreeList, roots: &[RootPrefix])
-    requires empty { list.old.entries.items ≡ [] }
-    requires index { IsIndex list.old.entries.items list.old.firsts.items }
-    requires room { length roots.now ≤ vec_capacity list.old.entries }
+    requires empty { list.old ≡ [] }
+    requires few { length roots.now ≤ 1024 }
     requires valid { AllValid roots.now (length roots.now) }
     requires apart { AllApart roots.now (length roots.now) }
-    ensures tidy { IsTidy list.new.entries.items }
-    ensures covers { (a : ℕ) → Covers list.new.entries.items a ↔ IsRootAddress roots.now a }
-    ensures is { list.new.entries.items ≡ join_roots roots.now [] }
-    ensures len { vec_len list.new.entries ≤ length roots.now }
-    ensures index { IsIndex list.new.entries.items list.new.firsts.items }
-    ensures capacity { vec_capacity list.new.entries ≡ vec_capacity list.old.entries }
+    ensures { list.new ≡ join_roots roots.now [] }
 {
     for root in roots {
-        merge_in(list, prefix_of(*root));
+        list.merge_in(prefix_of(*root));
     }
 }

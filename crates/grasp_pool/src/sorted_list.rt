@@ -1,9 +1,9 @@
 //! Lists of prefixes in rising order of address.
 
-ghost use Rattle.std.specs.Prelude.{◌≡◌, ℕ, ◌+◌, ◌<◌, ◌≤◌, List, Contains, length, slice_index_or, MatchOption, vec_len, vec_capacity, nat_lt};
+ghost use Rattle.std.specs.Prelude.{◌≡◌, ℕ, ◌<◌, ◌≤◌, List, Contains, length, slice_index_or, MatchOption, vec_len, vec_capacity, nat_lt};
 ghost use Rattle.grasp_types.specs.Prefix.{AddressBlock};
 ghost use Rattle.grasp_pool.specs.Canonical.{IsRising};
-ghost use Rattle.grasp_pool.specs.Parts.{BeginBelow, BeginFrom, IsEntryAt, IsAdded, IsRemoved};
+ghost use Rattle.grasp_pool.specs.Parts.{BeginBelow, BeginFrom, IsEntryAt};
 ghost use Rattle.grasp_pool.specs.Functions.{add, without};
 
 use grasp_types::Prefix;
@@ -49,10 +49,7 @@ pub fn insert_prefix(list: &mut Vec<Prefix>, prefix: Prefix)
     requires rising { IsRising list.old.items }
     requires room { vec_len list.old < vec_capacity list.old }
     requires is_new { (q : AddressBlock) → Contains list.old.items q → ¬ (q.address ≡ prefix.address) }
-    ensures rising { IsRising list.new.items }
-    ensures items { IsAdded list.old.items list.new.items prefix }
     ensures is { list.new.items ≡ add prefix list.old.items }
-    ensures len { vec_len list.new ≡ vec_len list.old + 1 }
     ensures capacity { vec_capacity list.new ≡ vec_capacity list.old }
 {
     let i = place_of(list, prefix.address());
@@ -66,12 +63,9 @@ pub fn remove_at(list: &mut Vec<Prefix>, i: usize) -> Prefix
     requires rising { IsRising list.old.items }
     requires within { i < vec_len list.old }
     ensures value { result ≡ slice_index_or list.old.items i result }
-    ensures rising { IsRising list.new.items }
-    ensures items { IsRemoved list.old.items list.new.items result }
     ensures is { list.new.items ≡ without result.address list.old.items }
-    ensures has { Contains list.old.items result }
     ensures below { BeginBelow list.new.items i result.address }
-    ensures len { vec_len list.new + 1 ≡ vec_len list.old }
+    ensures within { i ≤ vec_len list.new }
     ensures capacity { vec_capacity list.new ≡ vec_capacity list.old }
 {
     list.remove(i)
@@ -81,10 +75,7 @@ pub fn remove_at(list: &mut Vec<Prefix>, i: usize) -> Prefix
 pub fn drop_prefix(list: &mut Vec<Prefix>, prefix: Prefix)
     requires rising { IsRising list.old.items }
     requires has { Contains list.old.items prefix }
-    ensures rising { IsRising list.new.items }
-    ensures items { IsRemoved list.old.items list.new.items prefix }
     ensures is { list.new.items ≡ without prefix.address list.old.items }
-    ensures len { vec_len list.new + 1 ≡ vec_len list.old }
     ensures capacity { vec_capacity list.new ≡ vec_capacity list.old }
 {
     let Some(i) = find_prefix(list, prefix) else {

@@ -20,11 +20,15 @@ fn root(address: u128, length: u8) -> RootPrefix {
     RootPrefix { address, length }
 }
 
+/// What may be moved to threads and shared by them.
+fn may_cross<T: Send + Sync>(_value: &T) {}
+
 #[test]
 fn pool_merges(rt: HostRuntime) -> Result<(), Fail> {
     let whole = prefix(BASE, 48)?;
     let part = prefix(BASE, 56)?;
     let mut pool = Pool::open(rt.alloc(), &[root(BASE, 48)])?;
+    may_cross(&pool);
     assert_eq!(rt; pool.take(47), None);
     assert_eq!(rt; pool.take(56), Some(part));
     assert_eq!(rt; pool.free(0), Some(prefix(BASE + STEP, 56)?));

@@ -1,47 +1,52 @@
-//! A tool for GRASP (RFC 8990): `show` writes a line for each message of a stream, `pack` a message for each line, and
-//! `replay` what each event of a script of two nodes comes to.
+//! The tool `grasp_replay`: one call of `grasp_tasks` over the standard streams.
 #![tactic(auto)]
 
-mod exit;
-mod laws;
-mod lines;
-mod made;
-mod pack;
-mod program;
-mod replay;
-#[cfg(test)]
-mod script_tests;
-mod show;
-mod start;
-mod task;
-#[cfg(test)]
-mod tests;
-
-use exit::{Status, fault_line};
 use grasp_io::{StdSink, StdSource};
-use program::replay_main;
-use start::{text_for, words};
+use grasp_tasks::{Status, finish, print_text, replay_main, text_for};
+use std::env;
+use std::io::ErrorKind;
 use std::process::ExitCode;
+use std::rt::Env;
 
 fn main(rt: HostRuntime) -> ExitCode {
     let status = match words(&rt) {
-        Ok(words) => match text_for(&words) {
-            Some(text) => match rt.print(text) {
-                Ok(()) => Status::Ok,
-                Err(_) => Status::WriteFault,
-            },
-            None => {
-                let mut source = StdSource::new(rt.stdin());
-                let mut sink = StdSink::new(rt.stdout());
-                replay_main(rt.alloc(), &words, &mut source, &mut sink)
-            }
-        },
+        Ok(words) => answer(&rt, &words),
         Err(status) => status,
     };
-    if let Ok(line) = fault_line(rt.alloc(), &status) {
-        if line.len() != 0 {
-            let _ = rt.eprintln(line.text());
+    let mut errors = StdSink::new(rt.stderr());
+    ExitCode::from(finish(rt.alloc(), &status, &mut errors))
+}
+
+/// Does what the words ask for.
+fn answer(rt: &HostRuntime, words: &[String]) -> Status {
+    let mut sink = StdSink::new(rt.stdout());
+    match text_for(words) {
+        Some(text) => print_text(text.text(), &mut sink),
+        None => replay_main(
+            rt.alloc(),
+            words,
+            &mut StdSource::new(rt.stdin()),
+            &mut sink,
+        ),
+    }
+}
+
+/// The words after the program's name. A word that isn't UTF-8 is no task's.
+fn words<R: Env + AllocGlobal>(rt: &R) -> Result<Vec<String>, Status> {
+    match env::args(rt) {
+        Ok(args) => words_of(rt, args),
+        Err(error) if error.kind() == ErrorKind::OutOfMemory => Err(Status::OutOfMemory),
+        Err(_) => Err(Status::Usage),
+    }
+}
+
+fn words_of<R: AllocGlobal>(rt: &R, mut args: env::Args) -> Result<Vec<String>, Status> {
+    let mut words = Vec::new(rt.alloc());
+    let _ = args.next();
+    for word in args {
+        if words.push(word).is_err() {
+            return Err(Status::OutOfMemory);
         }
     }
-    ExitCode::from(status.number())
+    Ok(words)
 }

@@ -8,7 +8,7 @@ use Rattle.grasp_types.specs.declared.message.Message.{Message}
 use Rattle.grasp_types.specs.declared.message.Message.TheVariants.{ReqNeg, Negotiate, Wait, End, Invalid}
 use Rattle.grasp_session.specs.Conversation.{Said, says}
 use Rattle.grasp_session.specs.Transcript.{Entry, Transcript, Mark, Faulty, is_over, is_going, is_mine, marked, with_mark, opening, Saying, SayStep, SayWait, SayEnd, SayInvalid, refusal, act_of, message_of, with_sent, after_said, receive, receive_going, with_kept, after_heard, Deed, Does, Gets, Suffers, after_deed}
-use Rattle.grasp_session.specs.Talk.{Marks, Cause, mark_of, Stage, Absent, Refused, Present, Party, Talk, quiet, party, talk_of, in_stage, handed, spoke, having_taken, took, Move, Requests, OpensFar, RefusesFar, Says, Hears, requests, opens_at, opens, refuses_at, refuses, says_checked, says_at, hears_next, marks_at, moved, run}
+use Rattle.grasp_session.specs.Talk.{Marks, Cause, mark_of, Stage, Absent, Refused, Present, Party, Talk, quiet, party, talk_of, in_stage, handed, spoke, having_taken, took, Move, Requests, OpensFar, RefusesFar, Says, Hears, requests, opens_at, opens, refuses_at, refuses, says_checked, says_at, hears_next, marks_at, moved, run, Reached}
 use Rattle.grasp_session.specs.declared.answer.SessionRefused.{SessionRefused}
 use Rattle.grasp_session.specs.declared.answer.SessionRefused.TheVariants.{NotYourTurn}
 use Rattle.grasp_session.specs.declared.answer.Received.{Received}
@@ -124,8 +124,8 @@ module _ (Q : Side → Stage → Type 0) (keeps : Kept_by_moves Q) where
   run_both t [] b = b
   run_both t (m ∷ ms) b = run_both (moved t m) ms (moved_both t m b)
 
-  pub run_stage : (ms : List Move) (side : Side) → Q side (party (run quiet ms) side).stage
-  run_stage ms side = both_at Q (run quiet ms) side (run_both quiet ms (record { near = keeps.absent Near; far = keeps.absent Far }))
+  pub run_stage : (t : Talk) → Reached t → (side : Side) → Q side (party t side).stage
+  run_stage t r side = both_at Q t side (subst (Both Q) (sym r.ran) (run_both quiet r.moves (record { near = keeps.absent Near; far = keeps.absent Far })))
 
 -- marks stand on views without an outcome, and only the newest message is a last one
 abbrev pub tail_over : List Entry → Bool
@@ -180,5 +180,5 @@ TidyStage side (Present v) = Tidy v
 tidy_kept_by : Kept_by_moves TidyStage
 tidy_kept_by = record { absent = λ side. tt; refused = tt; opens = λ role timeout now session o. record { unmarked = inl refl; tail = refl }; deeds = λ side v d. tidy_deed v d }
 
-pub tidy_run : (ms : List Move) (side : Side) (v : Transcript) → (party (run quiet ms) side).stage ≡ Present v → Tidy v
-tidy_run ms side v e = subst (TidyStage side) e (run_stage TidyStage tidy_kept_by ms side)
+pub tidy_run : (t : Talk) → Reached t → (side : Side) (v : Transcript) → (party t side).stage ≡ Present v → Tidy v
+tidy_run t r side v e = subst (TidyStage side) e (run_stage TidyStage tidy_kept_by t r side)

@@ -1,9 +1,9 @@
 -- What each call does to the sessions that a table keeps.
-use Rattle.std.proofs.Common.{◌≡◌, ◌≢◌, ℕ, ◌+◌, ◌-◌, ◌^◌, ◌<◌, Bool, true, false, cond, not, ◌&&◌, ◌||◌, List, Option, Some, None, Result, Ok, Err, is_some, is_none, IfOk, OnErr, IfSome, Bor, count_by, slice_index_or, slice_set, nat_lt, nat_le, ◌==◌, bytes_eq, if◌then◌else◌, refl, sym, ap, ◌∙◌, subst, arith}
+use Rattle.std.proofs.Common.{◌≡◌, ℕ, zero, suc, ◌+◌, ◌<◌, Bool, true, false, cond, not, ◌&&◌, List, Option, Some, None, Result, Ok, Err, is_some, is_none, IfOk, OnErr, IfSome, Bor, count_by, slice_set, nat_lt, nat_le, ◌==◌, bytes_eq, if◌then◌else◌, refl, sym, ap, ◌∙◌, subst, arith}
 use Rattle.std.proofs.lemmas.Bool.{false≢true, true≢false, and_parts, and_from, and_right, cond-true, cond-false, eq-eqb, eqb-true}
+use Rattle.std.specs.List.{position}
 use Rattle.std.proofs.lemmas.List.{length-set}
 use Rattle.grasp_types.specs.declared.message.Message.{Message}
-use Rattle.grasp_types.specs.declared.message.Message.TheVariants.{End}
 use Rattle.grasp_types.specs.declared.message.Verdict.{Verdict}
 use Rattle.grasp_types.specs.declared.objective.Objective.{Objective}
 use Rattle.grasp_types.specs.declared.session.Handle.{Handle}
@@ -14,16 +14,17 @@ use Rattle.grasp_session.specs.declared.answer.Act.TheVariants as act
 use Rattle.grasp_session.specs.declared.answer.Received.{Received}
 use Rattle.grasp_session.specs.declared.answer.Received.TheVariants.{Kept, Ignored, Bad}
 use Rattle.grasp_session.specs.declared.answer.SessionRefused.{SessionRefused}
-use Rattle.grasp_session.specs.declared.answer.SessionRefused.TheVariants.{NoSession, NotYourTurn, LoopsSpent, WaitsSpent}
+use Rattle.grasp_session.specs.declared.answer.SessionRefused.TheVariants.{SessionsFull, NoSession, NotYourTurn, LoopsSpent, WaitsSpent}
 use Rattle.grasp_session.specs.declared.begin.Begin.{Begin}
 use Rattle.grasp_session.specs.declared.session.Session.{Session}
 use Rattle.grasp_session.specs.declared.table.Table.{Table}
-use Rattle.grasp_session.specs.declared.wanted.Wanted.TheVariants.{OnStream, Due, Untaken}
+use Rattle.grasp_session.specs.declared.wanted.Wanted.TheVariants.{OnStream, Due, Untaken, UntakenAbove}
 use Rattle.grasp_session.specs.Transcript.{Mark, Expired, Saying, SayEnd, message_of, having_said, receive, after_received, with_mark, is_going, is_mine, outcome_of, peer_offer, last_offer, session_of}
-use Rattle.grasp_session.specs.Keeps.{Keeps, refusal_in, leaves_in, offer_in, ended_with}
-use Rattle.grasp_session.specs.Sessions.{SessionState, Sessions, with_transcript, with_owner, begun_state, if_owner, if_refused, session_at, session_owned, on_stream, due, stream_of, with_place, left, is_leaving, changed, live_count, is_full, MayStart, after_start, say_reply, after_say, MayStarve, receive_reply, after_receive, poll_reply, IsTurn, MayPoll, after_poll, mark_at, after_mark, expire_reply, after_expire, state_reply, stream_reply, session_reply, last_reply, adopt_reply, after_adopt, after_remove}
-use Rattle.grasp_session.specs.Stands.{Stands, StandsAt, kept_at, kept_owned, answer_in, check_answer, state_at, state_answer, oldest_in, fits_at, full_in, settled, IsUntaken, owner_in}
-use Rattle.grasp_session.proofs.Tables.{slot, zip_slot, zip_count, zip_set, Found, find, oldest_stands, put_back, put_stands, back_stands, left_stands, settled_stands, reply_at, say_stands}
+use Rattle.grasp_session.specs.declared.session.Ending.{Ending}
+use Rattle.grasp_session.specs.Keeps.{Keeps, refusal_in, leaves_in, offer_in, ending_of, ended_with}
+use Rattle.grasp_session.specs.Sessions.{SessionState, Sessions, with_transcript, with_owner, begun_state, if_owner, if_refused, session_at, session_owned, on_stream, due, stream_of, with_place, left, is_leaving, changed, live_count, is_full, start_reply, after_start, MayRefuse, say_reply, after_say, receive_reply, after_receive, poll_reply, IsTurn, MayPoll, after_poll, mark_at, after_mark, expire_reply, after_expire, state_reply, stream_reply, session_reply, last_reply, adopt_reply, after_adopt, after_remove}
+use Rattle.grasp_session.specs.Stands.{Stands, kept_at, kept_owned, answer_in, check_answer, state_at, state_answer, oldest_in, fits_at, full_in, settled, IsUntaken, owner_in}
+use Rattle.grasp_session.proofs.Tables.{zip_count, place_same, zip_set, Found, find, oldest_stands, put_back, put_stands, back_stands, left_stands, settled_stands, reply_at, say_stands}
 
 -- what has an answer in every case
 pub if_ok_map : {A E : Type 0} (P Q : A → Type 0) (r : Result A E) → ((a : A) → P a → Q a) → IfOk r P → IfOk r Q
@@ -45,6 +46,27 @@ not_some_none (Some x) e = absurd (true≢false e)
 some_not_none : {A : Type 0} (o : Option A) → is_some o ≡ not (is_none o)
 some_not_none None = refl
 some_not_none (Some x) = refl
+
+-- a refusal of an act
+pub refused_may : (s : Session) (a : Act) (refused : SessionRefused) → Some refused ≡ refusal_in s a → MayRefuse a refused
+refused_may s act.Step refused e = by_test (is_none s.ending && s.my_turn) (nat_lt 1 (offer_in s).loops) e where
+  by_test : (b c : Bool) → Some refused ≡ cond b (cond c None (Some LoopsSpent)) (Some NotYourTurn) → MayRefuse act.Step refused
+  by_test true true f = absurd (cc)
+  by_test true false f = let same : LoopsSpent ≡ refused = cc in subst (MayRefuse act.Step) same tt
+  by_test false c f = let same : NotYourTurn ≡ refused = cc in subst (MayRefuse act.Step) same tt
+refused_may s act.Wait refused e = by_test (is_none s.ending && s.my_turn) (nat_lt s.waits 4) e where
+  by_test : (b c : Bool) → Some refused ≡ cond b (cond c None (Some WaitsSpent)) (Some NotYourTurn) → MayRefuse act.Wait refused
+  by_test true true f = absurd (cc)
+  by_test true false f = let same : WaitsSpent ≡ refused = cc in subst (MayRefuse act.Wait) same tt
+  by_test false c f = let same : NotYourTurn ≡ refused = cc in subst (MayRefuse act.Wait) same tt
+refused_may s act.End refused e = by_test (is_none s.ending && s.my_turn) e where
+  by_test : (b : Bool) → Some refused ≡ cond b None (Some NotYourTurn) → MayRefuse act.End refused
+  by_test true f = absurd (cc)
+  by_test false f = let same : NotYourTurn ≡ refused = cc in subst (MayRefuse act.End) same tt
+refused_may s act.Invalid refused e = by_test (is_none s.ending) e where
+  by_test : (b : Bool) → Some refused ≡ cond b None (Some NotYourTurn) → MayRefuse act.Invalid refused
+  by_test true f = absurd (cc)
+  by_test false f = let same : NotYourTurn ≡ refused = cc in subst (MayRefuse act.Invalid) same tt
 
 -- the step and the end that find no memory
 going_refusal : (s : Session) (a : Act) → if_refused (refusal_in s a) ≡ Ok tt → is_none s.ending ≡ true
@@ -95,10 +117,11 @@ pub say_ok : (t u v : Table) (z : Sessions) (h : Handle) (now : ℕ) (saying : S
     → Stands t z → (m ≡ say_reply z h saying) × Stands v (after_say z now h saying)
 say_ok t u v z h now saying s r m e a b f st = say_stands t u v z h now saying s r m st e f a b
 
--- the end of a session that an agent has taken
-pub starves_taken : {A E : Type 0} (r : Result A E) (owner : ℕ) (verdict : Verdict) → OnErr r (0 < owner → MayStarve owner verdict) → 0 < owner → OnErr r (MayStarve owner verdict)
-starves_taken (Ok a) owner verdict f taken = tt
-starves_taken (Err e) owner verdict f taken = f taken
+-- what a session that is kept would say
+pub message_is : (t : Table) (z : Sessions) (h : Handle) (saying : Saying) (s : Session) (m : Message) → Some s ≡ kept_at t.places h → ((x : SessionState) → Keeps s x → m ≡ message_of x.view saying) → Stands t z → m ≡ say_reply z h saying
+message_is t z h saying s m e f st = by_found (find t z h s st (sym e)) where
+  by_found : Found z h s → m ≡ say_reply z h saying
+  by_found q = rw q.is (f q.state q.keeps)
 
 -- the end of a session that no agent has taken
 checked_owner : (t : Table) (owner : ℕ) (h : Handle) (a : Act) (s : Session) → check_answer t owner h a ≡ Ok tt → kept_at t.places h ≡ Some s → s.owner ≡ owner
@@ -110,15 +133,30 @@ checked_owner t owner h a s e k = by_test (s.owner == owner) refl (subst (λ o. 
 end_leaves : (x : SessionState) (now : ℕ) (verdict : Verdict) → x.owner ≡ 0 → is_leaving (with_transcript x (having_said x.view now (SayEnd verdict))) ≡ true
 end_leaves x now verdict e = and_from (x.owner == 0) (not (is_none x.view.mark && false)) (eq-eqb x.owner 0 e) (ap not (and_right (is_none x.view.mark) false refl))
 
-pub end_untaken : (t u : Table) (z : Sessions) (h : Handle) (now : ℕ) (verdict : Verdict) (s : Session) → check_answer t 0 h act.End ≡ Ok tt → kept_at t.places h ≡ Some s → u ≡ record t { places = slice_set t.places h.place None }
-    → Stands t z → (End s.session verdict ≡ say_reply z h (SayEnd verdict)) × Stands u (after_say z now h (SayEnd verdict))
-end_untaken t u z h now verdict s allowed e a st = by_found (find t z h s st e) where
-  by_found : Found z h s → (End s.session verdict ≡ say_reply z h (SayEnd verdict)) × Stands u (after_say z now h (SayEnd verdict))
-  by_found q =
-      let own : q.state.owner ≡ 0 = sym q.keeps.owner ∙ checked_owner t 0 h act.End s allowed e in
-      let over : is_leaving (with_transcript q.state (having_said q.state.view now (SayEnd verdict))) ≡ true = end_leaves q.state now verdict own in
+-- an end, which is kept where an agent has taken the session
+pub end_done : (t u v : Table) (z : Sessions) (h : Handle) (now owner : ℕ) (verdict : Verdict) (ending : Ending) (s r : Session) (m : Message) → Stands t z → check_answer t owner h act.End ≡ Ok tt → kept_at t.places h ≡ Some s
+    → (0 < owner → ending ≡ ending_of verdict)
+    → ((x : SessionState) → Keeps s x → m ≡ message_of x.view (SayEnd verdict))
+    → ((x : SessionState) → ending ≡ ending_of verdict → Keeps s x → Keeps r (with_transcript x (having_said x.view now (SayEnd verdict))))
+    → leaves_in r ≡ (s.owner == 0) → u ≡ record t { places = slice_set t.places h.place None } → v ≡ record u { places = settled u.places h.place r }
+    → (m ≡ say_reply z h (SayEnd verdict)) × Stands v (after_say z now h (SayEnd verdict))
+end_done t u v z h now owner verdict ending s r m st allowed e kept says keeps over a b = by_found (find t z h s st e) where
+  own : s.owner ≡ owner
+  own = checked_owner t owner h act.End s allowed e
+
+  untaken : Found z h s → owner ≡ 0 → (m ≡ say_reply z h (SayEnd verdict)) × Stands v (after_say z now h (SayEnd verdict))
+  untaken q none =
+      let left_it : is_leaving (with_transcript q.state (having_said q.state.view now (SayEnd verdict))) ≡ true = end_leaves q.state now verdict (sym q.keeps.owner ∙ (own ∙ none)) in
+      let gone : leaves_in r ≡ true = over ∙ eq-eqb s.owner 0 (own ∙ none) in
       let back : Stands (put_back t h (slice_set t.places h.place None)) (left z h (with_transcript q.state (having_said q.state.view now (SayEnd verdict)))) = left_stands t z h (with_transcript q.state (having_said q.state.view now (SayEnd verdict))) st in
-      (rw q.is (ap (λ (n : ℕ). End n verdict) q.keeps.session), rw (q.is, over, a) back)
+      (rw q.is (says q.state q.keeps), rw (q.is, left_it, b, gone, a) back)
+
+  by_owner : Found z h s → (n : ℕ) → owner ≡ n → (m ≡ say_reply z h (SayEnd verdict)) × Stands v (after_say z now h (SayEnd verdict))
+  by_owner q zero f = untaken q f
+  by_owner q (suc n) f = say_ok t u v z h now (SayEnd verdict) s r m e a b (λ x k. (says x k, keeps x (kept (omega (arith, f))) k)) st
+
+  by_found : Found z h s → (m ≡ say_reply z h (SayEnd verdict)) × Stands v (after_say z now h (SayEnd verdict))
+  by_found q = by_owner q owner refl
 
 -- a message that comes
 stream_found : (t : Table) (z : Sessions) (stream : ℕ) (o : Option Handle) → Stands t z → o ≡ oldest_in (OnStream stream) t.places → on_stream z stream ≡ o
@@ -289,6 +327,12 @@ pub untaken_fits : (name : Bor (List ℕ)) (o : Option Session) → fits_at (Unt
 untaken_fits name None e = absurd (false≢true e)
 untaken_fits name (Some s) e = ap (λ (n : ℕ). Some n) (eqb-true s.owner 0 (and_parts (s.owner == 0) (bytes_eq s.request.name name.now) e).0)
 
+pub untaken_above_fits : (name : Bor (List ℕ)) (number : ℕ) (o : Option Session) → fits_at (UntakenAbove name number) o ≡ true → owner_in o ≡ Some 0
+untaken_above_fits name number None e = absurd (false≢true e)
+untaken_above_fits name number (Some s) e =
+    let front = and_parts (nat_lt number s.number && (s.owner == 0)) (bytes_eq s.request.name name.now) e in
+    ap (λ (n : ℕ). Some n) (eqb-true s.owner 0 (and_parts (nat_lt number s.number) (s.owner == 0) front.0).1)
+
 -- a session that an agent has not taken
 pub untaken_owner : (t : Table) (h : Handle) (s : Session) → IsUntaken t h → kept_at t.places h ≡ Some s → s.owner ≡ 0
 untaken_owner t h s u e = some_same s.owner (subst (λ o. owner_in o ≡ Some 0) e u) where
@@ -313,6 +357,8 @@ owned_keeps s r x owner e k = subst (λ w. Keeps w (with_owner x owner)) (sym e)
   going = k.going;
   theirs = k.theirs;
   mine = k.mine;
+  named = k.named;
+  flagged = k.flagged;
 })
 
 pub adopt_done : (t u v : Table) (z : Sessions) (owner : ℕ) (h : Handle) (s r : Session) (o : Objective) → Stands t z → kept_at t.places h ≡ Some s → r ≡ record s { owner = owner } → o ≡ s.request
@@ -421,29 +467,19 @@ poll_ended t u z owner h s r o st e f g a = by_owned (find_owned t z owner h s s
       (rw (q.owned, over) refl, rw (q.is, a) back)
 
 -- start
-pub start_full : (t : Table) (z : Sessions) (now : ℕ) (begin : Begin) → Stands t z → full_in t ≡ true → MayStart z (Err Rattle.grasp_session.specs.declared.answer.SessionRefused.TheVariants.SessionsFull) × Stands t (after_start z now begin (Err Rattle.grasp_session.specs.declared.answer.SessionRefused.TheVariants.SessionsFull))
-start_full t z now begin st e = (sym (full_same t z st) ∙ e, st)
+pub start_full : (t : Table) (z : Sessions) (now : ℕ) (begin : Begin) → Stands t z → full_in t ≡ true → (Err SessionsFull ≡ start_reply z) × Stands t (after_start z now begin (Err SessionsFull))
+start_full t z now begin st e = (rw (sym (full_same t z st) ∙ e) refl, st)
 
-pub count_full : (t : Table) → count_by is_some t.places ≡ 64 → full_in t ≡ true
-count_full t e = rw e refl
+pub start_none : (t : Table) (z : Sessions) (now : ℕ) (begin : Begin) → Stands t z → full_in t ≡ false → None ≡ position is_none t.places
+    → (Err SessionsFull ≡ start_reply z) × Stands t (after_start z now begin (Err SessionsFull))
+start_none t z now begin st e p = (rw (sym (full_same t z st) ∙ e, sym (place_same t z st) ∙ sym p) refl, st)
 
-pub number_left : (t : Table) → full_in t ≡ false → t.made < 18446744073709551616 → t.made + 1 < 18446744073709551616
-number_left t e f = by_test (nat_le 64 (count_by is_some t.places)) (t.made == 2 ^ 64 - 1) refl e where
-  by_test : (a b : Bool) → t.made == 2 ^ 64 - 1 ≡ b → a || b ≡ false → t.made + 1 < 18446744073709551616
-  by_test true b g i = absurd (true≢false i)
-  by_test false true g i = absurd (true≢false i)
-  by_test false false g i = omega (arith, f, not_last) where
-    not_last : t.made ≢ 18446744073709551615
-    not_last e = true≢false (sym (eq-eqb t.made 18446744073709551615 e) ∙ g)
-
-pub start_done : (t v : Table) (z : Sessions) (now place : ℕ) (begin : Begin) (s : Session) → Stands t z → full_in t ≡ false → place < 64 → slice_index_or t.places place None ≡ None → Keeps s (begun_state now (t.made + 1) begin)
+pub start_done : (t v : Table) (z : Sessions) (now place : ℕ) (begin : Begin) (s : Session) → Stands t z → full_in t ≡ false → Some place ≡ position is_none t.places → Keeps s (begun_state now (t.made + 1) begin)
     → v ≡ record { made = t.made + 1; places = slice_set t.places place (Some s) }
-    → MayStart z (Ok (record { place = place; number = t.made + 1 })) × Stands v (after_start z now begin (Ok (record { place = place; number = t.made + 1 })))
-start_done t v z now place begin s st e p n k b = (record { not_full = sym (full_same t z st) ∙ e; place = p; empty = empty_state (slot t.places place) (slot z.places place) (zip_slot t.places z.places st.places place) n; number = ap (λ n. n + 1) st.made }, rw b new) where
-  empty_state : (o : Option Session) (q : Option SessionState) → StandsAt o q → o ≡ None → q ≡ None
-  empty_state None None h e = refl
-  empty_state None (Some x) h e = absurd h
-  empty_state (Some r) q h e = absurd (cc)
+    → (Ok (record { place = place; number = t.made + 1 }) ≡ start_reply z) × Stands v (after_start z now begin (Ok (record { place = place; number = t.made + 1 })))
+start_done t v z now place begin s st e p k b = (rw (sym (full_same t z st) ∙ e, sym (place_same t z st) ∙ sym p) (ap handle st.made), rw b new) where
+  handle : ℕ → Result Handle SessionRefused
+  handle n = Ok (record { place = place; number = n + 1 })
 
   new : Stands (record { made = t.made + 1; places = slice_set t.places place (Some s) }) (record { made = t.made + 1; places = slice_set z.places place (Some (begun_state now (t.made + 1) begin)); gone = z.gone })
   new = record { made = refl; long = length-set t.places place (Some s) ∙ st.long; places = zip_set t.places z.places st.places place (Some s) (Some (begun_state now (t.made + 1) begin)) k }

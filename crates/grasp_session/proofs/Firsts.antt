@@ -7,7 +7,7 @@ use Rattle.grasp_types.specs.declared.message.Message.{Message}
 use Rattle.grasp_types.specs.declared.message.Message.TheVariants.{ReqNeg}
 use Rattle.grasp_session.specs.Conversation.{spoken}
 use Rattle.grasp_session.specs.Transcript.{Mark, Transcript, sent_of, is_going, marked, with_mark, opening, Saying, refusal, act_of, message_of, after_said, receive, after_heard, Deed, Does, Gets, Suffers, after_deed}
-use Rattle.grasp_session.specs.Talk.{Stage, Absent, Refused, Present, Talk, quiet, run}
+use Rattle.grasp_session.specs.Talk.{Stage, Absent, Refused, Present, Talk}
 use Rattle.grasp_session.specs.declared.answer.SessionRefused.{SessionRefused}
 use Rattle.grasp_session.specs.declared.answer.Received.{Received}
 use Rattle.grasp_session.specs.declared.answer.Received.TheVariants.{Kept, Ignored, Bad}
@@ -74,4 +74,4 @@ by_stage t Refused s n = absurd n
 by_stage t (Present v) s n = inr (n.session, n.objective, reverse n.later, ap reverse (s.own ∙ n.are) ∙ reversed n.later (ReqNeg n.session n.objective))
 
 pub first_is_request : FirstIsRequest
-first_is_request ms = by_stage (run quiet ms) (run quiet ms).near.stage (sound ms).near (run_stage NearStage near_kept ms Near)
+first_is_request t r = by_stage t t.near.stage (sound t r).near (run_stage NearStage near_kept t r Near)

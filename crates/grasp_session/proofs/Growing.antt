@@ -8,31 +8,40 @@ use Rattle.grasp_types.specs.declared.message.Message.TheVariants.{ReqNeg, Negot
 use Rattle.grasp_session.specs.Conversation.{Said, says, strip, MayFollow, IsLegal}
 use Rattle.grasp_session.specs.Transcript.{Transcript, Saying, refusal, act_of, message_of}
 use Rattle.grasp_session.specs.declared.answer.SessionRefused.{SessionRefused}
-use Rattle.grasp_session.specs.Talk.{Cause, Stage, Absent, Refused, Present, Talk, quiet, party, talk_of, Party, Move, Requests, OpensFar, RefusesFar, Says, Hears, Marks, requests, opens_at, opens, refuses_at, refuses, says_checked, says_at, hears_next, marks_at, moved, run}
+use Rattle.grasp_session.specs.Talk.{Cause, Stage, Absent, Refused, Present, Talk, party, talk_of, Party, Move, Requests, OpensFar, RefusesFar, Says, Hears, Marks, requests, opens_at, opens, refuses_at, refuses, says_checked, says_at, hears_next, marks_at, moved}
 use Rattle.grasp_session.specs.Laws.{MovesFollow}
 use Rattle.grasp_session.proofs.Moves.{moved_sound}
 use Rattle.grasp_session.proofs.Ends.{sound}
 
--- the same, or one message more
-abbrev Grown : List Said → List Said → Type 0
-Grown old new = (new ≡ old) ⊎ ((x : Said) × (new ≡ x ∷ old))
+-- what a move may add to the conversation
+abbrev pub Adds : Move → Said → Type 0
+Adds (Requests now timeout session o) x = x ≡ says Near (ReqNeg session o)
+Adds (OpensFar now timeout) x = ⊥
+Adds (RefusesFar reason) x = (session : ℕ) × (x ≡ says Far (End session (Decline reason)))
+Adds (Says side now s) x = (v : Transcript) × (x ≡ says side (message_of v s))
+Adds (Hears side now) x = ⊥
+Adds (Marks side cause) x = ⊥
+
+-- the same, or one message more of such ones
+abbrev pub Grown : (Said → Type 0) → List Said → List Said → Type 0
+Grown P old new = (new ≡ old) ⊎ ((x : Said) × (new ≡ x ∷ old) × P x)
 
 said_of-talk : (side : Side) (said : List Said) (mine theirs : Party) → (talk_of side said mine theirs).said ≡ said
 said_of-talk Near said mine theirs = refl
 said_of-talk Far said mine theirs = refl
 
-stays_grown : (t : Talk) (side : Side) (mine theirs : Party) → Grown t.said (talk_of side t.said mine theirs).said
-stays_grown t side mine theirs = inl (said_of-talk side t.said mine theirs)
+stays_grown : (P : Said → Type 0) (t : Talk) (side : Side) (mine theirs : Party) → Grown P t.said (talk_of side t.said mine theirs).said
+stays_grown P t side mine theirs = inl (said_of-talk side t.said mine theirs)
 
-spoke_grown : (old : List Said) (side : Side) (m : Message) (mine theirs : Party) → Grown old (talk_of side (says side m ∷ old) mine theirs).said
-spoke_grown old side m mine theirs = inr (says side m, said_of-talk side (says side m ∷ old) mine theirs)
+spoke_grown : (P : Said → Type 0) (old : List Said) (side : Side) (m : Message) (mine theirs : Party) → P (says side m) → Grown P old (talk_of side (says side m ∷ old) mine theirs).said
+spoke_grown P old side m mine theirs p = inr (says side m, said_of-talk side (says side m ∷ old) mine theirs, p)
 
-requests_grown : (t : Talk) (now timeout session : ℕ) (o : Objective) (stage : Stage) → Grown t.said (requests t now timeout session o stage).said
-requests_grown t now timeout session o Absent = inr (says Near (ReqNeg session o), refl)
+requests_grown : (t : Talk) (now timeout session : ℕ) (o : Objective) (stage : Stage) → Grown (Adds (Requests now timeout session o)) t.said (requests t now timeout session o stage).said
+requests_grown t now timeout session o Absent = inr (says Near (ReqNeg session o), refl, refl)
 requests_grown t now timeout session o Refused = inl refl
 requests_grown t now timeout session o (Present v) = inl refl
 
-opens_at_grown : (t : Talk) (now timeout : ℕ) (inbox : List Message) → Grown t.said (opens_at t now timeout inbox).said
+opens_at_grown : (t : Talk) (now timeout : ℕ) (inbox : List Message) → Grown (Adds (OpensFar now timeout)) t.said (opens_at t now timeout inbox).said
 opens_at_grown t now timeout [] = inl refl
 opens_at_grown t now timeout (ReqNeg session o ∷ left) = inl refl
 opens_at_grown t now timeout (Negotiate n o ∷ left) = inl refl
@@ -41,46 +50,46 @@ opens_at_grown t now timeout (End n v ∷ left) = inl refl
 opens_at_grown t now timeout (Invalid n d ∷ left) = inl refl
 opens_at_grown t now timeout (m ∷ left) = inl refl
 
-opens_grown : (t : Talk) (now timeout : ℕ) (stage : Stage) → Grown t.said (opens t now timeout stage).said
+opens_grown : (t : Talk) (now timeout : ℕ) (stage : Stage) → Grown (Adds (OpensFar now timeout)) t.said (opens t now timeout stage).said
 opens_grown t now timeout Absent = opens_at_grown t now timeout t.far.inbox
 opens_grown t now timeout Refused = inl refl
 opens_grown t now timeout (Present v) = inl refl
 
-refuses_at_grown : (t : Talk) (reason : Option (List ℕ)) (inbox : List Message) → Grown t.said (refuses_at t reason inbox).said
+refuses_at_grown : (t : Talk) (reason : Option (List ℕ)) (inbox : List Message) → Grown (Adds (RefusesFar reason)) t.said (refuses_at t reason inbox).said
 refuses_at_grown t reason [] = inl refl
-refuses_at_grown t reason (ReqNeg session o ∷ left) = inr (says Far (End session (Decline reason)), refl)
+refuses_at_grown t reason (ReqNeg session o ∷ left) = inr (says Far (End session (Decline reason)), refl, (session, refl))
 refuses_at_grown t reason (Negotiate n o ∷ left) = inl refl
 refuses_at_grown t reason (Wait n millis ∷ left) = inl refl
 refuses_at_grown t reason (End n v ∷ left) = inl refl
 refuses_at_grown t reason (Invalid n d ∷ left) = inl refl
 refuses_at_grown t reason (m ∷ left) = inl refl
 
-refuses_grown : (t : Talk) (reason : Option (List ℕ)) (stage : Stage) → Grown t.said (refuses t reason stage).said
+refuses_grown : (t : Talk) (reason : Option (List ℕ)) (stage : Stage) → Grown (Adds (RefusesFar reason)) t.said (refuses t reason stage).said
 refuses_grown t reason Absent = refuses_at_grown t reason t.far.inbox
 refuses_grown t reason Refused = inl refl
 refuses_grown t reason (Present v) = inl refl
 
-says_checked_grown : (t : Talk) (side : Side) (now : ℕ) (sg : Saying) (v : Transcript) (c : Option SessionRefused) → Grown t.said (says_checked t side now sg v c).said
-says_checked_grown t side now sg v None = spoke_grown t.said side (message_of v sg) _ _
+says_checked_grown : (t : Talk) (side : Side) (now : ℕ) (sg : Saying) (v : Transcript) (c : Option SessionRefused) → Grown (Adds (Says side now sg)) t.said (says_checked t side now sg v c).said
+says_checked_grown t side now sg v None = spoke_grown (Adds (Says side now sg)) t.said side (message_of v sg) _ _ (v, refl)
 says_checked_grown t side now sg v (Some refused) = inl refl
 
-says_at_grown : (t : Talk) (side : Side) (now : ℕ) (sg : Saying) (stage : Stage) → Grown t.said (says_at t side now sg stage).said
+says_at_grown : (t : Talk) (side : Side) (now : ℕ) (sg : Saying) (stage : Stage) → Grown (Adds (Says side now sg)) t.said (says_at t side now sg stage).said
 says_at_grown t side now sg Absent = inl refl
 says_at_grown t side now sg Refused = inl refl
 says_at_grown t side now sg (Present v) = says_checked_grown t side now sg v (refusal v (act_of sg))
 
-hears_grown : (t : Talk) (side : Side) (now : ℕ) (stage : Stage) (inbox : List Message) → Grown t.said (hears_next t side now stage inbox).said
+hears_grown : (t : Talk) (side : Side) (now : ℕ) (stage : Stage) (inbox : List Message) → Grown (Adds (Hears side now)) t.said (hears_next t side now stage inbox).said
 hears_grown t side now stage [] = inl refl
 hears_grown t side now Absent (m ∷ left) = inl refl
-hears_grown t side now Refused (m ∷ left) = stays_grown t side _ _
-hears_grown t side now (Present v) (m ∷ left) = stays_grown t side _ _
+hears_grown t side now Refused (m ∷ left) = stays_grown (Adds (Hears side now)) t side _ _
+hears_grown t side now (Present v) (m ∷ left) = stays_grown (Adds (Hears side now)) t side _ _
 
-marks_grown : (t : Talk) (side : Side) (cause : Cause) (stage : Stage) → Grown t.said (marks_at t side cause stage).said
+marks_grown : (t : Talk) (side : Side) (cause : Cause) (stage : Stage) → Grown (Adds (Marks side cause)) t.said (marks_at t side cause stage).said
 marks_grown t side cause Absent = inl refl
 marks_grown t side cause Refused = inl refl
-marks_grown t side cause (Present v) = stays_grown t side _ _
+marks_grown t side cause (Present v) = stays_grown (Adds (Marks side cause)) t side _ _
 
-pub moved_grown : (t : Talk) (m : Move) → Grown t.said (moved t m).said
+pub moved_grown : (t : Talk) (m : Move) → Grown (Adds m) t.said (moved t m).said
 moved_grown t (Requests now timeout session o) = requests_grown t now timeout session o t.near.stage
 moved_grown t (OpensFar now timeout) = opens_grown t now timeout t.far.stage
 moved_grown t (RefusesFar reason) = refuses_grown t reason t.far.stage
@@ -88,7 +97,7 @@ moved_grown t (Says side now sg) = says_at_grown t side now sg (party t side).st
 moved_grown t (Hears side now) = hears_grown t side now (party t side).stage (party t side).inbox
 moved_grown t (Marks side cause) = marks_grown t side cause (party t side).stage
 
-abbrev Followed : List Said → List Said → Type 0
+abbrev pub Followed : List Said → List Said → Type 0
 Followed old new = (new ≡ old) ⊎ ((x : Said) × (new ≡ x ∷ old) × MayFollow old x)
 
 one_more : (s : Side) (m : Message) (c : List Said) → IsLegal (cond (is_invalid m) c (says s m ∷ c)) → Followed c (cond (is_invalid m) c (says s m ∷ c))
@@ -99,10 +108,10 @@ one_more s (End n v) c l = inr (says s (End n v), refl, l.0)
 one_more s (Invalid n d) c l = inl refl
 one_more s m c l = absurd l.0
 
-grown_follows : (old new : List Said) → Grown old new → IsLegal (strip new) → Followed (strip old) (strip new)
-grown_follows old new (inl e) l = inl (ap strip e)
-grown_follows old new (inr p) l =
+grown_follows : (P : Said → Type 0) (old new : List Said) → Grown P old new → IsLegal (strip new) → Followed (strip old) (strip new)
+grown_follows P old new (inl e) l = inl (ap strip e)
+grown_follows P old new (inr p) l =
     subst (λ (n : List Said). Followed (strip old) (strip n)) (sym p.1) (one_more p.0.side p.0.message (strip old) (subst (λ (n : List Said). IsLegal (strip n)) p.1 l))
 
 pub moves_follow : MovesFollow
-moves_follow ms m = grown_follows (run quiet ms).said (moved (run quiet ms) m).said (moved_grown (run quiet ms) m) (moved_sound (run quiet ms) m (sound ms)).legal
+moves_follow t r m = grown_follows (Adds m) t.said (moved t m).said (moved_grown t m) (moved_sound t m (sound t r)).legal

@@ -10,10 +10,11 @@ use Rattle.grasp_types.specs.declared.message.Message.{Message}
 use Rattle.grasp_types.specs.declared.message.Message.TheVariants.{ReqNeg, Negotiate, Wait, End, Invalid}
 use Rattle.grasp_session.specs.Conversation.{Said, says, spoken}
 use Rattle.grasp_session.specs.Transcript.{Transcript, kept_of, is_going, marked, with_mark, opening, Saying, refusal, act_of, message_of, with_sent, receive, receive_going, after_heard}
-use Rattle.grasp_session.specs.Talk.{Cause, mark_of, Stage, Absent, Refused, Present, Party, Talk, quiet, party, talk_of, in_stage, handed, spoke, having_taken, took, Move, Requests, OpensFar, RefusesFar, Says, Hears, Marks, requests, opens_at, opens, refuses_at, refuses, says_checked, says_at, hears_next, marks_at, moved, run}
+use Rattle.grasp_session.specs.Talk.{Cause, mark_of, Stage, Absent, Refused, Present, Party, Talk, quiet, party, talk_of, in_stage, handed, spoke, having_taken, took, Move, Requests, OpensFar, RefusesFar, Says, Hears, Marks, requests, opens_at, opens, refuses_at, refuses, says_checked, says_at, hears_next, marks_at, moved, run, Reached}
 use Rattle.grasp_session.specs.declared.answer.SessionRefused.{SessionRefused}
 use Rattle.grasp_session.specs.declared.answer.Received.TheVariants.{Kept, Ignored}
-use Rattle.grasp_session.specs.Laws.{HasTaken}
+use Rattle.grasp_session.specs.Laws.{HasTaken, TakenInOrder}
+use Rattle.grasp_session.specs.Moves.{AbsentTookNothing}
 use Rattle.grasp_session.proofs.Follows.{other_other}
 use Rattle.grasp_session.proofs.Views.{same_side, checked}
 use Rattle.grasp_session.proofs.Sound.{SoundTalk, SoundStage, SoundView, sound_party}
@@ -176,6 +177,11 @@ has_taken side said p i = record {
   kept_at : (v : Transcript) → p.stage ≡ Present v → KeptFirst v p.taken
   kept_at v e = subst (λ s. KeptAll s p.taken) e i.kept
 
-pub run_taken : (ms : List Move) (side : Side) → HasTaken side (run quiet ms).said (party (run quiet ms) side)
-run_taken ms side = has_taken side (run quiet ms).said (party (run quiet ms) side)
-    (inbox_at (run quiet ms) side (run_inboxes quiet ms quiet_sound (record { near = record { given = refl; kept = refl }; far = record { given = refl; kept = refl } })))
+inboxes : (t : Talk) → Reached t → Inboxes t
+inboxes t r = subst Inboxes (sym r.ran) (run_inboxes quiet r.moves quiet_sound (record { near = record { given = refl; kept = refl }; far = record { given = refl; kept = refl } }))
+
+pub absent_took : AbsentTookNothing
+absent_took t r side e = subst (λ s. KeptAll s (party t side).taken) e (inbox_at t side (inboxes t r)).kept
+
+pub run_taken : TakenInOrder
+run_taken t r side = has_taken side t.said (party t side) (inbox_at t side (inboxes t r))

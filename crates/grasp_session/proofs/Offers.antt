@@ -94,7 +94,7 @@ offered_step s (End n d) c f h = or_right (is_side (other (turn c)) s && false) 
 offered_step s (Invalid n d) c f h = absurd f
 offered_step s m c f h = absurd f
 
-turn_offered : (c : List Said) → IsLegal c → begun c ≡ true → has_offered (other (turn c)) c ≡ true
+pub turn_offered : (c : List Said) → IsLegal c → begun c ≡ true → has_offered (other (turn c)) c ≡ true
 turn_offered [] l b = absurd (false≢true b)
 turn_offered (x ∷ c) l b = offered_step x.side x.message c l.0 (turn_offered c l.1)
 

@@ -6,20 +6,20 @@ use Rattle.grasp_types.specs.declared.objective.Objective.{Objective}
 use Rattle.grasp_types.specs.declared.message.Verdict.TheVariants.{Accept, Decline}
 use Rattle.grasp_types.specs.declared.message.Message.{Message}
 use Rattle.grasp_types.specs.declared.message.Message.TheVariants.{Synch, ReqNeg, Negotiate, Wait, End, Invalid}
-use Rattle.grasp_session.specs.Conversation.{Said, says, strip, ended, turn, accepted_by, DeclinesWith, IsDeclined, newest_offer_by, IsLegal, Trails}
+use Rattle.grasp_session.specs.Conversation.{Said, says, strip, ended, accepted_by, DeclinesWith, IsDeclined, newest_offer_by, IsLegal, Trails}
 use Rattle.grasp_session.specs.Transcript.{Entry, Transcript, Mark, Expired, Closed, Starved, Faulty, side_of, said_of, known, is_over, is_going, is_mine, outcome_of, mark_outcome, entries_outcome, message_outcome, by_of, SayEnd, message_of, with_sent}
 use Rattle.grasp_types.specs.declared.session.By.{By}
 use Rattle.grasp_types.specs.declared.session.By.TheVariants.{Mine, Theirs}
 use Rattle.grasp_types.specs.declared.session.Outcome.TheVariants as outcome
 use Rattle.grasp_session.specs.Laws.{speaker, OutcomeSays, OutcomesSay, AcceptsTheLast}
-use Rattle.grasp_session.specs.Talk.{quiet, run}
 use Rattle.grasp_session.proofs.Follows.{other_other}
 use Rattle.grasp_session.proofs.Trailing.{trails_legal, still_whole}
-use Rattle.grasp_session.proofs.Views.{over_ended, going_parts, fine_turn, own_turn_of}
+use Rattle.grasp_session.proofs.Views.{over_ended, going_not_ended, fine_turn}
 use Rattle.grasp_session.proofs.Agreeing.{Reported, reported}
 use Rattle.grasp_session.proofs.Offers.{trails_offer, trails_unanswered, turn_unanswered}
 use Rattle.grasp_session.proofs.Built.{Tidy, tail_over, tidy_run, going_unmarked}
 use Rattle.grasp_session.proofs.Ends.{sound, sound_view}
+use Rattle.grasp_session.proofs.Turns.{turns_say}
 
 says_agreed : (side : Side) (said : List Said) (v : Transcript) (by : By) (o : Objective) → IsLegal (strip said) → v.role ≡ side → Trails side (known v) (strip said) → Reported v (known v) by o
     → (known v ≡ strip said) × (accepted_by (speaker side by) (strip said) ≡ true) × (o ≡ newest_offer_by (other (speaker side by)) (strip said))
@@ -88,21 +88,24 @@ tail_ended v e es same t = subst (λ (l : List Entry). tail_over l ≡ false) sa
 no_synch : (s : Side) (n : ℕ) (o : Objective) (m : Message) (c : List Said) → m ≡ Synch n o → IsLegal (cond (is_invalid m) c (says s m ∷ c)) → ⊥
 no_synch s n o m c e l = (subst (λ x. IsLegal (cond (is_invalid x) c (says s x ∷ c))) e l).0
 
+goes_on : (v : Transcript) → is_going v ≡ true → (is_going v ≡ true) × (ended (known v) ≡ false)
+goes_on v g = (g, going_not_ended v g)
+
 message_says : (side : Side) (said : List Said) (v : Transcript) (e : Entry) (es : List Entry) (m : Message) → e.message ≡ m → v.entries ≡ e ∷ es → v.mark ≡ None → Told side said v
     → outcome_of v ≡ message_outcome v e.sent m → OutcomeSays side said v (message_outcome v e.sent m)
-message_says side said v e es (ReqNeg n o) f g k t h = rw (k, g, f) refl
-message_says side said v e es (Negotiate n o) f g k t h = rw (k, g, f) refl
-message_says side said v e es (Wait n d) f g k t h = rw (k, g, f) refl
+message_says side said v e es (ReqNeg n o) f g k t h = goes_on v (rw (k, g, f) refl)
+message_says side said v e es (Negotiate n o) f g k t h = goes_on v (rw (k, g, f) refl)
+message_says side said v e es (Wait n d) f g k t h = goes_on v (rw (k, g, f) refl)
 message_says side said v e es (End n Accept) f g k t h = says_agreed side said v (by_of e.sent) _ t.legal t.role t.trails (reported v (by_of e.sent) _ h)
 message_says side said v e es (End n (Decline r)) f g k t h = says_declined side said v (by_of e.sent) r t.legal t.role t.trails (declined_entries v v.entries (by_of e.sent) r (sym (ap (mark_outcome v) k) ∙ h))
 message_says side said v e es (Invalid n d) f g k t h =
     let same : known v ≡ strip (said_of v.role es) = ap (λ (l : List Entry). strip (said_of v.role l)) g ∙ cond-true (is_invalid e.message) (strip (said_of v.role es)) (says (side_of v.role e.sent) e.message ∷ strip (said_of v.role es)) (ap is_invalid f) in
     ap ended same ∙ over_ended v.role es (tail_ended v e es g t.tidy)
 message_says side said v e es (Synch n o) f g k t h = absurd (no_synch (side_of v.role e.sent) n o e.message (strip (said_of v.role es)) f (subst (λ (l : List Entry). IsLegal (strip (said_of v.role l))) g (trails_legal side (known v) (strip said) t.legal t.trails)))
-message_says side said v e es m f g k t h = rw (k, g, f) refl
+message_says side said v e es m f g k t h = goes_on v (rw (k, g, f) refl)
 
 entries_say : (side : Side) (said : List Said) (v : Transcript) (es : List Entry) → v.entries ≡ es → v.mark ≡ None → Told side said v → outcome_of v ≡ entries_outcome v es → OutcomeSays side said v (entries_outcome v es)
-entries_say side said v [] g k t h = rw (k, g) refl
+entries_say side said v [] g k t h = goes_on v (rw (k, g) refl)
 entries_say side said v (e ∷ es) g k t h = message_says side said v e es e.message refl g k t h
 
 marked_ended : (side : Side) (said : List Said) (v : Transcript) (mark : Mark) → v.mark ≡ Some mark → Told side said v → ended (known v) ≡ false
@@ -119,28 +122,26 @@ mark_says side said v (Some Starved) k t = marked_ended side said v Starved k t
 mark_says side said v (Some Faulty) k t = marked_ended side said v Faulty k t
 
 pub outcomes_say : OutcomesSay
-outcomes_say ms side v e =
-    let s = sound_view ms side v e in
-    mark_says side (run quiet ms).said v v.mark refl (record { legal = (sound ms).legal; role = s.role; trails = s.trails; tidy = tidy_run ms side v e })
+outcomes_say t r side v e =
+    let s = sound_view t r side v e in
+    mark_says side t.said v v.mark refl (record { legal = (sound t r).legal; role = s.role; trails = s.trails; tidy = tidy_run t r side v e })
 
 -- an end that may accept
 pub accepts : AcceptsTheLast
-accepts ms side v w e f fine =
-    let c : List Said = strip (run quiet ms).said in
-    let s = sound_view ms side v e in
-    let u = sound_view ms (other side) w f in
+accepts t r side v w e f fine =
+    let s = sound_view t r side v e in
+    let u = sound_view t r (other side) w f in
     let p = fine_turn (is_going v && is_mine v) None fine in
     let q = and_parts (is_going v) (is_mine v) p.0 in
-    let mine : turn (known v) ≡ side = own_turn_of v q.1 ∙ s.role in
-    let whole : known v ≡ strip (run quiet ms).said = still_whole side (known v) (strip (run quiet ms).said) (sound ms).legal s.trails (inl mine) in
-    let here : turn (strip (run quiet ms).said) ≡ side = sym (ap turn whole) ∙ mine in
-    let going : ended (strip (run quiet ms).said) ≡ false = sym (ap ended whole) ∙ over_ended v.role v.entries (going_parts v q.0).1 in
-    let offer : newest_offer_by (other side) (known v) ≡ newest_offer_by (other side) (known w) = ap (newest_offer_by (other side)) whole ∙ sym (trails_offer (other side) (known w) (strip (run quiet ms).said) u.trails) in
+    let k = turns_say t r side v e q.0 q.1 in
+    let offer : newest_offer_by (other side) (known v) ≡ newest_offer_by (other side) (known w) = ap (newest_offer_by (other side)) k.whole ∙ sym (trails_offer (other side) (known w) (strip t.said) u.trails) in
     record {
-      whole = whole;
-      its_turn = here;
+      whole = k.whole;
+      its_turn = k.its_turn;
+      no_end = k.no_end;
+      made = k.made;
       same_offer = offer;
-      no_answer = trails_unanswered (other side) (known w) (strip (run quiet ms).said) u.trails (turn_unanswered (other side) (strip (run quiet ms).said) (sound ms).legal (here ∙ sym (other_other side)) going);
+      no_answer = trails_unanswered (other side) (known w) (strip t.said) u.trails (turn_unanswered (other side) (strip t.said) (sound t r).legal (k.its_turn ∙ sym (other_other side)) k.no_end);
       agrees = λ now. accepting_outcome side v w now s.role (going_unmarked v q.0) offer;
     } where
       first_offer : (side : Side) (v : Transcript) → newest_offer_by (other side) (says side (message_of v (SayEnd Accept)) ∷ known v) ≡ newest_offer_by (other side) (known v)

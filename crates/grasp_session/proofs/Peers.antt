@@ -1,17 +1,17 @@
 -- Where an end may accept, its peer has a view.
-use Rattle.std.proofs.Common.{None, ◌≡◌, Bool, true, false, cond, ◌&&◌, List, [], ◌∷◌, inl, refl, sym, ap, ◌∙◌, subst}
+use Rattle.std.proofs.Common.{None, ◌≡◌, Bool, true, false, cond, ◌&&◌, List, [], ◌∷◌, refl, sym, ap, ◌∙◌, subst}
 use Rattle.std.proofs.lemmas.Bool.{false≢true, and_parts}
 use Rattle.grasp_session.specs.Messages.{Side, Near, Far, other, is_side, is_invalid}
 use Rattle.grasp_types.specs.declared.message.Message.{Message}
 use Rattle.grasp_types.specs.declared.message.Message.TheVariants.{ReqNeg, Negotiate, Wait, End, Invalid}
 use Rattle.grasp_session.specs.Conversation.{Said, says, strip, begun, turn, MayFollow, IsLegal, spoken}
-use Rattle.grasp_session.specs.Transcript.{Transcript, known, is_going, is_mine}
-use Rattle.grasp_session.specs.Talk.{Stage, Absent, Refused, Present, quiet, party, run}
+use Rattle.grasp_session.specs.Transcript.{Transcript, is_going, is_mine}
+use Rattle.grasp_session.specs.Talk.{Stage, Absent, Refused, Present, party}
 use Rattle.grasp_session.specs.Laws.{PeerIsPresent}
-use Rattle.grasp_session.proofs.Trailing.{still_whole}
-use Rattle.grasp_session.proofs.Views.{fine_turn, own_turn_of}
+use Rattle.grasp_session.proofs.Views.{fine_turn}
 use Rattle.grasp_session.proofs.Sound.{SoundStage, sound_party}
 use Rattle.grasp_session.proofs.Ends.{sound, sound_view}
+use Rattle.grasp_session.proofs.Turns.{turns_say}
 
 -- a request or a step
 abbrev offers : Message → Bool
@@ -83,14 +83,12 @@ by_stage side inbox said Refused s o = absurd (false≢true (sym (ap some_offer 
 by_stage side inbox said (Present w) s o = (w, refl)
 
 pub peer_is_present : PeerIsPresent
-peer_is_present ms side v e fine =
-    let s = sound_view ms side v e in
+peer_is_present t r side v e fine =
+    let s = sound_view t r side v e in
     let p = fine_turn (is_going v && is_mine v) None fine in
     let q = and_parts (is_going v) (is_mine v) p.0 in
-    let mine : turn (known v) ≡ side = own_turn_of v q.1 ∙ s.role in
-    let whole : known v ≡ strip (run quiet ms).said = still_whole side (known v) (strip (run quiet ms).said) (sound ms).legal s.trails (inl mine) in
-    let here : turn (strip (run quiet ms).said) ≡ side = sym (ap turn whole) ∙ mine in
-    let o : some_offer (spoken (other side) (strip (run quiet ms).said)) ≡ true =
-    subst (λ r. some_offer (spoken (other r) (strip (run quiet ms).said)) ≡ true) here (offered (strip (run quiet ms).said) (sound ms).legal (sym (ap begun whole) ∙ s.has_begun)) in
-    by_stage (other side) (party (run quiet ms) (other side)).inbox (run quiet ms).said (party (run quiet ms) (other side)).stage (sound_party (run quiet ms) (other side) (sound ms))
-    (sym (stripped_offer (other side) (run quiet ms).said) ∙ o)
+    let k = turns_say t r side v e q.0 q.1 in
+    let o : some_offer (spoken (other side) (strip t.said)) ≡ true =
+    subst (λ x. some_offer (spoken (other x) (strip t.said)) ≡ true) k.its_turn (offered (strip t.said) (sound t r).legal (sym (ap begun k.whole) ∙ s.has_begun)) in
+    by_stage (other side) (party t (other side)).inbox t.said (party t (other side)).stage (sound_party t (other side) (sound t r))
+    (sym (stripped_offer (other side) t.said) ∙ o)

@@ -7,6 +7,7 @@ use Rattle.grasp_session.specs.Stands.{Stands, kept_at, owner_in}
 use Rattle.grasp_session.specs.Answers.{TablesAnswerSo}
 use Rattle.grasp_session.proofs.Tables.{reply_at, check_stands}
 use Rattle.grasp_session.proofs.Means.{state_same}
+use Rattle.grasp_session.proofs.Acts.{offers_named}
 
 live_same : (t : Table) (z : Sessions) (h : Handle) → Stands t z → is_some (kept_at t.places h) ≡ is_some (session_at z h)
 live_same t z h st = reply_at is_some is_some refl (λ s x k. refl) t z h (kept_at t.places h) st refl
@@ -20,4 +21,5 @@ answer_so t z st = record {
   check = λ owner h act. check_stands t z owner h act st;
   live = λ h. (λ l. sym (live_same t z h st) ∙ l, λ l. live_same t z h st ∙ l);
   untaken = λ h. (λ u. sym (owner_same t z h st) ∙ u, λ u. owner_same t z h st ∙ u);
+  offers = λ h o x. offers_named t z h o x st;
 }

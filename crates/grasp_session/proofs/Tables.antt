@@ -1,9 +1,9 @@
 -- What a table keeps of its sessions, place by place.
-use Rattle.std.proofs.Common.{◌≡◌, ℕ, zero, suc, ◌+◌, ◌<◌, ◌≤◌, Bool, true, false, cond, ◌&&◌, List, [], ◌∷◌, length, Option, Some, None, Result, Err, is_some, count_by, slice_index_or, slice_set, nat_lt, nat_le, ◌==◌, bytes_eq, refl, sym, ap, ◌∙◌, subst, arith}
+use Rattle.std.proofs.Common.{◌≡◌, ℕ, zero, suc, ◌+◌, ◌<◌, ◌≤◌, Bool, true, false, cond, ◌&&◌, List, [], ◌∷◌, length, Option, Some, None, Result, Err, is_some, is_none, count_by, slice_index_or, slice_set, nat_lt, nat_le, ◌==◌, bytes_eq, refl, sym, ap, ◌∙◌, subst, arith}
 use Rattle.std.proofs.lemmas.Bool.{cond-true, cond-false, ltb-true, ltb-false}
 use Rattle.std.proofs.lemmas.List.{set-get_or, length-set, get_or_past}
 use Rattle.std.proofs.lemmas.List.Sums.{sum_by-cons}
-use Rattle.std.specs.List.{AllZip}
+use Rattle.std.specs.List.{AllZip, position, position_or_len}
 use Rattle.grasp_types.specs.declared.session.Handle.{Handle}
 use Rattle.grasp_session.specs.declared.answer.Act.{Act}
 use Rattle.grasp_session.specs.declared.answer.Act.TheVariants as act
@@ -13,11 +13,11 @@ use Rattle.grasp_session.specs.declared.answer.SessionRefused.TheVariants.{NoSes
 use Rattle.grasp_session.specs.declared.session.Session.{Session}
 use Rattle.grasp_session.specs.declared.table.Table.{Table}
 use Rattle.grasp_session.specs.declared.wanted.Wanted.{Wanted}
-use Rattle.grasp_session.specs.declared.wanted.Wanted.TheVariants.{OnStream, Due, Untaken, OwnedBy, Requested}
+use Rattle.grasp_session.specs.declared.wanted.Wanted.TheVariants.{OnStream, Due, Untaken, UntakenAbove, OwnedBy, Requested}
 use Rattle.grasp_session.specs.Messages.{Near, is_side}
 use Rattle.grasp_session.specs.Transcript.{Saying, message_of, having_said, refusal, is_going, deadline_of, request_of, session_of}
 use Rattle.grasp_session.specs.Keeps.{Keeps, refusal_in, leaves_in}
-use Rattle.grasp_session.specs.Sessions.{SessionState, Sessions, if_number, if_owner, older, oldest_from, oldest, session_at, if_refused, check_reply, is_leaving, with_place, left, changed, with_transcript, say_reply, after_say}
+use Rattle.grasp_session.specs.Sessions.{SessionState, Sessions, if_number, if_owner, older, oldest_from, oldest, session_at, if_refused, check_reply, is_leaving, empty_place, with_place, left, changed, with_transcript, say_reply, after_say}
 use Rattle.grasp_session.specs.Stands.{Stands, StandsAt, kept_at, answer_in, check_answer, fits_in, oldest_in, settled}
 
 abbrev pub slot : {A : Type 0} → List (Option A) → ℕ → Option A
@@ -60,6 +60,22 @@ zip_count (a ∷ xs) (b ∷ bs) h =
     let i = zip_count xs bs h.1 in
     let z : cond {A = ℕ} (is_some a) 1 0 ≡ cond (is_some b) 1 0 = ap (λ c. cond c 1 0) (same_some a b h.0) in omega (arith, m, n, i, z)
 
+-- the least empty place
+none_same : (s : Option Session) (x : Option SessionState) → StandsAt s x → is_none s ≡ is_none x
+none_same None None h = refl
+none_same None (Some x) h = absurd h
+none_same (Some s) None h = absurd h
+none_same (Some s) (Some x) h = refl
+
+zip_filled : (l : List (Option Session)) (k : List (Option SessionState)) → AllZip StandsAt l k → position_or_len is_none l ≡ position_or_len is_none k
+zip_filled [] [] h = refl
+zip_filled [] (b ∷ bs) h = absurd h
+zip_filled (a ∷ xs) [] h = absurd h
+zip_filled (a ∷ xs) (b ∷ bs) h = rw (none_same a b h.0, zip_filled xs bs h.1) refl
+
+pub place_same : (t : Table) (z : Sessions) → Stands t z → position is_none t.places ≡ empty_place z
+place_same t z st = rw (zip_filled t.places z.places st.places, zip_length t.places z.places st.places) refl
+
 -- the oldest that passes
 older_same : (f : Session → Bool) (g : SessionState → Bool) → ((s : Session) (x : SessionState) → Keeps s x → f s ≡ g x) → (p : ℕ) (s : Option Session) (x : Option SessionState) (rest : Option Handle) → StandsAt s x
     → older (λ s. s.number) f p s rest ≡ older (λ x. x.number) g p x rest
@@ -81,6 +97,7 @@ abbrev pub wants : Wanted → SessionState → Bool
 wants (OnStream stream) x = x.stream == stream
 wants (Due now) x = is_going x.view && nat_le (deadline_of x.view) now
 wants (Untaken name) x = (x.owner == 0) && bytes_eq (request_of x.view).name name.now
+wants (UntakenAbove name number) x = nat_lt number x.number && (x.owner == 0) && bytes_eq (request_of x.view).name name.now
 wants (OwnedBy owner) x = x.owner == owner
 wants (Requested number) x = is_side x.view.role Near && (session_of x.view == number)
 
@@ -88,6 +105,7 @@ fits_same : (w : Wanted) (s : Session) (x : SessionState) → Keeps s x → fits
 fits_same (OnStream stream) s x h = rw h.stream refl
 fits_same (Due now) s x h = rw (h.going, h.deadline) refl
 fits_same (Untaken name) s x h = rw (h.owner, h.request) refl
+fits_same (UntakenAbove name number) s x h = rw (h.number, h.owner, h.request) refl
 fits_same (OwnedBy owner) s x h = rw h.owner refl
 fits_same (Requested number) s x h = rw (h.requester, h.session) refl
 

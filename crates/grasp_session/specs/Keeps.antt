@@ -1,6 +1,9 @@
 -- What the code keeps of a session.
 use Rattle.std.specs.Prelude.{◌≡◌, ℕ, Bool, true, false, not, ◌&&◌, Option, Some, None, is_none, nat_lt, ◌==◌, bytes_eq, if◌then◌else◌}
 use Rattle.grasp_types.specs.declared.objective.Objective.{Objective}
+use Rattle.grasp_types.specs.declared.session.By.TheVariants.{Mine}
+use Rattle.grasp_types.specs.declared.message.Verdict.{Verdict}
+use Rattle.grasp_types.specs.declared.message.Verdict.TheVariants.{Accept, Decline}
 use Rattle.grasp_types.specs.declared.session.Outcome.{Outcome}
 use Rattle.grasp_types.specs.declared.session.Outcome.TheVariants as outcome
 use Rattle.grasp_session.specs.declared.answer.Act.{Act}
@@ -28,6 +31,11 @@ outcome_with o (Invalid by) = outcome.Invalid by
 abbrev pub ended_with : Objective → Option Ending → Option Outcome
 ended_with o None = None
 ended_with o (Some e) = Some (outcome_with o e)
+
+-- by this end's acceptance or decline
+abbrev pub ending_of : Verdict → Ending
+ending_of Accept = Agreed Mine
+ending_of (Decline reason) = Declined Mine reason
 
 abbrev pub offer_or : Objective → Option Objective → Objective
 offer_or request None = request
@@ -79,3 +87,6 @@ pub record Keeps (s : Session) (x : SessionState) : Type 0 where
   -- who made the last offer
   pub theirs : is_mine x.view ≡ true → peer_offer x.view ≡ last_offer x.view
   pub mine : is_mine x.view ≡ false → my_offer x.view ≡ last_offer x.view
+  -- it has the request's name and flags, whatever the peer sends
+  pub named : (last_offer x.view).name ≡ (request_of x.view).name
+  pub flagged : (last_offer x.view).flags ≡ (request_of x.view).flags

@@ -1,5 +1,5 @@
 -- The sessions of a node by what each of its ends saw, and what each call answers and does (RFC 8990, section 2.5).
-use Rattle.std.specs.Prelude.{◌≡◌, ℕ, ◌+◌, ◌-◌, ◌^◌, ◌<◌, Bool, true, false, not, ◌&&◌, ◌||◌, List, [], ◌∷◌, Option, Some, None, is_some, Result, Ok, Err, replicate, count_by, slice_index_or, slice_set, nat_le, ◌==◌, if◌then◌else◌, bytes_eq}
+use Rattle.std.specs.Prelude.{◌≡◌, ℕ, ◌+◌, ◌-◌, ◌^◌, ◌<◌, Bool, true, false, not, ◌&&◌, ◌||◌, List, [], ◌∷◌, Option, Some, None, is_some, Result, Ok, Err, is_none, position, replicate, count_by, slice_index_or, slice_set, nat_lt, nat_le, ◌==◌, if◌then◌else◌, bytes_eq}
 use Rattle.grasp_types.specs.declared.session.Handle.{Handle}
 use Rattle.grasp_types.specs.declared.objective.Objective.{Objective}
 use Rattle.grasp_types.specs.declared.session.Kind.TheVariants.{Synchronization}
@@ -11,10 +11,11 @@ use Rattle.grasp_types.specs.declared.message.Verdict.TheVariants.{Accept, Decli
 use Rattle.grasp_types.specs.declared.message.Message.{Message}
 use Rattle.grasp_types.specs.declared.message.Message.TheVariants.{Noop}
 use Rattle.grasp_session.specs.declared.answer.Act.{Act}
+use Rattle.grasp_session.specs.declared.answer.Act.TheVariants as act
 use Rattle.grasp_session.specs.declared.answer.Received.{Received}
 use Rattle.grasp_session.specs.declared.answer.Received.TheVariants.{Kept, Ignored, Bad}
 use Rattle.grasp_session.specs.declared.answer.SessionRefused.{SessionRefused}
-use Rattle.grasp_session.specs.declared.answer.SessionRefused.TheVariants.{SessionsFull, NoSession, OutOfMemory}
+use Rattle.grasp_session.specs.declared.answer.SessionRefused.TheVariants.{SessionsFull, NoSession, NotYourTurn, LoopsSpent, WaitsSpent, OutOfMemory}
 use Rattle.grasp_session.specs.declared.begin.Begin.{Begin}
 use Rattle.grasp_session.specs.Messages.{Side, Near, Far, is_side}
 use Rattle.grasp_session.specs.Transcript.{Mark, Expired, Transcript, opening, session_of, request_of, last_offer, peer_offer, is_mine, is_going, deadline_of, outcome_of, refusal, Saying, message_of, having_said, receive, after_received, with_mark}
@@ -125,17 +126,17 @@ pub record IsProper (b : Begin) : Type 0 where
   pub taken : b.taken ≡ not (b.owner == 0)
   pub untaken : b.owner ≡ 0 → b.requester ≡ false
 
--- start: there is room, the place is any empty one, and the number is the next
-pub record Starts (z : Sessions) (h : Handle) : Type 0 where
-  pub not_full : is_full z ≡ false
-  pub place : h.place < 64
-  pub empty : slice_index_or z.places h.place None ≡ None
-  pub number : h.number ≡ z.made + 1
+-- the least place without a session
+abbrev pub empty_place : Sessions → Option ℕ
+empty_place z = position is_none z.places
 
-abbrev pub MayStart : Sessions → Result Handle SessionRefused → Type 0
-MayStart z (Ok h) = Starts z h
-MayStart z (Err SessionsFull) = is_full z ≡ true
-MayStart z (Err _) = ⊥
+-- start: the least empty place and the next number, where there is room
+abbrev pub place_given : ℕ → Option ℕ → Result Handle SessionRefused
+place_given made None = Err SessionsFull
+place_given made (Some place) = Ok (record { place = place; number = made + 1 })
+
+abbrev pub start_reply : Sessions → Result Handle SessionRefused
+start_reply z = if is_full z then Err SessionsFull else place_given z.made (empty_place z)
 
 abbrev pub after_start : Sessions → ℕ → Begin → Result Handle SessionRefused → Sessions
 after_start z now begin (Ok h) = record { made = h.number; places = slice_set z.places h.place (Some (begun_state now h.number begin)); gone = z.gone }
@@ -151,6 +152,14 @@ check_reply z owner h act = by_state (session_owned z owner h) where
   by_state : Option SessionState → Result (Unit {0}) SessionRefused
   by_state None = Err NoSession
   by_state (Some x) = if_refused (refusal x.view act)
+
+-- the refusals of an act
+abbrev pub MayRefuse : Act → SessionRefused → Type 0
+MayRefuse a NoSession = Unit {0}
+MayRefuse a NotYourTurn = Unit {0}
+MayRefuse act.Step LoopsSpent = Unit {0}
+MayRefuse act.Wait WaitsSpent = Unit {0}
+MayRefuse a refused = ⊥
 
 -- step, wait, end and invalid: the message, and the session that has said it
 abbrev pub say_reply : Sessions → Handle → Saying → Message
@@ -280,6 +289,10 @@ is_used z session = is_some (oldest (λ x. is_side x.view.role Near && (session_
 -- the session of the least number that no agent has taken and whose objective has this name
 abbrev pub untaken_reply : Sessions → List ℕ → Option Handle
 untaken_reply z name = oldest (λ x. (x.owner == 0) && bytes_eq (request_of x.view).name name) z
+
+-- the same, of the numbers above this one
+abbrev pub untaken_above_reply : Sessions → List ℕ → ℕ → Option Handle
+untaken_above_reply z name number = oldest (λ x. nat_lt number x.number && (x.owner == 0) && bytes_eq (request_of x.view).name name) z
 
 -- the session of the least number of this owner
 abbrev pub owner_reply : Sessions → ℕ → Option Handle

@@ -8,7 +8,7 @@ use Rattle.grasp_session.specs.declared.answer.SessionRefused.TheVariants.{NoSes
 use Rattle.grasp_session.specs.declared.session.Session.{Session}
 use Rattle.grasp_session.specs.declared.table.Table.{Table}
 use Rattle.grasp_session.specs.declared.wanted.Wanted.{Wanted}
-use Rattle.grasp_session.specs.declared.wanted.Wanted.TheVariants.{OnStream, Due, Untaken, OwnedBy, Requested}
+use Rattle.grasp_session.specs.declared.wanted.Wanted.TheVariants.{OnStream, Due, Untaken, UntakenAbove, OwnedBy, Requested}
 use Rattle.grasp_session.specs.Keeps.{Keeps, refusal_in, leaves_in}
 use Rattle.grasp_session.specs.Sessions.{SessionState, Sessions, if_number, if_owner, older, oldest_from, if_refused}
 
@@ -32,6 +32,7 @@ abbrev pub fits_in : Wanted → Session → Bool
 fits_in (OnStream stream) s = s.stream == stream
 fits_in (Due now) s = is_none s.ending && nat_le s.deadline now
 fits_in (Untaken name) s = (s.owner == 0) && bytes_eq s.request.name name.now
+fits_in (UntakenAbove name number) s = nat_lt number s.number && (s.owner == 0) && bytes_eq s.request.name name.now
 fits_in (OwnedBy owner) s = s.owner == owner
 fits_in (Requested number) s = s.requester && (s.session == number)
 

@@ -1,5 +1,5 @@
 -- Two ends of a negotiation: what was said, and each end with its transcript and with what it has not taken yet (RFC 8990, section 2.5.5).
-use Rattle.std.specs.Prelude.{ℕ, List, [], ◌∷◌, ◌++◌, Option, Some, None}
+use Rattle.std.specs.Prelude.{◌≡◌, ℕ, List, [], ◌∷◌, ◌++◌, Option, Some, None}
 use Rattle.grasp_types.specs.declared.objective.Objective.{Objective}
 use Rattle.grasp_types.specs.declared.session.Kind.TheVariants.{Negotiation}
 use Rattle.grasp_types.specs.declared.message.Verdict.TheVariants.{Decline}
@@ -146,3 +146,8 @@ moved t (Marks side cause) = marks_at t side cause (party t side).stage
 abbrev pub run : Talk → List Move → Talk
 run t [] = t
 run t (m ∷ ms) = run (moved t m) ms
+
+-- some list of moves leads to this talk
+pub record Reached (t : Talk) : Type 0 where
+  pub moves : List Move
+  pub ran : t ≡ run quiet moves

@@ -5,10 +5,17 @@ ghost use Rattle.grasp_cbor.specs.DataItem.{unsigned};
 ghost use Rattle.grasp_types.specs.declared.session.By.TheVariants.{Mine, Theirs};
 ghost use Rattle.grasp_types.specs.declared.session.Outcome.TheVariants.{Agreed};
 ghost use Rattle.grasp_session.specs.Conversation.{steps};
+ghost use Rattle.grasp_session.specs.Turns.{TurnsSay, TurnsHold, KnownHolds, OffersHold};
+ghost use Rattle.grasp_session.specs.Moves.{QuietIsReached, MovesReach, RunsJoin, RequestStays, RequesterIsPresent, AbsentTookNothing, HeardNext, InboxIsNext};
 ghost use Rattle.grasp_session.specs.Sample.{sample, outcome_at};
 ghost use Rattle.grasp_session.specs.Laws.{LegalIsGrammar, ConversationIsGrammar, StepsBounded, RunsAreLegal, RunsAreBounded, ViewsTrail, SilentUnseen, TakenInOrder, NoneIsBad, BothAgree, OffersStand, OutcomesSay, OutcomesStay, AcceptsTheLast, PeerIsPresent, MovesFollow, FirstIsRequest};
-ghost use Rattle.grasp_session.specs.Runs.{CallsAreInOrder, NumbersAreNew};
+ghost use Rattle.grasp_session.specs.Runs.{CallsAreInOrder, CallsGoOn, NumbersAreNew};
 ghost use Rattle.grasp_session.specs.Answers.{TablesAnswerSo};
+ghost use Rattle.grasp_session.specs.Acts.{MessagesAreMade};
+ghost use Rattle.grasp_session.specs.Expiry.{ExpiryEnds, ExpiryGoesOn, ExpiryStops};
+ghost use Rattle.grasp_session.specs.Made.{NoneAreReached, CallsTouchOne, LiveComesFirst, ViewsAreBuilt, NoneAreFresh, FreshStay};
+ghost use Rattle.grasp_session.specs.InWords.{TurnsAreParity, DeadlinesAreLargest};
+ghost use Rattle.grasp_session.specs.Says.{StartsSay, ChecksSay, OldestIsLeast};
 
 /// A conversation is legal exactly where it is the beginning of a negotiation of whole turns, also where invalid
 /// messages count.
@@ -74,6 +81,40 @@ pub fn first_is_request()
     ensures { FirstIsRequest }
 {}
 
+/// A talk before any move is reached, and moves lead from a reached talk to a reached one.
+pub fn moves_reach()
+    ensures start { QuietIsReached }
+    ensures more { MovesReach }
+    ensures join { RunsJoin }
+{}
+
+/// An end whose session goes on and whose turn it is knows the whole conversation; no end stands in it, and the other
+/// side has offered.
+pub fn turns_say()
+    ensures { TurnsSay }
+{}
+
+/// While it is a side's turn nothing but its own message changes the conversation or what it knows of it, and its offer
+/// is changed by nothing but its own request or step.
+pub fn turns_hold()
+    ensures turn { TurnsHold }
+    ensures known { KnownHolds }
+    ensures offer { OffersHold }
+{}
+
+/// Once something was said the request stays, and near has a transcript.
+pub fn requests_stay()
+    ensures stay { RequestStays }
+    ensures present { RequesterIsPresent }
+{}
+
+/// An end takes the other side's messages one after the other, and none before it has a transcript or declined.
+pub fn next_is_heard()
+    ensures heard { HeardNext }
+    ensures inbox { InboxIsNext }
+    ensures absent { AbsentTookNothing }
+{}
+
 /// After any calls of a table the steps of each session are fewer than its request's loop count, and none where that
 /// is 0; no number is used twice, and no two live sessions have one stream.
 pub fn calls_are_in_order()
@@ -91,4 +132,57 @@ pub fn some_talk_agrees()
     ensures near { outcome_at sample.near.stage ≡ Some (Agreed Mine (record { name = 80 ∷ []; flags = 3; loops = 3; value = Some (unsigned 4) })) }
     ensures far { outcome_at sample.far.stage ≡ Some (Agreed Theirs (record { name = 80 ∷ []; flags = 3; loops = 3; value = Some (unsigned 4) })) }
     ensures steps { steps sample.said ≡ 3 }
+{}
+
+/// The message of an act is made of what `session` and `last` tell before it: so a caller can make it, see whether it
+/// may be sent, and then say it.
+pub fn messages_are_made()
+    ensures { MessagesAreMade }
+{}
+
+/// What the answers of `start` and `check` say: where a session begins, and for which reasons an act is refused, in
+/// which order.
+pub fn answers_say()
+    ensures start { StartsSay }
+    ensures check { ChecksSay }
+{}
+
+/// A look-up gives the live session of the least number that passes, and none exactly where none passes.
+pub fn look_ups_say()
+    ensures { OldestIsLeast }
+{}
+
+/// One more call leads from a table that calls lead to, to another such table.
+pub fn calls_go_on()
+    ensures none { NoneAreReached }
+    ensures more { CallsGoOn }
+{}
+
+/// A call touches one session, by one deed; of the sessions of a stream the live one is found first; and what an end
+/// saw is its request and the deeds since.
+pub fn calls_touch_one()
+    ensures one { CallsTouchOne }
+    ensures stream { LiveComesFirst }
+    ensures built { ViewsAreBuilt }
+{}
+
+/// A live session that no agent has taken has its request alone, where the node itself says in it only what ends it.
+pub fn untaken_are_fresh()
+    ensures none { NoneAreFresh }
+    ensures stay { FreshStay }
+{}
+
+/// So many calls of `expire_one` as there are places leave none that is due; and where it first answers `None`, these
+/// were all.
+pub fn expiry_ends()
+    ensures ends { ExpiryEnds }
+    ensures more { ExpiryGoesOn }
+    ensures stops { ExpiryStops }
+{}
+
+/// What a transcript tells, whatever the peer sent: the turn by the number of steps, and the deadline as the largest of
+/// the times to which its messages let it go on.
+pub fn transcripts_say()
+    ensures turn { TurnsAreParity }
+    ensures deadline { DeadlinesAreLargest }
 {}

@@ -1,17 +1,17 @@
 //! One session of this node, of which only what it decides by is kept.
 
-ghost use Rattle.std.specs.Prelude.{◌≡◌, ℕ, true, bytes_eq, is_none, ◌+◌, ◌<◌, max, Some, None, IfOk, OnErr};
+ghost use Rattle.std.specs.Prelude.{◌≡◌, ℕ, true, bytes_eq, is_none, ◌==◌, ◌+◌, ◌-◌, ◌<◌, max, Some, None, IfOk, OnErr};
 ghost use Rattle.grasp_types.specs.declared.message.Message.TheVariants.{End};
 ghost use Rattle.grasp_types.specs.Reading.{reading_after};
 ghost use Rattle.grasp_session.specs.Transcript.{SayStep, SayWait, SayEnd, SayInvalid, receive, after_received, message_of, having_said, is_negotiation, with_mark};
 ghost use Rattle.grasp_session.specs.declared.answer.Received.TheVariants.{Bad};
 ghost use Rattle.grasp_session.specs.Sessions.{SessionState, with_transcript, begun_state, MayStarve};
-ghost use Rattle.grasp_session.specs.Keeps.{Keeps, refusal_in, offer_in, awaits_in, steps_in, mark_of, leaves_in, ended_with, outcome_with};
+ghost use Rattle.grasp_session.specs.Keeps.{Keeps, refusal_in, offer_in, awaits_in, steps_in, mark_of, leaves_in, ending_of, ended_with, outcome_with};
 
 use crate::answer::{Act, Received, SessionRefused};
 use crate::begin::Begin;
 use grasp_cbor::{Chars, OutOfMemory};
-use grasp_types::{By, Kind, Message, Objective, Outcome, Value, Verdict, reading_after};
+use grasp_types::{By, Kind, Message, Objective, Outcome, Plain, Value, Verdict, reading_after};
 
 /// What came of a session, without the objective that was agreed on.
 #[derive(Drop)]
@@ -26,6 +26,21 @@ pub(crate) enum Ending {
 }
 
 impl Ending {
+    /// By this end's acceptance or decline. An agent's session keeps the reason, which is copied: one that no agent has
+    /// taken is gone then.
+    pub(crate) fn of(owner: u32, verdict: &Verdict) -> Result<Ending, OutOfMemory>
+        ensures kept { IfOk result (λ ending. 0 < owner → ending ≡ ending_of verdict.now) }
+        ensures wanted { OnErr result (MayStarve owner verdict.now) }
+    {
+        match verdict {
+            Verdict::Accept => Ok(Ending::Agreed(By::Mine)),
+            Verdict::Decline(Some(reason)) if owner != 0 => {
+                Ok(Ending::Declined(By::Mine, Some(reason.copy()?)))
+            }
+            Verdict::Decline(_) => Ok(Ending::Declined(By::Mine, None)),
+        }
+    }
+
     /// The outcome, where this is the last offer of either end.
     fn with(self, objective: Objective) -> Outcome
         ensures { result ≡ outcome_with objective self }
@@ -195,14 +210,22 @@ impl Session {
         ensures sent { IfOk result (λ message. (x : SessionState) → Keeps self.old x → (message ≡ message_of x.view (SayStep value)) × Keeps self.new (with_transcript x (having_said x.view now (SayStep value)))) }
         ensures err { OnErr result (self.new ≡ self.old) }
     {
-        let objective = Objective {
-            name: self.request.name.copy()?,
-            flags: self.request.flags,
-            loops: self.last_offer().loops - 1,
-            value: Some(value),
-        };
+        let objective = self.next_offer(value)?;
         let offer = objective.copy()?;
         self.offered(now, offer, false);
+        Ok(Message::Negotiate {
+            session: self.session,
+            objective,
+        })
+    }
+
+    /// The message of a step of this end.
+    pub(crate) fn step_message(&self, value: &Value) -> Result<Message, OutOfMemory>
+        requires { refusal_in self.now Act.Step ≡ None }
+        ensures { IfOk result (λ message. (x : SessionState) → Keeps self.now x → message ≡ message_of x.view (SayStep value.now)) }
+    {
+        let value = value.copy()?;
+        let objective = self.next_offer(value)?;
         Ok(Message::Negotiate {
             session: self.session,
             objective,
@@ -221,25 +244,18 @@ impl Session {
         }
     }
 
-    /// An acceptance or a decline of this end.
-    pub(crate) fn end(&mut self, now: u64, verdict: Verdict) -> Result<Message, OutOfMemory>
+    /// An acceptance or a decline of this end, which ends the session so. One that no agent has taken need not keep it.
+    pub(crate) fn end(&mut self, now: u64, verdict: Verdict, ending: Ending) -> Message
         requires { refusal_in self.old Act.End ≡ None }
-        ensures sent { IfOk result (λ message. (x : SessionState) → Keeps self.old x → (message ≡ message_of x.view (SayEnd verdict)) × Keeps self.new (with_transcript x (having_said x.view now (SayEnd verdict)))) }
-        ensures err { OnErr result (self.new ≡ self.old) }
-        ensures wanted { OnErr result ((owner : ℕ) → 0 < owner → MayStarve owner verdict) }
+        ensures message { (x : SessionState) → Keeps self.old x → result ≡ message_of x.view (SayEnd verdict) }
+        ensures kept { (x : SessionState) → ending ≡ ending_of verdict → Keeps self.old x → Keeps self.new (with_transcript x (having_said x.view now (SayEnd verdict))) }
+        ensures over { leaves_in self.new ≡ (self.old.owner == 0) }
     {
-        match &verdict {
-            Verdict::Accept => self.finish(now, Ending::Agreed(By::Mine)),
-            Verdict::Decline(None) => self.finish(now, Ending::Declined(By::Mine, None)),
-            Verdict::Decline(Some(reason)) => {
-                let reason = reason.copy()?;
-                self.finish(now, Ending::Declined(By::Mine, Some(reason)));
-            }
-        }
-        Ok(Message::End {
+        self.finish(now, ending);
+        Message::End {
             session: self.session,
             verdict,
-        })
+        }
     }
 
     /// This end gives up.
@@ -290,6 +306,19 @@ impl Session {
         ensures { result ≡ leaves_in self.now }
     {
         self.owner == 0 && self.ending.is_some()
+    }
+
+    /// The objective of a step with this value.
+    fn next_offer(&self, value: Value) -> Result<Objective, OutOfMemory>
+        requires { refusal_in self.now Act.Step ≡ None }
+        ensures { IfOk result (λ objective. objective ≡ record { name = self.now.request.name; flags = self.now.request.flags; loops = (offer_in self.now).loops - 1; value = Some value }) }
+    {
+        Ok(Objective {
+            name: self.request.name.copy()?,
+            flags: self.request.flags,
+            loops: self.last_offer().loops - 1,
+            value: Some(value),
+        })
     }
 
     /// Whether this is a negotiation.

@@ -1,18 +1,18 @@
 //! The sessions of a node (RFC 8990, section 2.5).
 
-ghost use Rattle.std.specs.Prelude.{◌≡◌, ℕ, ◌<◌, ◌==◌, true, false, not, Some, None, Ok, is_some, count_by, slice_index_or, slice_set, option_copied, IfOk, IfSome, IfNone, OnErr, IsSome};
+ghost use Rattle.std.specs.Prelude.{◌≡◌, ℕ, ◌<◌, ◌==◌, true, false, not, Some, None, Ok, is_none, position, slice_index_or, slice_set, option_copied, IfOk, IfErr, IfSome, OnErr, IsSome};
 ghost use Rattle.grasp_session.specs.Transcript.{SayStep, SayWait, SayEnd, SayInvalid, Closed, Starved, Faulty};
-ghost use Rattle.grasp_session.specs.Sessions.{Sessions, no_sessions, MayStart, after_start, check_reply, say_reply, after_say, MayStarve, receive_reply, after_receive, MayPoll, after_poll, after_mark, expire_reply, after_expire, state_reply, stream_reply, session_reply, last_reply, is_full, live_count, is_used, untaken_reply, owner_reply, adopt_reply, after_adopt, after_remove};
+ghost use Rattle.grasp_session.specs.Sessions.{Sessions, no_sessions, start_reply, after_start, check_reply, MayRefuse, say_reply, after_say, MayStarve, receive_reply, after_receive, MayPoll, after_poll, after_mark, expire_reply, after_expire, state_reply, stream_reply, session_reply, last_reply, is_full, live_count, is_used, untaken_reply, untaken_above_reply, owner_reply, adopt_reply, after_adopt, after_remove};
 ghost use Rattle.grasp_session.specs.Stands.{Stands, kept_at, kept_owned, check_answer, state_answer, oldest_in, older_in, fits_at, full_in, settled, IsLive, IsUntaken};
 ghost use Rattle.grasp_session.specs.Keeps.{mark_of};
 
 use crate::answer::{Act, Received, SessionRefused};
 use crate::begin::Begin;
 use crate::places::Places;
-use crate::session::{Cause, Session};
+use crate::session::{Cause, Ending, Session};
 use crate::wanted::Wanted;
 use grasp_cbor::{Chars, OutOfMemory};
-use grasp_types::{Handle, Kind, Message, Objective, Progress, Value, Verdict};
+use grasp_types::{Handle, Kind, Message, Objective, Plain, Progress, Value, Verdict};
 use std::alloc::Global;
 
 /// The sessions of a node, of which at most 64 are live.
@@ -33,16 +33,17 @@ impl Table {
         })
     }
 
-    /// Begins a session with its request, on a stream that has no live session, as `state` tells. A synchronization is
+    /// Begins a session with its request, on a stream of which `state` tells no live session. A synchronization is
     /// a requester's; `taken` is false exactly where the owner is 0, and that is so for a listener's session alone.
     ///
-    /// `SessionsFull` comes exactly where the table is full. No other refusal comes, and no memory is taken.
+    /// The handle has the least place that is empty and the next number. `SessionsFull` comes exactly where the table is
+    /// full. No other refusal comes, and no memory is taken.
     pub fn start(&mut self, now: u64, begin: Begin) -> Result<Handle, SessionRefused>
         requires stream { state_answer self.old begin.stream ≡ None }
         requires kind { begin.kind ≡ Kind.Synchronization → begin.requester ≡ true }
         requires taken { begin.taken ≡ not (begin.owner == 0) }
         requires owner { begin.owner ≡ 0 → begin.requester ≡ false }
-        ensures starts { (z : Sessions) → Stands self.old z → MayStart z result × Stands self.new (after_start z now begin result) }
+        ensures starts { (z : Sessions) → Stands self.old z → (result ≡ start_reply z) × Stands self.new (after_start z now begin result) }
     {
         if self.is_full() {
             return Err(SessionRefused::SessionsFull);
@@ -60,9 +61,11 @@ impl Table {
         })
     }
 
-    /// Whether this agent may do this now in its session, or the first refusal that fits.
+    /// Whether this agent may do this now in its session, or the first refusal that fits, in this order: `NoSession`,
+    /// `NotYourTurn`, and for a step `LoopsSpent`, for a wait `WaitsSpent`. It takes no memory.
     pub fn check(&self, owner: u32, handle: Handle, act: Act) -> Result<(), SessionRefused>
         ensures reply { (z : Sessions) → Stands self.now z → result ≡ check_reply z owner handle act }
+        ensures refused { IfErr result (λ refused. MayRefuse act refused) }
         ensures answer { result ≡ check_answer self.now owner handle act }
     {
         match self.owned(owner, handle) {
@@ -74,7 +77,24 @@ impl Table {
         }
     }
 
-    /// Offers a value by a step, which `check` allowed. After an `Err` the table is as before.
+    /// The message that `step` would answer, where `check` answers `Ok` for a step: of the session's number, the last
+    /// offer and this value, which is copied. From it a caller can tell whether the step may be sent, before it is said.
+    pub fn step_message(
+        &self,
+        owner: u32,
+        handle: Handle,
+        value: &Value,
+    ) -> Result<Message, OutOfMemory>
+        requires { check_answer self.now owner handle Act.Step ≡ Ok tt }
+        ensures { IfOk result (λ message. (z : Sessions) → Stands self.now z → message ≡ say_reply z handle (SayStep value.now)) }
+    {
+        match self.at(handle) {
+            Some(session) => session.step_message(value),
+            None => unreachable!(),
+        }
+    }
+
+    /// Offers a value by a step, where `check` answers `Ok` for it. After an `Err` the table is as before.
     pub fn step(
         &mut self,
         now: u64,
@@ -92,7 +112,7 @@ impl Table {
         said
     }
 
-    /// Asks for more time by a wait, which `check` allowed. It takes no memory.
+    /// Asks for more time by a wait, where `check` answers `Ok` for it. It takes no memory.
     pub fn wait(&mut self, now: u64, owner: u32, handle: Handle, millis: u32) -> Message
         requires { check_answer self.old owner handle Act.Wait ≡ Ok tt }
         ensures says { (z : Sessions) → Stands self.old z → (result ≡ say_reply z handle (SayWait millis)) × Stands self.new (after_say z now handle (SayWait millis)) }
@@ -103,9 +123,8 @@ impl Table {
         message
     }
 
-    /// Accepts or declines, which `check` allowed. It wants memory only where an agent that has taken the session
-    /// declines with a reason, which is copied. After an `Err` the table is as before.
-    #[tactic(auto, using(crate::proofs::Calls::starves_taken))]
+    /// Accepts or declines, where `check` answers `Ok` for it. It wants memory only where an agent that has taken the
+    /// session declines with a reason, which is copied. After an `Err` the table is as before.
     pub fn end(
         &mut self,
         now: u64,
@@ -118,13 +137,14 @@ impl Table {
         ensures err { OnErr result ((z : Sessions) → Stands self.old z → Stands self.new z) }
         ensures wanted { OnErr result (MayStarve owner verdict) }
     {
-        if owner != 0 {
-            return self.end_taken(now, owner, handle, verdict);
-        }
-        Ok(self.end_untaken(handle, verdict))
+        let ending = Ending::of(owner, &verdict)?;
+        let mut session = self.take(handle);
+        let message = session.end(now, verdict, ending);
+        self.settle(handle, session);
+        Ok(message)
     }
 
-    /// Gives up, which `check` allowed. It takes no memory.
+    /// Gives up, where `check` answers `Ok` for it. It takes no memory.
     pub fn invalid(
         &mut self,
         now: u64,
@@ -289,6 +309,14 @@ impl Table {
         self.oldest(Wanted::Untaken(name))
     }
 
+    /// The same, of the sessions whose number is above this one: so they can be gone over, each once.
+    pub fn untaken_above(&self, name: &Chars, number: u64) -> Option<Handle>
+        ensures reply { (z : Sessions) → Stands self.now z → result ≡ untaken_above_reply z name.now number }
+        ensures untaken { IfSome result (λ handle. IsUntaken self.now handle) }
+    {
+        self.oldest(Wanted::UntakenAbove(name, number))
+    }
+
     /// The session of the least number of this owner.
     pub fn of_owner(&self, owner: u32) -> Option<Handle>
         ensures reply { (z : Sessions) → Stands self.now z → result ≡ owner_reply z owner }
@@ -297,7 +325,8 @@ impl Table {
         self.oldest(Wanted::OwnedBy(owner))
     }
 
-    /// Gives an untaken session to an agent, and answers the request's objective. After an `Err` the table is as before.
+    /// Gives an untaken session, as `untaken` finds it, to an agent, and answers the request's objective. After an `Err`
+    /// the table is as before.
     pub fn adopt(&mut self, owner: u32, handle: Handle) -> Result<Objective, OutOfMemory>
         requires untaken { IsUntaken self.old handle }
         requires owner { 0 < owner }
@@ -318,7 +347,7 @@ impl Table {
         }
     }
 
-    /// Removes a live session.
+    /// Removes a live session: one for which `stream` answers, or that a look-up finds.
     pub fn remove(&mut self, handle: Handle)
         requires { IsLive self.old handle }
         ensures removes { (z : Sessions) → Stands self.old z → Stands self.new (after_remove z handle) }
@@ -373,11 +402,11 @@ impl Table {
         best
     }
 
-    /// A place without a session.
+    /// The least place without a session.
     fn empty_place(&self) -> Option<usize>
+        ensures least { result ≡ position is_none self.now.places }
         ensures place { IfSome result (λ place. place < 64) }
         ensures empty { IfSome result (λ place. slice_index_or self.now.places place None ≡ None) }
-        ensures none { IfNone result (count_by is_some self.now.places ≡ 64) }
     {
         for place in 0..self.places.len() {
             if self.places.get(place).is_none() {
@@ -418,38 +447,6 @@ impl Table {
         if !session.is_leaving() {
             self.put_back(handle, session);
         }
-    }
-
-    /// Accepts or declines in a session that no agent has taken, which is gone then.
-    fn end_untaken(&mut self, handle: Handle, verdict: Verdict) -> Message
-        requires { check_answer self.old 0 handle Act.End ≡ Ok tt }
-        ensures says { (z : Sessions) → Stands self.old z → result ≡ say_reply z handle (SayEnd verdict) }
-        ensures leaves { (z : Sessions) (now : ℕ) → Stands self.old z → Stands self.new (after_say z now handle (SayEnd verdict)) }
-    {
-        let session = self.take(handle);
-        Message::End {
-            session: session.session,
-            verdict,
-        }
-    }
-
-    /// Accepts or declines in a session, which keeps how it ended.
-    fn end_taken(
-        &mut self,
-        now: u64,
-        owner: u32,
-        handle: Handle,
-        verdict: Verdict,
-    ) -> Result<Message, OutOfMemory>
-        requires { check_answer self.old owner handle Act.End ≡ Ok tt }
-        ensures says { IfOk result (λ message. (z : Sessions) → Stands self.old z → (message ≡ say_reply z handle (SayEnd verdict)) × Stands self.new (after_say z now handle (SayEnd verdict))) }
-        ensures err { OnErr result ((z : Sessions) → Stands self.old z → Stands self.new z) }
-        ensures wanted { OnErr result (0 < owner → MayStarve owner verdict) }
-    {
-        let mut session = self.take(handle);
-        let said = session.end(now, verdict);
-        self.settle(handle, session);
-        said
     }
 
     /// Ends the session of a stream from outside, where it has no outcome.

@@ -4,75 +4,28 @@ use crate::*;
 use grasp_cbor::{Chars, Item};
 use grasp_types::{By, Flags, Handle, Kind, Message, Objective, Outcome, Progress, Value, Verdict};
 use std::alloc::Global;
-use std::process::Abort;
 use std::test::Fail;
 
 const AGENT: u32 = 2;
-
-const STREAM: u64 = 1;
-
-/// What an end wants to do.
-#[derive(Clone, Copy)]
-enum Wish {
-    Step(u64),
-    Wait(u32),
-    Accept,
-    Invalid,
-}
-
-/// Which end it is.
-#[derive(Clone, Copy)]
-enum End {
-    Near,
-    Far,
-}
-
-/// How far a session is, where an offer is its loop count and its number.
-#[derive(Clone, Copy, Debug, PartialEq, Eq)]
-enum Seen {
-    NotYet,
-    Turn(u8, u64),
-    Agreed(By, u8, u64),
-    Synchronized(u8, u64),
-    TimedOut(u64, u64),
-    Broken,
-    Other,
-}
 
 fn value(number: u64) -> Result<Value, Fail> {
     Ok(Value::of(Item::Uint(number)).map_err(|_| "value")?)
 }
 
 fn objective(alloc: Global, loops: u8, number: u64) -> Result<Objective, Fail> {
-    let name = Chars::of(alloc, "x")?;
-    let flags = Flags::of(2).ok_or("flags")?;
-    let value = Some(value(number)?);
     Ok(Objective {
-        name,
-        flags,
+        name: Chars::of(alloc, "x")?,
+        flags: Flags::of(2).ok_or("flags")?,
         loops,
-        value,
+        value: Some(value(number)?),
     })
 }
 
-/// What the agent asks for.
-#[derive(Clone, Copy)]
-struct Asked {
-    now: u64,
-    kind: Kind,
-    stream: u64,
-    loops: u8,
-    timeout: u32,
-}
-
-/// A negotiation at the first reading.
-fn negotiation(stream: u64, loops: u8, timeout: u32) -> Asked {
-    Asked {
-        now: 0,
-        kind: Kind::Negotiation,
-        stream,
-        loops,
-        timeout,
+/// The loop count and the number of an objective.
+fn offer(objective: &Objective) -> (u8, u64) {
+    match objective.value.as_ref().map(|value| value.item()) {
+        Some(Item::Uint(number)) => (objective.loops, *number),
+        _ => (objective.loops, 0),
     }
 }
 
@@ -80,125 +33,99 @@ fn negotiation(stream: u64, loops: u8, timeout: u32) -> Asked {
 fn ask(
     alloc: Global,
     table: &mut Table,
-    asked: Asked,
+    kind: Kind,
+    stream: u64,
 ) -> Result<Result<Handle, SessionRefused>, Fail> {
-    let objective = objective(alloc, asked.loops, 1)?;
     let begin = Begin {
         owner: AGENT,
-        kind: asked.kind,
+        kind,
         requester: true,
         session: 7,
-        stream: asked.stream,
-        timeout: asked.timeout,
-        objective,
+        stream,
+        timeout: 1000,
+        objective: objective(alloc, 6, 1)?,
         taken: true,
     };
-    match table.state(asked.stream) {
+    match table.state(stream) {
         Some(_) => Err(Fail::from("a session")),
-        None => Ok(table.start(asked.now, begin)),
+        None => Ok(table.start(0, begin)),
     }
 }
 
 /// A request comes on a stream without a session.
-fn listen(alloc: Global, table: &mut Table, stream: u64, loops: u8) -> Result<(), Fail> {
-    let objective = objective(alloc, loops, 1)?;
+fn listen(alloc: Global, table: &mut Table, stream: u64) -> Result<Handle, Fail> {
     let begin = Begin {
         owner: 0,
         kind: Kind::Negotiation,
         requester: false,
         session: 7,
         stream,
-        timeout: 60000,
-        objective,
+        timeout: 1000,
+        objective: objective(alloc, 6, 1)?,
         taken: false,
     };
-    if table.state(stream).is_some() {
-        return Err(Fail::from("a session"));
-    }
-    table.start(0, begin)?;
-    Ok(())
-}
-
-/// The loop count and the number of an objective.
-fn offer(objective: &Objective) -> (u8, u64) {
-    match &objective.value {
-        Some(value) => match value.item() {
-            Item::Uint(number) => (objective.loops, *number),
-            _ => (objective.loops, 0),
-        },
-        None => (objective.loops, 0),
+    match table.state(stream) {
+        Some(_) => Err(Fail::from("a session")),
+        None => Ok(table.start(0, begin)?),
     }
 }
 
-fn outcome(outcome: &Outcome) -> Seen {
-    match outcome {
-        Outcome::Agreed { by, objective } => {
-            let (loops, number) = offer(objective);
-            Seen::Agreed(*by, loops, number)
+/// The agent offers a number, by the message that was foretold, and the other end hears it.
+fn step(speaker: &mut Table, handle: Handle, hearer: &mut Table) -> Result<Received, Fail> {
+    match speaker.check(AGENT, handle, Act::Step) {
+        Ok(()) => {
+            let _foretold = speaker.step_message(AGENT, handle, &value(2)?)?;
+            let message = speaker.step(0, AGENT, handle, value(2)?)?;
+            Ok(hearer.receive(0, 1, message))
         }
-        Outcome::Synchronized { objective } => {
-            let (loops, number) = offer(objective);
-            Seen::Synchronized(loops, number)
-        }
-        Outcome::TimedOut { deadline, now } => Seen::TimedOut(*deadline, *now),
-        Outcome::Broken => Seen::Broken,
-        _ => Seen::Other,
+        Err(refused) => Err(Fail::from(refused)),
     }
 }
 
-fn poll(table: &mut Table, handle: Handle) -> Result<Seen, SessionRefused> {
+/// The agent asks for more time.
+fn wait(speaker: &mut Table, handle: Handle, hearer: &mut Table) -> Result<Received, Fail> {
+    match speaker.check(AGENT, handle, Act::Wait) {
+        Ok(()) => {
+            let message = speaker.wait(0, AGENT, handle, 10);
+            Ok(hearer.receive(0, 1, message))
+        }
+        Err(refused) => Err(Fail::from(refused)),
+    }
+}
+
+/// The owner accepts or declines.
+fn end(table: &mut Table, owner: u32, handle: Handle, verdict: Verdict) -> Result<Message, Fail> {
+    match table.check(owner, handle, Act::End) {
+        Ok(()) => Ok(table.end(0, owner, handle, verdict)?),
+        Err(refused) => Err(Fail::from(refused)),
+    }
+}
+
+/// The agent accepts.
+fn accept(speaker: &mut Table, handle: Handle, hearer: &mut Table) -> Result<Received, Fail> {
+    let message = end(speaker, AGENT, handle, Verdict::Accept)?;
+    Ok(hearer.receive(0, 1, message))
+}
+
+/// The agent gives up.
+fn invalid(table: &mut Table, handle: Handle) -> Result<(), Fail> {
+    match table.check(AGENT, handle, Act::Invalid) {
+        Ok(()) => {
+            let _message = table.invalid(0, AGENT, handle, None);
+            Ok(())
+        }
+        Err(refused) => Err(Fail::from(refused)),
+    }
+}
+
+/// How far the agent's session is: a turn or an agreement, by the offer's loop count and number, or a timeout.
+fn poll(table: &mut Table, handle: Handle) -> Result<Option<(u8, u64)>, Fail> {
     match &table.poll(AGENT, handle)? {
-        Progress::NotYet => Ok(Seen::NotYet),
-        Progress::Turn(objective) => {
-            let (loops, number) = offer(objective);
-            Ok(Seen::Turn(loops, number))
-        }
-        Progress::Ended(ended) => Ok(outcome(ended)),
-    }
-}
-
-/// The session is told to be over by this, and then it is gone.
-fn ended(rt: &impl Abort, table: &mut Table, handle: Handle, seen: Seen) {
-    assert_eq!(rt; poll(table, handle), Ok(seen));
-    assert_eq!(rt; poll(table, handle), Err(SessionRefused::NoSession));
-}
-
-/// What the end says, or why it may not.
-fn say(
-    table: &mut Table,
-    handle: Handle,
-    wish: Wish,
-) -> Result<Result<Message, SessionRefused>, Fail> {
-    match wish {
-        Wish::Step(number) => match table.check(AGENT, handle, Act::Step) {
-            Ok(()) => Ok(Ok(table.step(0, AGENT, handle, value(number)?)?)),
-            Err(refused) => Ok(Err(refused)),
-        },
-        Wish::Wait(millis) => match table.check(AGENT, handle, Act::Wait) {
-            Ok(()) => Ok(Ok(table.wait(0, AGENT, handle, millis))),
-            Err(refused) => Ok(Err(refused)),
-        },
-        Wish::Accept => match table.check(AGENT, handle, Act::End) {
-            Ok(()) => Ok(Ok(table.end(0, AGENT, handle, Verdict::Accept)?)),
-            Err(refused) => Ok(Err(refused)),
-        },
-        Wish::Invalid => match table.check(AGENT, handle, Act::Invalid) {
-            Ok(()) => Ok(Ok(table.invalid(0, AGENT, handle, None))),
-            Err(refused) => Ok(Err(refused)),
-        },
-    }
-}
-
-/// The first end wants this. What it may say is handed to the other end, which keeps it.
-fn play(
-    speaker: &mut Table,
-    handle: Handle,
-    hearer: &mut Table,
-    wish: Wish,
-) -> Result<Result<Received, SessionRefused>, Fail> {
-    match say(speaker, handle, wish)? {
-        Ok(message) => Ok(Ok(hearer.receive(0, STREAM, message))),
-        Err(refused) => Ok(Err(refused)),
+        Progress::Turn(objective) => Ok(Some(offer(objective))),
+        Progress::Ended(Outcome::Agreed { by: _, objective }) => Ok(Some(offer(objective))),
+        Progress::Ended(Outcome::Synchronized { objective }) => Ok(Some(offer(objective))),
+        Progress::Ended(Outcome::TimedOut { deadline, now: _ }) => Ok(Some((0, *deadline))),
+        _ => Ok(None),
     }
 }
 
@@ -211,37 +138,14 @@ struct Ends {
     asked: Handle,
 }
 
-/// The ends want these things one after the other.
-fn play_all(
-    rt: &impl Abort,
-    ends: &mut Ends,
-    wishes: &[(End, Wish, Option<SessionRefused>)],
-) -> Result<(), Fail> {
-    for &(end, wish, refused) in wishes {
-        let played = match end {
-            End::Near => play(&mut ends.near, ends.asking, &mut ends.far, wish)?,
-            End::Far => play(&mut ends.far, ends.asked, &mut ends.near, wish)?,
-        };
-        match played {
-            Ok(received) => assert_eq!(rt; (received, refused), (Received::Kept, None)),
-            Err(cause) => assert_eq!(rt; Some(cause), refused),
-        }
-    }
-    Ok(())
-}
-
-/// The near end asks with so many loops, and the far end's agent takes the request.
-fn pair(rt: &impl Abort, alloc: Global, loops: u8, timeout: u32) -> Result<Ends, Fail> {
+fn pair(alloc: Global) -> Result<Ends, Fail> {
     let mut near = Table::new(alloc)?;
     let mut far = Table::new(alloc)?;
-    let asking = ask(alloc, &mut near, negotiation(STREAM, loops, timeout))??;
-    listen(alloc, &mut far, STREAM, loops)?;
+    let asking = ask(alloc, &mut near, Kind::Negotiation, 1)??;
+    listen(alloc, &mut far, 1)?;
     let name = Chars::of(alloc, "x")?;
-    let Some(asked) = far.untaken(&name) else {
-        return Err(Fail::from("untaken"));
-    };
-    let objective = far.adopt(AGENT, asked)?;
-    assert_eq!(rt; offer(&objective), (loops, 1));
+    let asked = far.untaken(&name).ok_or("untaken")?;
+    let _objective = far.adopt(AGENT, asked)?;
     Ok(Ends {
         near,
         asking,
@@ -251,195 +155,81 @@ fn pair(rt: &impl Abort, alloc: Global, loops: u8, timeout: u32) -> Result<Ends,
 }
 
 #[test]
-fn accepted_at_once(rt: HostRuntime) -> Result<(), Fail> {
-    let mut ends = pair(&rt, rt.alloc(), 6, 60000)?;
-    let wishes = [
-        (End::Near, Wish::Accept, Some(SessionRefused::NotYourTurn)),
-        (End::Far, Wish::Accept, None),
-    ];
-    play_all(&rt, &mut ends, &wishes)?;
-    ended(
-        &rt,
-        &mut ends.near,
-        ends.asking,
-        Seen::Agreed(By::Theirs, 6, 1),
-    );
-    ended(&rt, &mut ends.far, ends.asked, Seen::Agreed(By::Mine, 6, 1));
-    Ok(())
-}
-
-#[test]
-fn last_loop_allows_no_step(rt: HostRuntime) -> Result<(), Fail> {
-    let mut ends = pair(&rt, rt.alloc(), 1, 60000)?;
-    let wishes = [
-        (End::Far, Wish::Step(2), Some(SessionRefused::LoopsSpent)),
-        (End::Far, Wish::Accept, None),
-    ];
-    play_all(&rt, &mut ends, &wishes)?;
-    ended(
-        &rt,
-        &mut ends.near,
-        ends.asking,
-        Seen::Agreed(By::Theirs, 1, 1),
-    );
-    ended(&rt, &mut ends.far, ends.asked, Seen::Agreed(By::Mine, 1, 1));
-    Ok(())
-}
-
-#[test]
 fn counter_offer(rt: HostRuntime) -> Result<(), Fail> {
-    let mut ends = pair(&rt, rt.alloc(), 6, 60000)?;
-    let wishes = [
-        (End::Far, Wish::Step(2), None),
-        (End::Near, Wish::Step(3), None),
-        (End::Near, Wish::Accept, Some(SessionRefused::NotYourTurn)),
-        (End::Far, Wish::Step(4), None),
-        (End::Near, Wish::Accept, None),
-        (End::Near, Wish::Invalid, Some(SessionRefused::NotYourTurn)),
-    ];
-    play_all(&rt, &mut ends, &wishes)?;
-    ended(
-        &rt,
-        &mut ends.near,
-        ends.asking,
-        Seen::Agreed(By::Mine, 3, 4),
-    );
-    ended(
-        &rt,
-        &mut ends.far,
-        ends.asked,
-        Seen::Agreed(By::Theirs, 3, 4),
-    );
+    let mut ends = pair(rt.alloc())?;
+    let waited = wait(&mut ends.far, ends.asked, &mut ends.near)?;
+    let stepped = step(&mut ends.far, ends.asked, &mut ends.near)?;
+    assert_eq!(rt; (waited, stepped), (Received::Kept, Received::Kept));
+    assert_eq!(rt; poll(&mut ends.near, ends.asking)?, Some((5, 2)));
+    let accepted = accept(&mut ends.near, ends.asking, &mut ends.far)?;
+    assert_eq!(rt; accepted, Received::Kept);
+    assert_eq!(rt; poll(&mut ends.far, ends.asked)?, Some((5, 2)));
+    assert_eq!(rt; ends.near.state(1), Some((7, true)));
     Ok(())
 }
 
 #[test]
 fn waits_and_timeout(rt: HostRuntime) -> Result<(), Fail> {
-    let mut ends = pair(&rt, rt.alloc(), 6, 1000)?;
-    let wishes = [
-        (End::Far, Wish::Wait(5000), None),
-        (End::Far, Wish::Wait(1), None),
-        (End::Far, Wish::Wait(1), None),
-        (End::Far, Wish::Wait(1), None),
-        (End::Far, Wish::Wait(1), Some(SessionRefused::WaitsSpent)),
-    ];
-    play_all(&rt, &mut ends, &wishes)?;
-    assert_eq!(rt; ends.near.expire_one(4999), None);
-    assert_eq!(rt; poll(&mut ends.near, ends.asking), Ok(Seen::NotYet));
-    assert_eq!(rt; ends.near.expire_one(5000), Some(STREAM));
-    assert_eq!(rt; ends.near.expire_one(5000), None);
-    assert_eq!(rt; ends.near.state(STREAM), Some((7, true)));
-    ended(&rt, &mut ends.near, ends.asking, Seen::TimedOut(5000, 5000));
-    Ok(())
-}
-
-#[test]
-fn broken_and_timed_out(rt: HostRuntime) -> Result<(), Fail> {
-    let mut ends = pair(&rt, rt.alloc(), 3, 1000)?;
-    let wishes = [
-        (End::Far, Wish::Step(2), None),
-        (End::Near, Wish::Step(3), None),
-        (End::Near, Wish::Step(4), Some(SessionRefused::NotYourTurn)),
-        (End::Far, Wish::Step(5), Some(SessionRefused::LoopsSpent)),
-    ];
-    play_all(&rt, &mut ends, &wishes)?;
-    assert_eq!(rt; poll(&mut ends.far, ends.asked), Ok(Seen::Turn(1, 3)));
-    ends.far.closed(STREAM);
-    ended(&rt, &mut ends.far, ends.asked, Seen::Broken);
-    assert_eq!(rt; ends.near.expire_one(1000), Some(STREAM));
-    ended(&rt, &mut ends.near, ends.asking, Seen::TimedOut(1000, 1000));
-    Ok(())
-}
-
-#[test]
-fn readings_at_the_top(rt: HostRuntime) -> Result<(), Fail> {
-    let top = u64::MAX;
     let mut table = Table::new(rt.alloc())?;
-    let mut late = negotiation(STREAM, 6, 1000);
-    late.now = top - 10;
-    let handle = ask(rt.alloc(), &mut table, late)??;
-    let wait = Message::Wait {
-        session: 7,
-        millis: u32::MAX,
-    };
-    assert_eq!(rt; table.receive(top - 5, STREAM, wait), Received::Kept);
-    assert_eq!(rt; table.expire_one(top - 1), None);
-    assert_eq!(rt; table.expire_one(top), Some(STREAM));
-    ended(&rt, &mut table, handle, Seen::TimedOut(top, top));
-    Ok(())
-}
-
-#[test]
-fn sixty_four_sessions_and_one_more(rt: HostRuntime) -> Result<(), Fail> {
-    let mut table = Table::new(rt.alloc())?;
-    for number in 1..65 {
-        assert!(rt; !table.full());
-        let handle = ask(rt.alloc(), &mut table, negotiation(number, 6, 1000))??;
-        assert_eq!(rt; (handle.number, table.live()), (number, number));
-        assert_eq!(rt; table.stream(handle), Some(number));
+    let handle = ask(rt.alloc(), &mut table, Kind::Negotiation, 1)??;
+    for millis in [5000, 1, 1, 1] {
+        let wait = Message::Wait { session: 7, millis };
+        assert_eq!(rt; table.receive(0, 1, wait), Received::Kept);
     }
-    assert!(rt; table.full());
-    let refused = ask(rt.alloc(), &mut table, negotiation(65, 6, 1000))?;
-    assert_eq!(rt; refused, Err(SessionRefused::SessionsFull));
-    let Some(first) = table.of_owner(AGENT) else {
-        return Err(Fail::from("no session"));
-    };
-    assert_eq!(rt; first.number, 1);
-    table.remove(first);
-    assert_eq!(rt; (table.live(), table.stream(first)), (63, None));
-    let next = ask(rt.alloc(), &mut table, negotiation(66, 6, 1000))??;
-    assert_eq!(rt; (next.number, table.live()), (65, 64));
-    assert_eq!(rt; (table.uses(7), table.uses(8)), (true, false));
-    Ok(())
-}
-
-#[test]
-fn untaken_sessions(rt: HostRuntime) -> Result<(), Fail> {
-    let name = Chars::of(rt.alloc(), "x")?;
-    let mut table = Table::new(rt.alloc())?;
-    for stream in [3, 1, 5] {
-        listen(rt.alloc(), &mut table, stream, 6)?;
-    }
-    let first = table.untaken(&name).ok_or("untaken")?;
-    assert_eq!(rt; table.stream(first), Some(3));
-    assert_eq!(rt; table.session(first), Some(7));
-    assert_eq!(rt; table.last(first).map(offer), Some((6, 1)));
-    table.bad(3);
-    assert_eq!(rt; (table.state(3), table.live()), (None, 2));
-    let next = table.untaken(&name).ok_or("untaken")?;
-    assert_eq!(rt; table.stream(next), Some(1));
-    table.starved(1);
-    table.closed(5);
-    assert_eq!(rt; (table.untaken(&name), table.live()), (None, 0));
+    assert_eq!(rt; table.expire_one(4999), None);
+    assert_eq!(rt; table.expire_one(5000), Some(1));
+    assert_eq!(rt; poll(&mut table, handle)?, Some((0, 5000)));
     Ok(())
 }
 
 #[test]
 fn synchronization(rt: HostRuntime) -> Result<(), Fail> {
     let mut table = Table::new(rt.alloc())?;
-    let mut synchronized = negotiation(STREAM, 6, 1000);
-    synchronized.kind = Kind::Synchronization;
-    let handle = ask(rt.alloc(), &mut table, synchronized)??;
-    for act in [Act::Step, Act::Wait, Act::End] {
-        let refused = table.check(AGENT, handle, act);
-        assert_eq!(rt; refused, Err(SessionRefused::NotYourTurn));
-    }
-    let accept = Message::End {
-        session: 7,
-        verdict: Verdict::Accept,
-    };
-    assert_eq!(rt; table.receive(1, STREAM, accept), Received::Bad);
-    let step = Message::Negotiate {
-        session: 7,
-        objective: objective(rt.alloc(), 5, 10)?,
-    };
-    assert_eq!(rt; table.receive(1, STREAM, step), Received::Bad);
+    let handle = ask(rt.alloc(), &mut table, Kind::Synchronization, 3)??;
     let answer = Message::Synch {
         session: 7,
         objective: objective(rt.alloc(), 6, 10)?,
     };
-    assert_eq!(rt; table.receive(1, STREAM, answer), Received::Kept);
-    assert_eq!(rt; table.receive(2, STREAM, Message::Noop), Received::Ignored);
-    ended(&rt, &mut table, handle, Seen::Synchronized(6, 10));
+    assert_eq!(rt; table.receive(1, 3, answer), Received::Kept);
+    assert_eq!(rt; poll(&mut table, handle)?, Some((6, 10)));
+    Ok(())
+}
+
+#[test]
+fn sixty_four_sessions(rt: HostRuntime) -> Result<(), Fail> {
+    let mut table = Table::new(rt.alloc())?;
+    for stream in 1..65 {
+        let handle = ask(rt.alloc(), &mut table, Kind::Negotiation, stream)??;
+        assert_eq!(rt; handle.number, stream);
+    }
+    assert_eq!(rt;
+        (table.full(), table.live(), table.uses(7)),
+        (true, 64, true)
+    );
+    let first = table.of_owner(AGENT).ok_or("no session")?;
+    table.remove(first);
+    let next = ask(rt.alloc(), &mut table, Kind::Negotiation, 66)??;
+    assert_eq!(rt; (next.place, next.number), (0, 65));
+    invalid(&mut table, next)
+}
+
+#[test]
+fn untaken_sessions(rt: HostRuntime) -> Result<(), Fail> {
+    let name = Chars::of(rt.alloc(), "x")?;
+    let mut table = Table::new(rt.alloc())?;
+    for stream in [3, 1, 5, 7, 9] {
+        listen(rt.alloc(), &mut table, stream)?;
+    }
+    let next = table.untaken_above(&name, 1).ok_or("untaken")?;
+    assert_eq!(rt; (next.number, table.stream(next)), (2, Some(1)));
+    assert_eq!(rt;
+        (table.session(next), table.last(next).map(offer)),
+        (Some(7), Some((6, 1)))
+    );
+    end(&mut table, 0, next, Verdict::Decline(None))?;
+    table.bad(3);
+    table.starved(5);
+    table.closed(7);
+    assert_eq!(rt; (table.live(), table.state(9)), (1, Some((7, false))));
     Ok(())
 }

@@ -16,6 +16,8 @@ pub(crate) enum Wanted<'a> {
     Due(u64),
     /// No agent has taken it, and its objective has this name.
     Untaken(&'a Chars),
+    /// The same, and its number is above this one.
+    UntakenAbove(&'a Chars, u64),
     /// This agent holds it.
     OwnedBy(u32),
     /// This end requested it under this session number.
@@ -32,6 +34,11 @@ impl<'a> Wanted<'a> {
             Wanted::Due(now) => session.ending.is_none() && session.deadline <= now,
             Wanted::Untaken(name) => {
                 session.owner == 0 && session.request.name.bytes() == name.bytes()
+            }
+            Wanted::UntakenAbove(name, number) => {
+                number < session.number
+                    && session.owner == 0
+                    && session.request.name.bytes() == name.bytes()
             }
             Wanted::OwnedBy(owner) => session.owner == owner,
             Wanted::Requested(number) => session.requester && session.session == number,

@@ -7,8 +7,11 @@ pub mod ListLaws
 pub mod MessageLaws
 pub mod NumberWords
 pub mod PartLaws
+pub mod Places
 pub mod PrefixWords
 pub mod Pushed
+mod Ranges
+pub mod Readers
 pub mod SpelledWords
 pub mod Splitting
 pub mod TextWords

@@ -4,7 +4,6 @@ use Rattle.std.proofs.lemmas.List.{append-nil}
 use Rattle.grasp_types.specs.Message.{IsMessage}
 use Rattle.grasp_types.specs.declared.message.Message.{Message}
 use Rattle.grasp_text.specs.Grammar.{message_at}
-use Rattle.grasp_text.specs.Laws.{EachHasOneLine}
 use Rattle.grasp_text.specs.Line.{message_words, IsLineOf, IsNoLine, CanBegin}
 use Rattle.grasp_text.specs.Place.{IsPlace}
 use Rattle.grasp_text.specs.Words.{words_of, joined}
@@ -39,9 +38,6 @@ line_one line a b p q = ap (λ (x : Message × List (List ℕ)). x.0) (ok_is (a,
 -- a message read is the line's message
 pub line_same : (line : List ℕ) (a : Message) (left : List (List ℕ)) → message_at (words_of line) ≡ Ok (a, left) → (b : Message) → IsLineOf line b → a ≡ b
 line_same line a left e b is = line_one line a b (line_only line a left e) is
-
-pub each_has_one : EachHasOneLine
-each_has_one m h = (record { whole = h; spelled = refl }, λ line is. is.spelled)
 
 -- ---- the place
 

@@ -94,6 +94,9 @@ own = numerals_by_value (AllDigits 10) tells_digits
 pub number_digit : (n i : ℕ) → n < 2 ^ 64 → i < length (decimal n) → 48 ≤ get_or (decimal n) i 0
 number_digit n i lt inside = let d = digit_at (decimal n) i (digits_decimal own n lt) inside in omega arith
 
+pub number_digit_most : (n i : ℕ) → n < 2 ^ 64 → i < length (decimal n) → get_or (decimal n) i 0 ≤ 57
+number_digit_most n i lt inside = let d = digit_at (decimal n) i (digits_decimal own n lt) inside in omega arith
+
 pub number_no_dash : (most : ℕ) → most < 2 ^ 64 → number_of most (codes "-") ≡ None
 number_no_dash most small = number_none most (codes "-") (λ n le e.
     let some_digit : 0 < length (decimal n) = decimal_nonempty n (omega arith) in

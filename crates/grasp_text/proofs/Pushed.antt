@@ -1,8 +1,10 @@
 -- Words behind words.
-use Rattle.std.proofs.Common.{◌≡◌, ℕ, ◌+◌, ◌≤◌, List, [], ◌∷◌, ◌++◌, length, take, Some, refl, sym, ap, subst, ◌∙◌, append_assoc}
+use Rattle.std.proofs.Common.{◌≡◌, ℕ, ◌+◌, ◌≤◌, List, [], ◌∷◌, ◌++◌, length, take, Some, Result, Ok, Err, refl, sym, ap, subst, ◌∙◌, append_assoc}
+use Rattle.std.specs.Prelude.{OnErr}
 use Rattle.std.proofs.lemmas.List.{append-nil, take_all, take_more}
 use Rattle.std.proofs.lemmas.Option.{slice_get_within, get_or_from_slice_get}
 use Rattle.std.specs.List.{AllByRecursion, slice_get}
+use Rattle.grasp_cbor.specs.Extends.{Extends}
 use Rattle.grasp_types.specs.Message.{IsMessage}
 use Rattle.grasp_types.specs.declared.address.Locator.{Locator}
 use Rattle.grasp_types.specs.declared.flood.FloodPart.{FloodPart}
@@ -29,7 +31,15 @@ pub joined_spaced : (w : List ℕ) (ws : List (List ℕ)) → joined (w ∷ ws) 
 joined_spaced w [] = sym (append-nil w)
 joined_spaced w (v ∷ ws) = ap (λ (x : List ℕ). w ++ 32 ∷ x) (joined_spaced v ws)
 
-pub ruleset pushes = (one_pushed, some_pushed)
+-- what stays where a later word isn't appended whole
+pub extends_words : (old middle new words : List ℕ) → middle ≡ old ++ words → Extends middle new → Extends old new
+extends_words old middle new words e b = (words ++ b.0, b.1 ∙ ap (λ (x : List ℕ). x ++ b.0) e ∙ append_assoc old words b.0)
+
+pub extends_later : {A E : Type 0} (r : Result A E) (old middle new words : List ℕ) → middle ≡ old ++ words → OnErr r (Extends middle new) → OnErr r (Extends old new)
+extends_later (Ok a) old middle new words e h = tt
+extends_later (Err x) old middle new words e h = extends_words old middle new words e h
+
+pub ruleset pushes = (one_pushed, some_pushed, extends_words, extends_later)
 
 -- ---- one more locator, and one more part
 

@@ -16,13 +16,13 @@ use Rattle.grasp_cbor.specs.Shortest.{shortest}
 use Rattle.grasp_cbor.specs.declared.read.ItemFault.{ItemFault}
 use Rattle.grasp_cbor.specs.declared.read.ItemFault.TheVariants as faults
 use Rattle.grasp_cbor.proofs.Again.{item_again}
-use Rattle.grasp_cbor.proofs.Encoded.{encoded}
 use Rattle.grasp_cbor.proofs.Found.{item_found}
 use Rattle.grasp_cbor.proofs.HeadBytes.{AllBytes-at, AllBytes-from}
 use Rattle.grasp_cbor.proofs.Shortest.{Encodes-shortest}
 use Rattle.grasp_cbor.proofs.Whole.{one_encodes}
 use Rattle.grasp_types.specs.Objective.{IsValue}
 use Rattle.grasp_text.specs.Line.{value_word}
+use Rattle.grasp_text.proofs.Ranges.{in_range}
 use Rattle.grasp_text.specs.Reading.{decoded, bytes_of, whole_value, as_value, item_of_bytes, value_behind, value_of, behind_byte}
 use Rattle.grasp_text.proofs.Lawful.{Exact}
 use Rattle.grasp_text.proofs.NumberWords.{some, some_is, is_none}
@@ -37,9 +37,10 @@ bytes_again bytes fits =
     ap (λ (r : Result (List ℕ) FromHexError). decoded r (encode_lower bytes)) (decode_of-encode_lower bytes fits)
     ∙ ap (λ (b : Bool). cond b (some bytes) None) ((bytes_eq-Decides (encode_lower bytes) (encode_lower bytes)).1 refl)
 
-record AreDigits (word bytes : List ℕ) : Type 0 where
-  spelled : word ≡ encode_lower bytes
-  fits : IsBytes bytes
+-- these bytes' digits
+pub record AreDigits (word bytes : List ℕ) : Type 0 where
+  pub spelled : word ≡ encode_lower bytes
+  pub fits : IsBytes bytes
 
 bytes_only_at : (word bytes : List ℕ) (r : Result (List ℕ) FromHexError) → decode_of word ≡ r → decoded r word ≡ Some bytes → AreDigits word bytes
 bytes_only_at word bytes (Err x) d e = absurd (let z : None ≡ some bytes = e in cc)
@@ -52,7 +53,7 @@ bytes_only_at word bytes (Ok found) d e = by_test (bytes_eq (encode_lower found)
         let ok = decode_of-ok word found d in
         record { spelled = sym ((bytes_eq-Decides (encode_lower found) word).0 t) ∙ ap encode_lower is; fits = subst IsBytes is ok.3 }
 
-bytes_only : (word bytes : List ℕ) → bytes_of word ≡ Some bytes → AreDigits word bytes
+pub bytes_only : (word bytes : List ℕ) → bytes_of word ≡ Some bytes → AreDigits word bytes
 unfolding bytes_of
 bytes_only word bytes e = bytes_only_at word bytes (decode_of word) refl e
 
@@ -91,8 +92,8 @@ whole_only bytes found [] item fits is e = by_test (bytes_eq (shortest found) by
         let built = item_found 13 bytes (found, []) fits is in
         let same : shortest found ≡ bytes = (bytes_eq-Decides (shortest found) bytes).0 t in
         let front : built.front ≡ shortest found = sym (built.parts ∙ append-nil built.front) ∙ sym same in
-        let enc : Encodes found (shortest found) = record { encoding = subst (λ (x : List ℕ). IsEncoding found x) front built.encoding; within = omega (arith, built.within) } in
-        subst (λ (x : DataItem). IsValueOf bytes x) (some_is found item f) (record { value = record { within = built.within; encodable = encoded found (shortest found) (AllBytes-from (shortest found) (subst IsBytes (sym same) fits)) enc }; spelled = sym same })
+        let enc : IsEncoding found (shortest found) = subst (λ (x : List ℕ). IsEncoding found x) front built.encoding in
+        subst (λ (x : DataItem). IsValueOf bytes x) (some_is found item f) (record { value = record { within = built.within; encodable = in_range found (AllBytes-from (shortest found) (subst IsBytes (sym same) fits)) enc }; spelled = sym same })
 
 value_only_at : (bytes : List ℕ) (o : Option (DataItem × List ℕ)) (item : DataItem) → IsBytes bytes → item_at 13 bytes ≡ o → as_value bytes o ≡ Some item → IsValueOf bytes item
 value_only_at bytes None item fits is e = absurd (let z : None ≡ some item = e in cc)
@@ -169,7 +170,6 @@ only_whole bytes item o enc only =
 -- a fault other than want of memory
 pub no_item : (bytes : List ℕ) (fault : ItemFault) → ¬ (fault ≡ faults.OutOfMemory) → ((ending : Ending) → IsEnding bytes (length bytes + 1) ending → IfSome (fault_ending fault) (λ e. e ≡ ending)) → (item : DataItem) → ¬ (Encodes item bytes)
 no_item bytes (faults.Malformed at) memory only item enc = let z = only_whole bytes item (fault_ending (faults.Malformed at)) enc only in cc
-no_item bytes (faults.Indefinite at) memory only item enc = let z = only_whole bytes item (fault_ending (faults.Indefinite at)) enc only in cc
 no_item bytes (faults.NotText at) memory only item enc = let z = only_whole bytes item (fault_ending (faults.NotText at)) enc only in cc
 no_item bytes (faults.TooDeep at) memory only item enc = let z = only_whole bytes item (fault_ending (faults.TooDeep at)) enc only in cc
 no_item bytes faults.TooLong memory only item enc = let z = only_whole bytes item (fault_ending faults.TooLong) enc only in cc

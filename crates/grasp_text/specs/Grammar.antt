@@ -1,4 +1,5 @@
--- Reading the parts of a message's line from left to right.
+-- Reading the parts of a message's line from left to right. Public calls cite `objective_at`, `locator_at` and
+-- `optional_locator_at`, which the laws of Laws.antt determine; all else is inside: only private calls cite it.
 use Rattle.std.specs.Prelude.{ℕ, zero, suc, if◌then◌else◌, List, [], ◌∷◌, ◌++◌, length, Option, Some, None, Ok, Err, codes, Bool, true, false}
 use Rattle.std.specs.Str.{bytes_eq}
 use Rattle.grasp_types.specs.declared.address.Locator.{Locator}

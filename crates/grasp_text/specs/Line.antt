@@ -46,6 +46,10 @@ all_escaped (b ∷ bytes) = escaped b ++ all_escaped bytes
 abbrev pub text_word : List ℕ → List ℕ
 text_word bytes = 39 ∷ all_escaped bytes
 
+-- raw bytes are `x` and their lower-case hexadecimal digits
+abbrev pub bytes_word : List ℕ → List ℕ
+bytes_word bytes = 120 ∷ encode_lower bytes
+
 -- a value is `x` and the lower-case hexadecimal digits of its shortest encoding
 abbrev pub value_word : DataItem → List ℕ
 value_word item = 120 ∷ encode_lower (shortest item)

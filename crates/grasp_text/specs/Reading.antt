@@ -1,5 +1,7 @@
 -- Reading words from left to right, as functions: a value and the words after it, or how many bytes the line has from
--- the word on that doesn't fit.
+-- the word on that doesn't fit. Public calls cite `Reads`, `word_at`, `end_at`, `exactly`, `maybe_of`, and `number_of`,
+-- `text_of`, `value_of` and `address_of`, which the laws of Laws.antt determine; all else is inside: only private calls
+-- cite it.
 use Rattle.std.specs.Prelude.{◌≡◌, ℕ, ◌+◌, ◌-◌, ◌*◌, ◌==◌, Bool, not, nat_le, nat_lt, ◌&&◌, if◌then◌else◌, List, [], ◌∷◌, length, take, drop, Option, Some, None, Result, Ok, Err, codes, decimal}
 use Rattle.std.specs.Int.{Width, w32, w128, from_be_bytes}
 use Rattle.std.specs.Str.{is_utf8, bytes_eq}

@@ -1,8 +1,10 @@
 //! Addresses and other bytes as hexadecimal words.
 
-ghost use Rattle.std.specs.Prelude.{◌≡◌, ◌++◌, ◌∷◌, [], OnOk, IfOk, option_map, string_bytes};
+ghost use Rattle.std.specs.Prelude.{◌≡◌, ◌++◌, ◌∷◌, [], OnOk, OnErr, IfOk, IfSome, IfNone, option_map, string_bytes};
 ghost use Rattle.std.specs.Int.{w32, w128};
+ghost use Rattle.grasp_cbor.specs.Extends.{Extends};
 ghost use Rattle.grasp_types.specs.Address.{IsAddress};
+ghost use Rattle.grasp_types.specs.declared.address.Address.{Address};
 ghost use Rattle.grasp_text.specs.Line.{address_word, v4_word, v6_word};
 ghost use Rattle.grasp_text.specs.Reading.{v4_of, v6_of, address_of, bytes_of};
 ghost use Rattle.grasp_text.specs.Words.{spaced};
@@ -49,9 +51,19 @@ pub(crate) fn v6_address(word: &[u8]) -> Option<u128>
     }
 }
 
-/// The address of a word of 8 or 32 lower-case hexadecimal digits, or `None`.
-#[tactic(auto, unfolding(crate::specs::Reading::address_of))]
+/// The address of a word of 8 or 32 lower-case hexadecimal digits, or `None` where no address has it.
 pub fn address(word: &[u8]) -> Option<Address>
+    ensures found { IfSome result (λ a. word.now ≡ address_word a) }
+    ensures valid { IfSome result IsAddress }
+    ensures none { IfNone result ((a : Address) → IsAddress a → ¬ (word.now ≡ address_word a)) }
+    ensures value { result ≡ address_of word.now }
+{
+    read_address(word)
+}
+
+/// The address of 8 digits or of 32, or `None`.
+#[tactic(auto, unfolding(crate::specs::Reading::address_of))]
+fn read_address(word: &[u8]) -> Option<Address>
     ensures { result ≡ address_of word.now }
 {
     match v4_address(word) {
@@ -60,10 +72,11 @@ pub fn address(word: &[u8]) -> Option<Address>
     }
 }
 
-/// Appends a blank and an address. After an `Err` the text may end in a part of them.
+/// Appends a blank and an address. After an `Err` a part of them may have been appended.
 pub fn push_address(alloc: Global, out: &mut String, address: Address) -> Result<(), OutOfMemory>
     ensures ranges { OnOk result (IsAddress address) }
     ensures text { OnOk result (string_bytes out.new ≡ string_bytes out.old ++ spaced (address_word address ∷ [])) }
+    ensures err { OnErr result (Extends (string_bytes out.old) (string_bytes out.new)) }
 {
     match address {
         Address::V4(n) => push_v4(alloc, out, n),
@@ -73,7 +86,8 @@ pub fn push_address(alloc: Global, out: &mut String, address: Address) -> Result
 
 /// Appends a blank and an IPv4 address.
 pub(crate) fn push_v4(alloc: Global, out: &mut String, n: u32) -> Result<(), OutOfMemory>
-    ensures { OnOk result (string_bytes out.new ≡ string_bytes out.old ++ spaced (v4_word n ∷ [])) }
+    ensures text { OnOk result (string_bytes out.new ≡ string_bytes out.old ++ spaced (v4_word n ∷ [])) }
+    ensures err { OnErr result (Extends (string_bytes out.old) (string_bytes out.new)) }
 {
     let digits = hex::encode(alloc, n.to_be_bytes())?;
     out.push(' ')?;
@@ -83,7 +97,8 @@ pub(crate) fn push_v4(alloc: Global, out: &mut String, n: u32) -> Result<(), Out
 
 /// Appends a blank and an IPv6 address.
 pub(crate) fn push_v6(alloc: Global, out: &mut String, n: u128) -> Result<(), OutOfMemory>
-    ensures { OnOk result (string_bytes out.new ≡ string_bytes out.old ++ spaced (v6_word n ∷ [])) }
+    ensures text { OnOk result (string_bytes out.new ≡ string_bytes out.old ++ spaced (v6_word n ∷ [])) }
+    ensures err { OnErr result (Extends (string_bytes out.old) (string_bytes out.new)) }
 {
     let digits = hex::encode(alloc, n.to_be_bytes())?;
     out.push(' ')?;

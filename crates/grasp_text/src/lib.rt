@@ -20,12 +20,15 @@ mod writing;
 
 pub use fault::{TextFault, WordFault};
 pub use hexes::{address, push_address};
-pub use message::{each_has_one_line, lines_are_their_words, lines_have_one_message, message_of};
+pub use message::{
+    lines_are_messages_or_bad, lines_are_printable, lines_are_their_words, lines_have_one_message,
+    lines_have_one_place, message_of, words_are_read, words_are_taken,
+};
 pub use numbers::{number, push_number};
-pub use parts::{read_locator, read_objective};
+pub use parts::{read_locator, read_objective, read_optional_locator};
 pub use prefixes::{prefix, push_prefix};
 pub use texts::{push_text, text};
-pub use values::{push_value, value};
+pub use values::{bytes, push_bytes, push_value, value};
 pub use words::Words;
 pub use writing::{
     line_of, push_locator, push_objective, push_optional_locator, push_optional_value, push_word,

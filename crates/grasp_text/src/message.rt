@@ -2,7 +2,7 @@
 
 ghost use Rattle.std.specs.Prelude.{◌≡◌, IfOk};
 ghost use Rattle.grasp_types.specs.declared.message.Message.{Message};
-ghost use Rattle.grasp_text.specs.Laws.{LinesHaveOneMessage, EachHasOneLine, LinesAreTheirWords};
+ghost use Rattle.grasp_text.specs.Laws.{LinesHaveOneMessage, LinesAreTheirWords, LinesArePrintable, LinesHaveOnePlace, LinesAreMessagesOrBad, NumbersAreTaken, TextsAreTaken, ValuesAreTaken, OptionalValuesAreTaken, AddressesAreTaken, NumbersAreRead, TextsAreRead, ValuesAreRead, AddressesAreRead, ObjectivesAreRead, LocatorsAreRead, OptionalLocatorsAreRead};
 ghost use Rattle.grasp_text.specs.Line.{IsLineOf, IsNoLine};
 ghost use Rattle.grasp_text.specs.Place.{IsPlace, IfBadText};
 ghost use Rattle.grasp_text.specs.Grammar.{message_at, named_at, discovery_at, response_at, objective_of_session_at, end_message_at, wait_at, flood_at, invalid_at, reason_at, verdict_at, are_locators, is_accept, name_of};
@@ -44,14 +44,45 @@ pub fn lines_have_one_message()
     ensures { LinesHaveOneMessage }
 {}
 
-/// Each message has exactly one line.
-pub fn each_has_one_line()
-    ensures { EachHasOneLine }
-{}
-
 /// The words of a message's line are the message's words.
 pub fn lines_are_their_words()
     ensures { LinesAreTheirWords }
+{}
+
+/// A message's line is made of printable characters of ASCII alone.
+pub fn lines_are_printable()
+    ensures { LinesArePrintable }
+{}
+
+/// A line goes wrong at one place at most.
+pub fn lines_have_one_place()
+    ensures { LinesHaveOnePlace }
+{}
+
+/// Every line is a message's, or goes wrong at exactly one place.
+pub fn lines_are_messages_or_bad()
+    ensures { LinesAreMessagesOrBad }
+{}
+
+/// A word that is written is taken from the front of words as what it was written for, another isn't; and where one
+/// isn't taken, so many bytes are left from it on.
+pub fn words_are_taken()
+    ensures numbers { NumbersAreTaken }
+    ensures texts { TextsAreTaken }
+    ensures values { ValuesAreTaken }
+    ensures optional_values { OptionalValuesAreTaken }
+    ensures addresses { AddressesAreTaken }
+{}
+
+/// The words that are written are read as what they were written for, and no others are.
+pub fn words_are_read()
+    ensures numbers { NumbersAreRead }
+    ensures texts { TextsAreRead }
+    ensures values { ValuesAreRead }
+    ensures addresses { AddressesAreRead }
+    ensures objectives { ObjectivesAreRead }
+    ensures locators { LocatorsAreRead }
+    ensures optional_locators { OptionalLocatorsAreRead }
 {}
 
 /// Takes a message, to the end of the line.

@@ -1,7 +1,8 @@
 //! Decimal numbers as words.
 
-ghost use Rattle.std.specs.Prelude.{◌≡◌, ℕ, ◌<◌, ◌^◌, ◌&&◌, nat_le, ◌++◌, ◌∷◌, [], Some, ◌≤◌, IfSome, OnOk, decimal, string_bytes};
+ghost use Rattle.std.specs.Prelude.{◌≡◌, ℕ, ◌<◌, ◌^◌, ◌&&◌, nat_le, ◌++◌, ◌∷◌, [], Some, ◌≤◌, IfSome, IfNone, OnOk, OnErr, decimal, string_bytes};
 ghost use Rattle.std.specs.Str.{bytes_eq};
+ghost use Rattle.grasp_cbor.specs.Extends.{Extends};
 ghost use Rattle.grasp_text.specs.Reading.{number_of};
 ghost use Rattle.grasp_text.specs.Words.{spaced};
 
@@ -10,8 +11,10 @@ use itoa::Buffer;
 
 /// The number of a word, which is at most `most`: decimal digits with no leading zero, or `None`.
 pub fn number(word: &[u8], most: u64) -> Option<u64>
-    ensures value { result ≡ number_of most word.now }
+    ensures found { IfSome result (λ n. word.now ≡ decimal n) }
     ensures within { IfSome result (λ n. n ≤ most) }
+    ensures none { IfNone result ((n : ℕ) → n ≤ most → ¬ (word.now ≡ decimal n)) }
+    ensures value { result ≡ number_of most word.now }
 {
     match value_of_digits(word) {
         Some(n) => is_number(word, n, most).then_some(n),
@@ -37,9 +40,10 @@ fn is_number(word: &[u8], n: u64, most: u64) -> bool
     buffer.format(n).as_bytes() == word && n <= most
 }
 
-/// Appends a blank and a decimal number. After an `Err` the text may end in a part of them.
+/// Appends a blank and a decimal number. After an `Err` a part of them may have been appended.
 pub fn push_number(out: &mut String, n: u64) -> Result<(), OutOfMemory>
-    ensures { OnOk result (string_bytes out.new ≡ string_bytes out.old ++ spaced (decimal n ∷ [])) }
+    ensures text { OnOk result (string_bytes out.new ≡ string_bytes out.old ++ spaced (decimal n ∷ [])) }
+    ensures err { OnErr result (Extends (string_bytes out.old) (string_bytes out.new)) }
 {
     let mut buffer = Buffer::new();
     out.push(' ')?;

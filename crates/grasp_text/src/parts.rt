@@ -166,7 +166,7 @@ fn read_optional_port(words: &mut Words<'_>) -> Result<Option<u16>, WordFault>
 
 /// Takes a locator, or `none`.
 #[tactic(auto, unfolding(crate::specs::Grammar::optional_locator_at))]
-pub(crate) fn read_optional_locator(
+pub fn read_optional_locator(
     alloc: Global,
     words: &mut Words<'_>,
 ) -> Result<Option<Locator>, WordFault>

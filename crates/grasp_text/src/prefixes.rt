@@ -1,6 +1,7 @@
 //! Prefixes as words: `ADDRESS/LENGTH`.
 
-ghost use Rattle.std.specs.Prelude.{◌≡◌, ◌++◌, ◌∷◌, [], OnOk, IfSome, IfNone, string_bytes};
+ghost use Rattle.std.specs.Prelude.{◌≡◌, ◌++◌, ◌∷◌, [], OnOk, OnErr, IfSome, IfNone, string_bytes};
+ghost use Rattle.grasp_cbor.specs.Extends.{Extends};
 ghost use Rattle.grasp_types.specs.Prefix.{AddressBlock, IsPrefix};
 ghost use Rattle.grasp_text.specs.Line.{prefix_word};
 ghost use Rattle.grasp_text.specs.Reading.{block_of};
@@ -40,10 +41,11 @@ fn address_and_length(word: &[u8]) -> Option<(u128, u8)>
     Some((address, length as u8))
 }
 
-/// Appends a blank and a prefix. After an `Err` the text may end in a part of them.
+/// Appends a blank and a prefix. After an `Err` a part of them may have been appended.
 #[tactic(auto, using(crate::proofs::PrefixWords::prefix_pushed))]
 pub fn push_prefix(alloc: Global, out: &mut String, prefix: Prefix) -> Result<(), OutOfMemory>
-    ensures { OnOk result (string_bytes out.new ≡ string_bytes out.old ++ spaced (prefix_word prefix ∷ [])) }
+    ensures text { OnOk result (string_bytes out.new ≡ string_bytes out.old ++ spaced (prefix_word prefix ∷ [])) }
+    ensures err { OnErr result (Extends (string_bytes out.old) (string_bytes out.new)) }
 {
     let mut buffer = Buffer::new();
     push_v6(alloc, out, prefix.address())?;

@@ -109,5 +109,13 @@ fn words_of_scripts(rt: HostRuntime) -> Result<(), Fail> {
     assert_eq!(rt; number(b"64", 64), Some(64));
     assert_eq!(rt; number(b"65", 64), None);
     assert!(rt; address(b"7f000001") == Some(Address::V4(0x7f00_0001)));
+    match bytes(alloc, b"x00ff") {
+        Ok(Some(read)) => assert_eq!(rt; read.as_slice(), b"\x00\xff".as_slice()),
+        _ => assert!(rt; false),
+    }
+    assert!(rt; matches!(bytes(alloc, b"x0F"), Ok(None)));
+    let mut raw = String::new(alloc);
+    assert!(rt; push_bytes(alloc, &mut raw, b"\x00\xff").is_ok());
+    assert_eq!(rt; raw.as_str(), " x00ff");
     Ok(())
 }

@@ -1,8 +1,9 @@
 //! Texts as words: an apostrophe, and the text's bytes with some of them escaped.
 
-ghost use Rattle.std.specs.Prelude.{◌≡◌, ◌<◌, length, ◌++◌, ◌∷◌, [], OnOk, IfOk, IfSome, option_map, slice_index, string_bytes};
+ghost use Rattle.std.specs.Prelude.{◌≡◌, ◌<◌, List, ℕ, length, ◌++◌, ◌∷◌, [], OnOk, OnErr, IfOk, IfSome, IfNone, option_map, slice_index, string_bytes};
 ghost use Rattle.std.specs.Str.{IsUtf8};
 ghost use Rattle.hex.specs.Hex.{lower_digits};
+ghost use Rattle.grasp_cbor.specs.Extends.{Extends};
 ghost use Rattle.grasp_text.specs.Line.{text_word, escaped, all_escaped};
 ghost use Rattle.grasp_text.specs.Reading.{text_of, unescaped, first_unescaped, behind_percent, behind_byte, is_plain, digit_of, byte_of};
 ghost use Rattle.grasp_text.specs.Words.{spaced};
@@ -104,9 +105,19 @@ pub(crate) fn behind(first: u8, word: &[u8]) -> Option<&[u8]>
     }
 }
 
-/// The text of a word, or `None`.
-#[tactic(auto, unfolding(crate::specs::Reading::text_of))]
+/// The text of a word, or `None` where no text has it.
 pub fn text(alloc: Global, word: &[u8]) -> Result<Option<Chars>, OutOfMemory>
+    ensures found { IfOk result (λ o. IfSome o (λ t. word.now ≡ text_word t)) }
+    ensures valid { IfOk result (λ o. IfSome o IsUtf8) }
+    ensures none { IfOk result (λ o. IfNone o ((t : List ℕ) → IsUtf8 t → ¬ (word.now ≡ text_word t))) }
+    ensures value { IfOk result (λ o. o ≡ text_of word.now) }
+{
+    read_text(alloc, word)
+}
+
+/// The text behind the apostrophe, or `None`.
+#[tactic(auto, unfolding(crate::specs::Reading::text_of))]
+fn read_text(alloc: Global, word: &[u8]) -> Result<Option<Chars>, OutOfMemory>
     ensures { IfOk result (λ o. o ≡ text_of word.now) }
 {
     match behind(b'\'', word) {
@@ -124,7 +135,8 @@ const DIGITS: [u8; 16] = *b"0123456789abcdef";
 #[tactic(auto, using(crate::proofs::TextWords::lower_digit_small))]
 fn push_digit(out: &mut String, value: u8) -> Result<(), OutOfMemory>
     requires { value < 16 }
-    ensures { OnOk result (string_bytes out.new ≡ string_bytes out.old ++ slice_index lower_digits value ∷ []) }
+    ensures text { OnOk result (string_bytes out.new ≡ string_bytes out.old ++ slice_index lower_digits value ∷ []) }
+    ensures err { OnErr result (Extends (string_bytes out.old) (string_bytes out.new)) }
 {
     out.push(char::from(DIGITS[value as usize]))?;
     Ok(())
@@ -132,7 +144,8 @@ fn push_digit(out: &mut String, value: u8) -> Result<(), OutOfMemory>
 
 /// Appends a byte of a text, escaped where it has to be.
 fn push_escaped(out: &mut String, byte: u8) -> Result<(), OutOfMemory>
-    ensures { OnOk result (string_bytes out.new ≡ string_bytes out.old ++ escaped byte) }
+    ensures text { OnOk result (string_bytes out.new ≡ string_bytes out.old ++ escaped byte) }
+    ensures err { OnErr result (Extends (string_bytes out.old) (string_bytes out.new)) }
 {
     if stands_for_itself(byte) {
         out.push(char::from(byte))?;
@@ -144,10 +157,11 @@ fn push_escaped(out: &mut String, byte: u8) -> Result<(), OutOfMemory>
     Ok(())
 }
 
-/// Appends a blank and a text. After an `Err` the text may end in a part of them.
+/// Appends a blank and a text. After an `Err` a part of them may have been appended.
 pub fn push_text(out: &mut String, text: &Chars) -> Result<(), OutOfMemory>
     ensures utf8 { OnOk result (IsUtf8 text.now) }
     ensures text { OnOk result (string_bytes out.new ≡ string_bytes out.old ++ spaced (text_word text.now ∷ [])) }
+    ensures err { OnErr result (Extends (string_bytes out.old) (string_bytes out.new)) }
 {
     out.push(' ')?;
     out.push('\'')?;

@@ -1,6 +1,7 @@
 //! The words of a line, one after another.
 
-ghost use Rattle.std.specs.Prelude.{◌≡◌, ◌∷◌, [], List, ℕ, length, ◌≤◌, IfOk, IfErr, IfSome, IfNone};
+ghost use Rattle.std.specs.Prelude.{◌≡◌, ◌∷◌, [], List, ℕ, length, ◌≤◌, IfOk, IfErr, IfSome, IfNone, decimal};
+ghost use Rattle.grasp_text.specs.Line.{address_word, text_word, value_word};
 ghost use Rattle.grasp_text.specs.declared.fault.WordFault.TheVariants.{Unfit};
 ghost use Rattle.grasp_text.specs.Reading.{Reads, word_at, end_at, exactly, maybe_of, number_of, address_of, text_of, value_of};
 ghost use Rattle.grasp_text.specs.Words.{words_of, joined, is_over, is_next};
@@ -115,6 +116,7 @@ impl<'a> Words<'a> {
 
     /// Takes a number that is at most `most`.
     pub fn number(&mut self, most: u64) -> Result<u64, WordFault>
+        ensures found { IfOk result (λ n. self.old ≡ decimal n ∷ self.new) }
         ensures value { Reads (λ n. n) result self.new (word_at (number_of most) self.old) }
         ensures within { IfOk result (λ n. n ≤ most) }
     {
@@ -127,7 +129,8 @@ impl<'a> Words<'a> {
 
     /// Takes an address.
     pub fn address(&mut self) -> Result<Address, WordFault>
-        ensures { Reads (λ a. a) result self.new (word_at address_of self.old) }
+        ensures found { IfOk result (λ a. self.old ≡ address_word a ∷ self.new) }
+        ensures value { Reads (λ a. a) result self.new (word_at address_of self.old) }
     {
         let (word, unfit) = self.next()?;
         address(word).ok_or(unfit)
@@ -161,7 +164,8 @@ impl<'a> Words<'a> {
 
     /// Takes a text.
     pub fn text(&mut self, alloc: Global) -> Result<Chars, WordFault>
-        ensures { Reads (λ t. t) result self.new (word_at text_of self.old) }
+        ensures found { IfOk result (λ t. self.old ≡ text_word t ∷ self.new) }
+        ensures value { Reads (λ t. t) result self.new (word_at text_of self.old) }
     {
         let (word, unfit) = self.next()?;
         text(alloc, word)?.ok_or(unfit)
@@ -169,7 +173,8 @@ impl<'a> Words<'a> {
 
     /// Takes a value.
     pub fn value(&mut self, alloc: Global) -> Result<Value, WordFault>
-        ensures { Reads (λ v. v) result self.new (word_at value_of self.old) }
+        ensures found { IfOk result (λ v. self.old ≡ value_word v ∷ self.new) }
+        ensures value { Reads (λ v. v) result self.new (word_at value_of self.old) }
     {
         let (word, unfit) = self.next()?;
         value(alloc, word)?.ok_or(unfit)

@@ -1,6 +1,7 @@
 //! Writing the line of a message, word by word.
 
-ghost use Rattle.std.specs.Prelude.{◌≡◌, ◌++◌, ◌∷◌, [], OnOk, IfOk, IfSome, ◌<◌, ◌^◌, decimal, string_bytes};
+ghost use Rattle.std.specs.Prelude.{◌≡◌, ◌++◌, ◌∷◌, [], OnOk, OnErr, IfOk, IfSome, ◌<◌, ◌^◌, decimal, string_bytes};
+ghost use Rattle.grasp_cbor.specs.Extends.{Extends};
 ghost use Rattle.grasp_types.specs.Address.{IsAddress, IsLocator};
 ghost use Rattle.grasp_types.specs.Message.{IsMessage, IsVerdict, AreLocators, IsAnswer, AreFloodParts, IsFloodPart};
 ghost use Rattle.grasp_types.specs.Objective.{IsObjective, IsValue};
@@ -19,9 +20,10 @@ use grasp_types::{
 };
 use std::alloc::Global;
 
-/// Appends a blank and a word. After an `Err` the text may end in a part of them.
+/// Appends a blank and a word. After an `Err` a part of them may have been appended.
 pub fn push_word(out: &mut String, word: &str) -> Result<(), OutOfMemory>
-    ensures { OnOk result (string_bytes out.new ≡ string_bytes out.old ++ spaced (word.now ∷ [])) }
+    ensures text { OnOk result (string_bytes out.new ≡ string_bytes out.old ++ spaced (word.now ∷ [])) }
+    ensures err { OnErr result (Extends (string_bytes out.old) (string_bytes out.new)) }
 {
     out.push(' ')?;
     out.push_str(word)?;
@@ -30,7 +32,8 @@ pub fn push_word(out: &mut String, word: &str) -> Result<(), OutOfMemory>
 
 /// Appends a blank and a protocol.
 fn push_proto(out: &mut String, proto: Proto) -> Result<(), OutOfMemory>
-    ensures { OnOk result (string_bytes out.new ≡ string_bytes out.old ++ spaced (proto_word proto ∷ [])) }
+    ensures text { OnOk result (string_bytes out.new ≡ string_bytes out.old ++ spaced (proto_word proto ∷ [])) }
+    ensures err { OnErr result (Extends (string_bytes out.old) (string_bytes out.new)) }
 {
     match proto {
         Proto::Tcp => push_word(out, "tcp"),
@@ -40,7 +43,8 @@ fn push_proto(out: &mut String, proto: Proto) -> Result<(), OutOfMemory>
 
 /// Appends a blank, and a protocol or `-`.
 fn push_optional_proto(out: &mut String, proto: Option<Proto>) -> Result<(), OutOfMemory>
-    ensures { OnOk result (string_bytes out.new ≡ string_bytes out.old ++ spaced (or_dash proto_word proto ∷ [])) }
+    ensures text { OnOk result (string_bytes out.new ≡ string_bytes out.old ++ spaced (or_dash proto_word proto ∷ [])) }
+    ensures err { OnErr result (Extends (string_bytes out.old) (string_bytes out.new)) }
 {
     match proto {
         Some(proto) => push_proto(out, proto),
@@ -52,6 +56,7 @@ fn push_optional_proto(out: &mut String, proto: Option<Proto>) -> Result<(), Out
 fn push_optional_port(out: &mut String, port: Option<u16>) -> Result<(), OutOfMemory>
     ensures text { OnOk result (string_bytes out.new ≡ string_bytes out.old ++ spaced (or_dash decimal port ∷ [])) }
     ensures ranges { OnOk result (IfSome port (λ p. p < 2 ^ 16)) }
+    ensures err { OnErr result (Extends (string_bytes out.old) (string_bytes out.new)) }
 {
     match port {
         Some(port) => push_number(out, u64::from(port)),
@@ -59,7 +64,7 @@ fn push_optional_port(out: &mut String, port: Option<u16>) -> Result<(), OutOfMe
     }
 }
 
-/// Appends a blank, and a value or `-`. After an `Err` the text may end in a part of them.
+/// Appends a blank, and a value or `-`. After an `Err` a part of them may have been appended.
 pub fn push_optional_value(
     alloc: Global,
     out: &mut String,
@@ -67,6 +72,7 @@ pub fn push_optional_value(
 ) -> Result<(), OutOfMemory>
     ensures text { OnOk result (string_bytes out.new ≡ string_bytes out.old ++ spaced (or_dash value_word value.now ∷ [])) }
     ensures ranges { OnOk result (IfSome value.now IsValue) }
+    ensures err { OnErr result (Extends (string_bytes out.old) (string_bytes out.new)) }
 {
     match value {
         Some(value) => push_value(alloc, out, value),
@@ -77,17 +83,19 @@ pub fn push_optional_value(
 /// Appends the last two words of a locator, each behind a blank.
 #[tactic(auto, using(crate::proofs::Pushed::pushes))]
 fn push_place(out: &mut String, proto: Proto, port: u16) -> Result<(), OutOfMemory>
-    ensures { OnOk result (string_bytes out.new ≡ string_bytes out.old ++ spaced (proto_word proto ∷ decimal port ∷ [])) }
+    ensures text { OnOk result (string_bytes out.new ≡ string_bytes out.old ++ spaced (proto_word proto ∷ decimal port ∷ [])) }
+    ensures err { OnErr result (Extends (string_bytes out.old) (string_bytes out.new)) }
 {
     push_proto(out, proto)?;
     push_number(out, u64::from(port))
 }
 
-/// Appends the words of a locator, each behind a blank. After an `Err` the text may end in a part of them.
+/// Appends the words of a locator, each behind a blank. After an `Err` a part of them may have been appended.
 #[tactic(auto, using(crate::proofs::Pushed::pushes))]
 pub fn push_locator(alloc: Global, out: &mut String, locator: &Locator) -> Result<(), OutOfMemory>
     ensures text { OnOk result (string_bytes out.new ≡ string_bytes out.old ++ spaced (locator_words locator.now)) }
     ensures ranges { OnOk result (IsLocator locator.now) }
+    ensures err { OnErr result (Extends (string_bytes out.old) (string_bytes out.new)) }
 {
     match locator {
         Locator::V6 {
@@ -122,8 +130,8 @@ pub fn push_locator(alloc: Global, out: &mut String, locator: &Locator) -> Resul
     }
 }
 
-/// Appends the words of an objective, each behind a blank. After an `Err` the text may end in a part of
-/// them.
+/// Appends the words of an objective, each behind a blank. After an `Err` a part of them may have
+/// been appended.
 #[tactic(auto, using(crate::proofs::Pushed::pushes))]
 pub fn push_objective(
     alloc: Global,
@@ -132,6 +140,7 @@ pub fn push_objective(
 ) -> Result<(), OutOfMemory>
     ensures text { OnOk result (string_bytes out.new ≡ string_bytes out.old ++ spaced (objective_words objective.now)) }
     ensures ranges { OnOk result (IsObjective objective.now) }
+    ensures err { OnErr result (Extends (string_bytes out.old) (string_bytes out.new)) }
 {
     push_word(out, "obj")?;
     push_text(out, &objective.name)?;
@@ -144,6 +153,7 @@ pub fn push_objective(
 fn push_locators(alloc: Global, out: &mut String, locators: &Locators) -> Result<(), OutOfMemory>
     ensures text { OnOk result (string_bytes out.new ≡ string_bytes out.old ++ spaced (all_locator_words locators.now)) }
     ensures ranges { OnOk result (AreLocators locators.now) }
+    ensures err { OnErr result (Extends (string_bytes out.old) (string_bytes out.new)) }
 {
     for i in 0..locators.len() {
         let Some(locator) = locators.at(i) else {
@@ -159,6 +169,7 @@ fn push_locators(alloc: Global, out: &mut String, locators: &Locators) -> Result
 fn push_answer(alloc: Global, out: &mut String, answer: &Answer) -> Result<(), OutOfMemory>
     ensures text { OnOk result (string_bytes out.new ≡ string_bytes out.old ++ spaced (answer_words answer.now)) }
     ensures ranges { OnOk result (IsAnswer answer.now) }
+    ensures err { OnErr result (Extends (string_bytes out.old) (string_bytes out.new)) }
 {
     match answer {
         Answer::Locators(locators) => {
@@ -180,6 +191,7 @@ fn push_optional_objective(
 ) -> Result<(), OutOfMemory>
     ensures text { OnOk result (string_bytes out.new ≡ string_bytes out.old ++ spaced (optional_objective_words objective.now)) }
     ensures ranges { OnOk result (IfSome objective.now IsObjective) }
+    ensures err { OnErr result (Extends (string_bytes out.old) (string_bytes out.new)) }
 {
     match objective {
         Some(objective) => push_objective(alloc, out, objective),
@@ -192,6 +204,7 @@ fn push_optional_objective(
 fn push_verdict(out: &mut String, verdict: &Verdict) -> Result<(), OutOfMemory>
     ensures text { OnOk result (string_bytes out.new ≡ string_bytes out.old ++ spaced (verdict_words verdict.now)) }
     ensures ranges { OnOk result (IsVerdict verdict.now) }
+    ensures err { OnErr result (Extends (string_bytes out.old) (string_bytes out.new)) }
 {
     match verdict {
         Verdict::Accept => push_word(out, "accept"),
@@ -203,7 +216,7 @@ fn push_verdict(out: &mut String, verdict: &Verdict) -> Result<(), OutOfMemory>
     }
 }
 
-/// Appends the words of a locator, or `none`. After an `Err` the text may end in a part of them.
+/// Appends the words of a locator, or `none`. After an `Err` a part of them may have been appended.
 pub fn push_optional_locator(
     alloc: Global,
     out: &mut String,
@@ -211,6 +224,7 @@ pub fn push_optional_locator(
 ) -> Result<(), OutOfMemory>
     ensures text { OnOk result (string_bytes out.new ≡ string_bytes out.old ++ spaced (locator_or_none locator.now)) }
     ensures ranges { OnOk result (IfSome locator.now IsLocator) }
+    ensures err { OnErr result (Extends (string_bytes out.old) (string_bytes out.new)) }
 {
     match locator {
         Some(locator) => push_locator(alloc, out, locator),
@@ -223,6 +237,7 @@ pub fn push_optional_locator(
 fn push_flood_part(alloc: Global, out: &mut String, part: &FloodPart) -> Result<(), OutOfMemory>
     ensures text { OnOk result (string_bytes out.new ≡ string_bytes out.old ++ spaced (flood_part_words part.now)) }
     ensures ranges { OnOk result (IsFloodPart part.now) }
+    ensures err { OnErr result (Extends (string_bytes out.old) (string_bytes out.new)) }
 {
     push_objective(alloc, out, &part.objective)?;
     push_optional_locator(alloc, out, &part.locator)
@@ -232,6 +247,7 @@ fn push_flood_part(alloc: Global, out: &mut String, part: &FloodPart) -> Result<
 fn push_flood_parts(alloc: Global, out: &mut String, parts: &FloodParts) -> Result<(), OutOfMemory>
     ensures text { OnOk result (string_bytes out.new ≡ string_bytes out.old ++ spaced (all_flood_part_words parts.now)) }
     ensures ranges { OnOk result (AreFloodParts parts.now) }
+    ensures err { OnErr result (Extends (string_bytes out.old) (string_bytes out.new)) }
 {
     for i in 0..parts.len() {
         let Some(part) = parts.at(i) else {
@@ -253,6 +269,7 @@ fn push_session_objective(
     ensures text { OnOk result (string_bytes out.new ≡ string_bytes out.old ++ spaced (decimal session ∷ objective_words objective.now)) }
     ensures session { session < 2 ^ 32 }
     ensures ranges { OnOk result (IsObjective objective.now) }
+    ensures err { OnErr result (Extends (string_bytes out.old) (string_bytes out.new)) }
 {
     push_number(out, u64::from(session))?;
     push_objective(alloc, out, objective)
@@ -269,6 +286,7 @@ fn push_session_initiator(
     ensures text { OnOk result (string_bytes out.new ≡ string_bytes out.old ++ spaced (decimal session ∷ address_word initiator ∷ [])) }
     ensures session { session < 2 ^ 32 }
     ensures initiator { OnOk result (IsAddress initiator) }
+    ensures err { OnErr result (Extends (string_bytes out.old) (string_bytes out.new)) }
 {
     push_number(out, u64::from(session))?;
     push_address(alloc, out, initiator)
@@ -298,6 +316,7 @@ fn name_of(message: &Message) -> &'static str
 fn push_behind_name(alloc: Global, out: &mut String, message: &Message) -> Result<(), OutOfMemory>
     ensures text { OnOk result (string_bytes out.new ≡ string_bytes out.old ++ spaced (words_behind_name message.now)) }
     ensures ranges { OnOk result (IsMessage message.now) }
+    ensures err { OnErr result (Extends (string_bytes out.old) (string_bytes out.new)) }
 {
     match message {
         Message::Noop => Ok(()),

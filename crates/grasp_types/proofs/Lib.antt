@@ -1,4 +1,7 @@
 pub mod BigEndian
+pub mod Crosses
 pub mod Depths
 pub mod FromItems
 pub mod Multiples
+pub mod Same
+pub mod Through

@@ -1,9 +1,10 @@
 pub mod Address
 pub mod Flood
+pub mod Lends
 pub mod Message
 pub mod Objective
 pub mod Origin
-pub mod OriginLaws
 pub mod Prefix
 pub mod Reading
 pub mod Refusal
+pub mod Same

@@ -2,7 +2,7 @@
 --
 -- The layout is after RFC 8990, section 4. This project's own: an item of `any` type (an objective's value, and
 -- what an M_INVALID tells) nests at most 13 deep.
-use Rattle.std.specs.Prelude.{◌≡◌, ◌<◌, ◌≤◌, ◌^◌, List, [], ◌∷◌, ◌++◌, Option, Some, None, IfSome, All, map, length, option_map}
+use Rattle.std.specs.Prelude.{◌≡◌, ℕ, ◌<◌, ◌≤◌, ◌^◌, List, [], ◌∷◌, ◌++◌, Option, Some, None, IfSome, All, map, length, option_map}
 use Rattle.std.specs.Str.{IsUtf8}
 use Rattle.grasp_cbor.specs.DataItem.{DataItem, unsigned, text_string, array_of, depth_of}
 use Rattle.grasp_types.specs.Address.{address_item, locator_item, IsAddress, IsLocator}
@@ -59,6 +59,20 @@ item_of (Synch session objective) = array_of (unsigned 8 ∷ unsigned session �
 item_of (Flood session initiator ttl parts) = array_of (unsigned 9 ∷ unsigned session ∷ address_item initiator ∷ unsigned ttl ∷ map flood_part_item parts)
 -- M_INVALID (RFC 8990, section 2.8.12)
 item_of (Invalid session detail) = array_of (unsigned 99 ∷ unsigned session ∷ optional detail)
+
+-- the session number, which every message but M_NOOP has (RFC 8990, section 2.7)
+abbrev pub session_of : Message → Option ℕ
+session_of Noop = None
+session_of (Discovery session initiator objective) = Some session
+session_of (Response session initiator ttl answer objective) = Some session
+session_of (ReqNeg session objective) = Some session
+session_of (ReqSyn session objective) = Some session
+session_of (Negotiate session objective) = Some session
+session_of (End session verdict) = Some session
+session_of (Wait session millis) = Some session
+session_of (Synch session objective) = Some session
+session_of (Flood session initiator ttl parts) = Some session
+session_of (Invalid session detail) = Some session
 
 abbrev pub IsVerdict : Verdict → Type 0
 IsVerdict Accept = Unit {0}

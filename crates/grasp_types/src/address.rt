@@ -1,13 +1,15 @@
 //! Addresses and locators (RFC 8990, section 2.9.5).
 
-ghost use Rattle.std.specs.Prelude.{◌≡◌, ◌≢◌, ◌↔◌, length, IsTrue, IfOk, IfSome, IfNone};
+ghost use Rattle.std.specs.Prelude.{◌≡◌, ◌≢◌, length, IfSome, IfNone};
 ghost use Rattle.std.specs.Int.{to_be_bytes, w32, w128};
+ghost use Rattle.std.proofs.Common.{rules};
 ghost use Rattle.grasp_types.specs.Address.{address_bytes, IsAddress, is_dialable};
 
-use grasp_cbor::{Chars, OutOfMemory};
+use crate::{NonEmpty, Plain};
+use grasp_cbor::Chars;
 
 /// The address of a node, as a number.
-#[derive(Clone, Copy, Debug, PartialEq, Eq)]
+#[derive(Clone, Copy, Debug, PartialEq, Eq, Hash)]
 pub enum Address {
     /// An IPv4 address.
     V4(u32),
@@ -16,7 +18,7 @@ pub enum Address {
 }
 
 /// A transport protocol.
-#[derive(Clone, Copy, Debug, PartialEq, Eq)]
+#[derive(Clone, Copy, Debug, PartialEq, Eq, Hash)]
 pub enum Proto {
     /// Protocol number 6.
     Tcp,
@@ -25,7 +27,7 @@ pub enum Proto {
 }
 
 /// Where something can be reached.
-#[derive(Debug, Drop)]
+#[derive(Clone, Debug, Drop, PartialEq, Eq, Hash)]
 pub enum Locator {
     /// An IPv6 address.
     V6 {
@@ -52,6 +54,9 @@ pub enum Locator {
         port: Option<u16>,
     },
 }
+
+/// One or more locators.
+pub type Locators = NonEmpty<Locator>;
 
 impl Address {
     /// The address of these bytes, the most significant first, or `None` where they aren't 4 or 16.
@@ -105,99 +110,16 @@ impl Locator {
             Locator::Uri { .. } => false,
         }
     }
-
-    /// Whether the two are the same locator. A name's bytes are compared as they are.
-    pub fn is_same(&self, other: &Locator) -> bool
-        ensures { IsTrue result ↔ (self.now ≡ other.now) }
-    {
-        match (self, other) {
-            (
-                Locator::V6 {
-                    address,
-                    proto,
-                    port,
-                },
-                Locator::V6 {
-                    address: a,
-                    proto: b,
-                    port: c,
-                },
-            ) => address == a && proto == b && port == c,
-            (
-                Locator::V4 {
-                    address,
-                    proto,
-                    port,
-                },
-                Locator::V4 {
-                    address: a,
-                    proto: b,
-                    port: c,
-                },
-            ) => address == a && proto == b && port == c,
-            (
-                Locator::Fqdn { name, proto, port },
-                Locator::Fqdn {
-                    name: a,
-                    proto: b,
-                    port: c,
-                },
-            ) => name.bytes() == a.bytes() && proto == b && port == c,
-            (
-                Locator::Uri { text, proto, port },
-                Locator::Uri {
-                    text: a,
-                    proto: b,
-                    port: c,
-                },
-            ) => text.bytes() == a.bytes() && proto == b && port == c,
-            _ => false,
-        }
-    }
-
-    /// Another of the same locator.
-    pub fn copy(&self) -> Result<Locator, OutOfMemory>
-        ensures { IfOk result (λ r. r ≡ self.now) }
-    {
-        match self {
-            Locator::V6 {
-                address,
-                proto,
-                port,
-            } => Ok(Locator::V6 {
-                address: *address,
-                proto: *proto,
-                port: *port,
-            }),
-            Locator::V4 {
-                address,
-                proto,
-                port,
-            } => Ok(Locator::V4 {
-                address: *address,
-                proto: *proto,
-                port: *port,
-            }),
-            Locator::Fqdn { name, proto, port } => Ok(Locator::Fqdn {
-                name: name.copy()?,
-                proto: *proto,
-                port: *port,
-            }),
-            Locator::Uri { text, proto, port } => Ok(Locator::Uri {
-                text: text.copy()?,
-                proto: *proto,
-                port: *port,
-            }),
-        }
-    }
 }
 
-/// Another of the same locator, where there is one.
-pub(crate) fn copy_some_locator(locator: &Option<Locator>) -> Result<Option<Locator>, OutOfMemory>
-    ensures { IfOk result (λ r. r ≡ locator.now) }
-{
-    match locator {
-        Some(locator) => Ok(Some(locator.copy()?)),
-        None => Ok(None),
-    }
+impl Plain for Address {
+    ghost clones_are_same = { Prim.search rules };
+}
+
+impl Plain for Proto {
+    ghost clones_are_same = { Prim.search rules };
+}
+
+impl Plain for Locator {
+    ghost clones_are_same = { Prim.search rules };
 }

@@ -1,13 +1,12 @@
 //! The calls of agents (RFC 8991, section 2.3).
 
-ghost use Rattle.std.specs.Prelude.{◌≡◌, IfOk};
+ghost use Rattle.std.proofs.Common.{rules};
 
-use crate::value::copy_some_value;
-use crate::{Address, Flags, Handle, Kind, Locator, Value, Verdict};
-use grasp_cbor::{Chars, OutOfMemory};
+use crate::{Address, Flags, Handle, Kind, Locator, Plain, Value, Verdict};
+use grasp_cbor::Chars;
 
 /// A call of an agent at its node. Times are in milliseconds.
-#[derive(Debug, Drop)]
+#[derive(Clone, Debug, Drop)]
 pub enum Call {
     /// Registers an agent.
     RegisterAsa {
@@ -106,137 +105,6 @@ pub enum Call {
     },
 }
 
-impl Call {
-    /// Another of the same call.
-    pub fn copy(&self) -> Result<Call, OutOfMemory>
-        ensures { IfOk result (λ r. r ≡ self.now) }
-    {
-        match *self {
-            Call::RegisterAsa { ref name } => {
-                let name = name.copy()?;
-                Ok(Call::RegisterAsa { name })
-            }
-            Call::DeregisterAsa => Ok(Call::DeregisterAsa),
-            Call::RegisterObjective { ref name, flags } => {
-                let name = name.copy()?;
-                Ok(Call::RegisterObjective { name, flags })
-            }
-            Call::DeregisterObjective { ref name } => {
-                let name = name.copy()?;
-                Ok(Call::DeregisterObjective { name })
-            }
-            Call::Discover {
-                ref name,
-                kind,
-                loops,
-                timeout,
-            } => {
-                let name = name.copy()?;
-                Ok(Call::Discover {
-                    name,
-                    kind,
-                    loops,
-                    timeout,
-                })
-            }
-            Call::RequestNegotiate {
-                ref name,
-                ref value,
-                loops,
-                timeout,
-                dry,
-                ref peer,
-            } => {
-                let name = name.copy()?;
-                let value = value.copy()?;
-                let peer = peer.copy()?;
-                Ok(Call::RequestNegotiate {
-                    name,
-                    value,
-                    loops,
-                    timeout,
-                    dry,
-                    peer,
-                })
-            }
-            Call::ListenNegotiate { ref name } => {
-                let name = name.copy()?;
-                Ok(Call::ListenNegotiate { name })
-            }
-            Call::StopListenNegotiate { ref name } => {
-                let name = name.copy()?;
-                Ok(Call::StopListenNegotiate { name })
-            }
-            Call::NegotiateStep { handle, ref value } => {
-                let value = value.copy()?;
-                Ok(Call::NegotiateStep { handle, value })
-            }
-            Call::NegotiateWait { handle, millis } => Ok(Call::NegotiateWait { handle, millis }),
-            Call::EndNegotiate {
-                handle,
-                ref verdict,
-            } => {
-                let verdict = verdict.copy()?;
-                Ok(Call::EndNegotiate { handle, verdict })
-            }
-            Call::SendInvalid { handle, ref detail } => {
-                let detail = copy_some_value(detail)?;
-                Ok(Call::SendInvalid { handle, detail })
-            }
-            Call::Poll { handle } => Ok(Call::Poll { handle }),
-            Call::Synchronize {
-                ref name,
-                loops,
-                timeout,
-                ref peer,
-            } => {
-                let name = name.copy()?;
-                let peer = peer.copy()?;
-                Ok(Call::Synchronize {
-                    name,
-                    loops,
-                    timeout,
-                    peer,
-                })
-            }
-            Call::ListenSynchronize {
-                ref name,
-                ref value,
-            } => {
-                let name = name.copy()?;
-                let value = value.copy()?;
-                Ok(Call::ListenSynchronize { name, value })
-            }
-            Call::StopListenSynchronize { ref name } => {
-                let name = name.copy()?;
-                Ok(Call::StopListenSynchronize { name })
-            }
-            Call::Flood {
-                ref name,
-                ref value,
-                ttl,
-                loops,
-            } => {
-                let name = name.copy()?;
-                let value = value.copy()?;
-                Ok(Call::Flood {
-                    name,
-                    value,
-                    ttl,
-                    loops,
-                })
-            }
-            Call::GetFlood { ref name } => {
-                let name = name.copy()?;
-                Ok(Call::GetFlood { name })
-            }
-            Call::ExpireFlood {
-                ref name,
-                initiator,
-            } => {
-                let name = name.copy()?;
-                Ok(Call::ExpireFlood { name, initiator })
-            }
-        }
-    }
+impl Plain for Call {
+    ghost clones_are_same = { Prim.search rules };
 }

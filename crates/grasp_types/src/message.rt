@@ -1,15 +1,14 @@
 //! Messages (RFC 8990, section 2.8).
 
-ghost use Rattle.std.specs.Prelude.{◌≡◌, IfOk};
-ghost use Rattle.grasp_types.specs.Message.{MessagesNestSixteenDeep, OneMessageAnItem};
+ghost use Rattle.std.specs.Prelude.{◌≡◌};
+ghost use Rattle.std.proofs.Common.{rules};
+ghost use Rattle.grasp_types.specs.Message.{session_of, MessagesNestSixteenDeep, OneMessageAnItem};
 
-use crate::objective::{copy_some_objective, copy_some_text};
-use crate::value::copy_some_value;
-use crate::{Address, FloodParts, Locators, Objective, Value};
-use grasp_cbor::{Chars, OutOfMemory};
+use crate::{Address, FloodParts, Locators, Objective, Plain, Value};
+use grasp_cbor::Chars;
 
 /// How a negotiation ends (RFC 8990, sections 2.9.3 and 2.9.4).
-#[derive(Debug, Drop)]
+#[derive(Clone, Debug, Drop)]
 pub enum Verdict {
     /// The last offer is accepted.
     Accept,
@@ -18,7 +17,7 @@ pub enum Verdict {
 }
 
 /// What a response to a discovery tells (RFC 8990, section 2.8.5).
-#[derive(Debug, Drop)]
+#[derive(Clone, Debug, Drop)]
 pub enum Answer {
     /// Where the objective can be reached.
     Locators(Locators),
@@ -27,7 +26,7 @@ pub enum Answer {
 }
 
 /// A message. The session is the number that its initiator drew, times are in milliseconds.
-#[derive(Debug, Drop)]
+#[derive(Clone, Debug, Drop)]
 pub enum Message {
     /// M_NOOP.
     Noop,
@@ -89,125 +88,37 @@ pub enum Message {
     },
 }
 
-impl Verdict {
-    /// Another of the same verdict.
-    pub fn copy(&self) -> Result<Verdict, OutOfMemory>
-        ensures { IfOk result (λ r. r ≡ self.now) }
-    {
-        match self {
-            Verdict::Accept => Ok(Verdict::Accept),
-            Verdict::Decline(reason) => Ok(Verdict::Decline(copy_some_text(reason)?)),
-        }
-    }
-}
-
-impl Answer {
-    /// Another of the same answer.
-    pub fn copy(&self) -> Result<Answer, OutOfMemory>
-        ensures { IfOk result (λ r. r ≡ self.now) }
-    {
-        match self {
-            Answer::Locators(locators) => Ok(Answer::Locators(locators.copy()?)),
-            Answer::Divert(locators) => Ok(Answer::Divert(locators.copy()?)),
-        }
-    }
-}
-
 impl Message {
-    /// Another of the same message.
-    pub fn copy(&self) -> Result<Message, OutOfMemory>
-        ensures { IfOk result (λ r. r ≡ self.now) }
+    /// The session number of a message, which every message but M_NOOP has.
+    pub fn session(&self) -> Option<u32>
+        ensures { result ≡ session_of self.now }
     {
         match *self {
-            Message::Noop => Ok(Message::Noop),
-            Message::Discovery {
-                session,
-                initiator,
-                ref objective,
-            } => {
-                let objective = objective.copy()?;
-                Ok(Message::Discovery {
-                    session,
-                    initiator,
-                    objective,
-                })
-            }
-            Message::Response {
-                session,
-                initiator,
-                ttl,
-                ref answer,
-                ref objective,
-            } => {
-                let answer = answer.copy()?;
-                let objective = copy_some_objective(objective)?;
-                Ok(Message::Response {
-                    session,
-                    initiator,
-                    ttl,
-                    answer,
-                    objective,
-                })
-            }
-            Message::ReqNeg {
-                session,
-                ref objective,
-            } => {
-                let objective = objective.copy()?;
-                Ok(Message::ReqNeg { session, objective })
-            }
-            Message::ReqSyn {
-                session,
-                ref objective,
-            } => {
-                let objective = objective.copy()?;
-                Ok(Message::ReqSyn { session, objective })
-            }
-            Message::Negotiate {
-                session,
-                ref objective,
-            } => {
-                let objective = objective.copy()?;
-                Ok(Message::Negotiate { session, objective })
-            }
-            Message::End {
-                session,
-                ref verdict,
-            } => {
-                let verdict = verdict.copy()?;
-                Ok(Message::End { session, verdict })
-            }
-            Message::Wait { session, millis } => Ok(Message::Wait { session, millis }),
-            Message::Synch {
-                session,
-                ref objective,
-            } => {
-                let objective = objective.copy()?;
-                Ok(Message::Synch { session, objective })
-            }
-            Message::Flood {
-                session,
-                initiator,
-                ttl,
-                ref parts,
-            } => {
-                let parts = parts.copy()?;
-                Ok(Message::Flood {
-                    session,
-                    initiator,
-                    ttl,
-                    parts,
-                })
-            }
-            Message::Invalid {
-                session,
-                ref detail,
-            } => {
-                let detail = copy_some_value(detail)?;
-                Ok(Message::Invalid { session, detail })
-            }
+            Message::Noop => None,
+            Message::Discovery { session, .. }
+            | Message::Response { session, .. }
+            | Message::ReqNeg { session, .. }
+            | Message::ReqSyn { session, .. }
+            | Message::Negotiate { session, .. }
+            | Message::End { session, .. }
+            | Message::Wait { session, .. }
+            | Message::Synch { session, .. }
+            | Message::Flood { session, .. }
+            | Message::Invalid { session, .. } => Some(session),
         }
     }
+}
+
+impl Plain for Verdict {
+    ghost clones_are_same = { Prim.search rules };
+}
+
+impl Plain for Answer {
+    ghost clones_are_same = { Prim.search rules };
+}
+
+impl Plain for Message {
+    ghost clones_are_same = { Prim.search rules };
 }
 
 /// A message in which each part is within its type's range has its data item for itself alone.

@@ -1,11 +1,11 @@
 //! Objectives (RFC 8990, section 2.10).
 
-ghost use Rattle.std.specs.Prelude.{◌≡◌, ◌≤◌, ◌<◌, IfOk, IfSome, IfNone};
+ghost use Rattle.std.specs.Prelude.{◌≡◌, ◌≤◌, ◌<◌, IfSome, IfNone};
+ghost use Rattle.std.proofs.Common.{rules};
 ghost use Rattle.grasp_types.specs.Objective.{has_disc, has_neg, has_synch, has_dry, has_kind, dry_flags};
 
-use crate::value::copy_some_value;
-use crate::{Kind, Value};
-use grasp_cbor::{Chars, OutOfMemory};
+use crate::{Kind, Plain, Value};
+use grasp_cbor::Chars;
 use std::marker::Model;
 
 const F_DISC: u8 = 1;
@@ -35,6 +35,28 @@ impl Model for Flags {
 }
 
 impl Flags {
+    /// F_DISC alone.
+    pub const DISC: Flags = Flags { bits: F_DISC };
+
+    /// F_NEG alone.
+    pub const NEG: Flags = Flags { bits: F_NEG };
+
+    /// F_SYNCH alone.
+    pub const SYNCH: Flags = Flags { bits: F_SYNCH };
+
+    /// F_NEG_DRY alone.
+    pub const NEG_DRY: Flags = Flags { bits: F_NEG_DRY };
+
+    /// F_DISC and F_NEG: the objective can be discovered and negotiated.
+    pub const DISC_NEG: Flags = Flags {
+        bits: F_DISC | F_NEG,
+    };
+
+    /// F_DISC and F_SYNCH: the objective can be discovered, and synchronized or flooded.
+    pub const DISC_SYNCH: Flags = Flags {
+        bits: F_DISC | F_SYNCH,
+    };
+
     /// The flags of these bits, or `None` above 15.
     pub fn of(bits: u8) -> Option<Flags>
         ensures some { IfSome result (λ f. f ≡ bits) }
@@ -106,7 +128,7 @@ impl Flags {
 }
 
 /// An objective.
-#[derive(Debug, Drop)]
+#[derive(Clone, Debug, Drop)]
 pub struct Objective {
     pub name: Chars,
     pub flags: Flags,
@@ -114,39 +136,10 @@ pub struct Objective {
     pub value: Option<Value>,
 }
 
-impl Objective {
-    /// Another of the same objective.
-    pub fn copy(&self) -> Result<Objective, OutOfMemory>
-        ensures { IfOk result (λ r. r ≡ self.now) }
-    {
-        let value = copy_some_value(&self.value)?;
-        Ok(Objective {
-            name: self.name.copy()?,
-            flags: self.flags,
-            loops: self.loops,
-            value,
-        })
-    }
+impl Plain for Flags {
+    ghost clones_are_same = { Prim.search rules };
 }
 
-/// Another of the same objective, where there is one.
-pub(crate) fn copy_some_objective(
-    objective: &Option<Objective>,
-) -> Result<Option<Objective>, OutOfMemory>
-    ensures { IfOk result (λ r. r ≡ objective.now) }
-{
-    match objective {
-        Some(objective) => Ok(Some(objective.copy()?)),
-        None => Ok(None),
-    }
-}
-
-/// Another of the same text, where there is one.
-pub(crate) fn copy_some_text(text: &Option<Chars>) -> Result<Option<Chars>, OutOfMemory>
-    ensures { IfOk result (λ r. r ≡ text.now) }
-{
-    match text {
-        Some(text) => Ok(Some(text.copy()?)),
-        None => Ok(None),
-    }
+impl Plain for Objective {
+    ghost clones_are_same = { Prim.search rules };
 }

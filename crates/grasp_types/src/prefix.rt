@@ -3,6 +3,7 @@
 ghost use Rattle.std.specs.Prelude.{◌≡◌, ◌≤◌, IfSome, IfNone};
 ghost use Rattle.grasp_types.specs.Prefix.{IsPrefix, size_of};
 
+use crate::Plain;
 use std::marker::Model;
 
 /// The addresses whose first `length` bits are those of `address` (RFC 4291, section 2.3).
@@ -71,4 +72,10 @@ fn address_count(length: u8) -> u128
     ensures { result ≡ size_of length }
 {
     1u128 << (128 - length)
+}
+
+impl Plain for Prefix {
+    ghost use Rattle.std.proofs.Common.{rules};
+
+    ghost clones_are_same = { Prim.search rules };
 }

@@ -3,6 +3,8 @@
 ghost use Rattle.std.specs.Prelude.{◌≡◌};
 ghost use Rattle.grasp_types.specs.Refusal.{refusal_number, refusal_name};
 
+use crate::Plain;
+
 /// Why an agent's call was refused. Where several refusals hold, that of the least number is answered.
 #[derive(Clone, Copy, Debug, PartialEq, Eq)]
 pub enum ApiRefused {
@@ -108,4 +110,10 @@ impl ApiRefused {
             ApiRefused::OutOfMemory => "OutOfMemory",
         }
     }
+}
+
+impl Plain for ApiRefused {
+    ghost use Rattle.std.proofs.Common.{rules};
+
+    ghost clones_are_same = { Prim.search rules };
 }

@@ -1,12 +1,13 @@
 //! The replies of a node.
 
-ghost use Rattle.std.specs.Prelude.{◌≡◌, IfOk};
+ghost use Rattle.std.proofs.Common.{rules};
 
-use crate::{Address, ApiRefused, FloodReads, Handle, Locators, Objective, Outputs, Progress};
-use grasp_cbor::OutOfMemory;
+use crate::{
+    Address, ApiRefused, FloodReads, Handle, Locators, Objective, Outputs, Plain, Progress,
+};
 
 /// The answer to an agent's call that wasn't refused.
-#[derive(Debug, Drop)]
+#[derive(Clone, Debug, Drop)]
 pub enum ApiAnswer {
     /// The new agent's number.
     Asa(u32),
@@ -35,7 +36,7 @@ pub enum ApiAnswer {
 }
 
 /// The answer of a node to one input.
-#[derive(Debug, Drop)]
+#[derive(Clone, Debug, Drop)]
 pub enum Reply {
     /// The agent's call was answered.
     Api(ApiAnswer),
@@ -51,49 +52,10 @@ pub enum Reply {
     OutOfMemory,
 }
 
-impl ApiAnswer {
-    /// Another of the same answer.
-    pub fn copy(&self) -> Result<ApiAnswer, OutOfMemory>
-        ensures { IfOk result (λ r. r ≡ self.now) }
-    {
-        match *self {
-            ApiAnswer::Asa(number) => Ok(ApiAnswer::Asa(number)),
-            ApiAnswer::Done => Ok(ApiAnswer::Done),
-            ApiAnswer::Started(handle) => Ok(ApiAnswer::Started(handle)),
-            ApiAnswer::Searching => Ok(ApiAnswer::Searching),
-            ApiAnswer::Found(ref locators) => Ok(ApiAnswer::Found(locators.copy()?)),
-            ApiAnswer::Nothing => Ok(ApiAnswer::Nothing),
-            ApiAnswer::NotYet => Ok(ApiAnswer::NotYet),
-            ApiAnswer::Incoming {
-                handle,
-                from,
-                ref objective,
-            } => {
-                let objective = objective.copy()?;
-                Ok(ApiAnswer::Incoming {
-                    handle,
-                    from,
-                    objective,
-                })
-            }
-            ApiAnswer::Polled(ref progress) => Ok(ApiAnswer::Polled(progress.copy()?)),
-            ApiAnswer::Floods(ref reads) => Ok(ApiAnswer::Floods(reads.copy()?)),
-        }
-    }
+impl Plain for ApiAnswer {
+    ghost clones_are_same = { Prim.search rules };
 }
 
-impl Reply {
-    /// Another of the same reply.
-    pub fn copy(&self) -> Result<Reply, OutOfMemory>
-        ensures { IfOk result (λ r. r ≡ self.now) }
-    {
-        match self {
-            Reply::Api(answer) => Ok(Reply::Api(answer.copy()?)),
-            Reply::Refused(refused) => Ok(Reply::Refused(*refused)),
-            Reply::Outputs(outputs) => Ok(Reply::Outputs(outputs.copy()?)),
-            Reply::Taken => Ok(Reply::Taken),
-            Reply::Turned => Ok(Reply::Turned),
-            Reply::OutOfMemory => Ok(Reply::OutOfMemory),
-        }
-    }
+impl Plain for Reply {
+    ghost clones_are_same = { Prim.search rules };
 }

@@ -1,13 +1,12 @@
 //! Sessions as agents see them: their handles, their progress and their outcomes.
 
-ghost use Rattle.std.specs.Prelude.{◌≡◌, IfOk};
+ghost use Rattle.std.proofs.Common.{rules};
 
-use crate::Objective;
-use crate::objective::copy_some_text;
-use grasp_cbor::{Chars, OutOfMemory};
+use crate::{Objective, Plain};
+use grasp_cbor::Chars;
 
 /// What an objective is used for.
-#[derive(Clone, Copy, Debug, PartialEq, Eq)]
+#[derive(Clone, Copy, Debug, PartialEq, Eq, Hash)]
 pub enum Kind {
     /// The two ends bargain over a value (RFC 8990, section 2.5.5).
     Negotiation,
@@ -16,7 +15,7 @@ pub enum Kind {
 }
 
 /// Which end did it, or whose message did.
-#[derive(Clone, Copy, Debug, PartialEq, Eq)]
+#[derive(Clone, Copy, Debug, PartialEq, Eq, Hash)]
 pub enum By {
     /// This end.
     Mine,
@@ -25,7 +24,7 @@ pub enum By {
 }
 
 /// The name of a session at its node: a place, used again later, and a number, never used again.
-#[derive(Clone, Copy, Debug, PartialEq, Eq)]
+#[derive(Clone, Copy, Debug, PartialEq, Eq, Hash)]
 pub struct Handle {
     /// 0 to 63.
     pub place: u32,
@@ -34,7 +33,7 @@ pub struct Handle {
 }
 
 /// How a session ended. Times are readings of this node's clock in milliseconds.
-#[derive(Debug, Drop)]
+#[derive(Clone, Debug, Drop)]
 pub enum Outcome {
     /// One end accepted the other's last offer.
     Agreed { by: By, objective: Objective },
@@ -53,7 +52,7 @@ pub enum Outcome {
 }
 
 /// What a poll of a session tells.
-#[derive(Debug, Drop)]
+#[derive(Clone, Debug, Drop)]
 pub enum Progress {
     /// It is the peer's turn.
     NotYet,
@@ -63,41 +62,22 @@ pub enum Progress {
     Ended(Outcome),
 }
 
-impl Outcome {
-    /// Another of the same outcome.
-    pub fn copy(&self) -> Result<Outcome, OutOfMemory>
-        ensures { IfOk result (λ r. r ≡ self.now) }
-    {
-        match *self {
-            Outcome::Agreed { by, ref objective } => {
-                let objective = objective.copy()?;
-                Ok(Outcome::Agreed { by, objective })
-            }
-            Outcome::Declined { by, ref reason } => {
-                let reason = copy_some_text(reason)?;
-                Ok(Outcome::Declined { by, reason })
-            }
-            Outcome::Synchronized { ref objective } => {
-                let objective = objective.copy()?;
-                Ok(Outcome::Synchronized { objective })
-            }
-            Outcome::TimedOut { deadline, now } => Ok(Outcome::TimedOut { deadline, now }),
-            Outcome::Broken => Ok(Outcome::Broken),
-            Outcome::OutOfMemory => Ok(Outcome::OutOfMemory),
-            Outcome::Invalid { by } => Ok(Outcome::Invalid { by }),
-        }
-    }
+impl Plain for Kind {
+    ghost clones_are_same = { Prim.search rules };
 }
 
-impl Progress {
-    /// Another of the same progress.
-    pub fn copy(&self) -> Result<Progress, OutOfMemory>
-        ensures { IfOk result (λ r. r ≡ self.now) }
-    {
-        match self {
-            Progress::NotYet => Ok(Progress::NotYet),
-            Progress::Turn(objective) => Ok(Progress::Turn(objective.copy()?)),
-            Progress::Ended(outcome) => Ok(Progress::Ended(outcome.copy()?)),
-        }
-    }
+impl Plain for By {
+    ghost clones_are_same = { Prim.search rules };
+}
+
+impl Plain for Handle {
+    ghost clones_are_same = { Prim.search rules };
+}
+
+impl Plain for Outcome {
+    ghost clones_are_same = { Prim.search rules };
+}
+
+impl Plain for Progress {
+    ghost clones_are_same = { Prim.search rules };
 }

@@ -4,7 +4,9 @@ ghost use Rattle.std.specs.Prelude.{◌≡◌, ◌≤◌, ◌<◌, IfOk, IfErr};
 ghost use Rattle.grasp_cbor.specs.DataItem.{depth_of};
 ghost use Rattle.grasp_cbor.specs.Item.{data_item_of};
 
-use grasp_cbor::{Item, OutOfMemory};
+use crate::Plain;
+use grasp_cbor::Item;
+use std::alloc::AllocError;
 use std::marker::Model;
 
 /// A data item of a depth of at most 13.
@@ -50,23 +52,18 @@ impl Value {
     {
         &self.item
     }
+}
 
-    /// Another of the same value.
-    pub fn copy(&self) -> Result<Value, OutOfMemory>
-        ensures { IfOk result (λ r. r ≡ self.now) }
-    {
+impl Clone for Value {
+    ghost is_clone = { λ a b. b ≡ a };
+
+    fn clone(&self) -> Result<Value, AllocError> {
         Ok(Value {
-            item: self.item.copy()?,
+            item: self.item.clone()?,
         })
     }
 }
 
-/// Another of the same value, where there is one.
-pub(crate) fn copy_some_value(value: &Option<Value>) -> Result<Option<Value>, OutOfMemory>
-    ensures { IfOk result (λ r. r ≡ value.now) }
-{
-    match value {
-        Some(value) => Ok(Some(value.copy()?)),
-        None => Ok(None),
-    }
+impl Plain for Value {
+    ghost clones_are_same = { λ a b e. e };
 }

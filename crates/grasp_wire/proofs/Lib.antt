@@ -8,14 +8,17 @@ pub mod Joins
 pub mod Locators
 pub mod Messages
 pub mod MessagesAgain
+pub mod NextAnswers
 pub mod Nexts
 pub mod Objectives
+pub mod OneAnswers
 pub mod OneFaults
 pub mod Parts
+pub mod Pieces
+pub mod Putting
 pub mod ReadingOn
 pub mod Responses
 pub mod Rests
-mod Rooms
 pub mod Runs
 pub mod Scalars
 pub mod ShortestForm
@@ -23,4 +26,4 @@ pub mod SomeDivision
 pub mod Stays
 pub mod Steps
 pub mod Sure
-mod Written
+pub mod Wholes

@@ -1,6 +1,7 @@
 -- What `next` answers, and how the cutter stands afterwards.
-use Rattle.std.proofs.Common.{◌≡◌, ℕ, [], ◌∷◌, ◌++◌, length, take, drop, take-append-drop, append_assoc, Option, Some, None, Result, Ok, Err, refl, sym, ap, subst, ◌∙◌, arith}
-use Rattle.std.proofs.lemmas.List.{length-append}
+use Rattle.std.proofs.Common.{◌≡◌, ◌+◌, ◌<◌, ℕ, List, [], ◌∷◌, ◌++◌, length, take, drop, take-append-drop, append_assoc, Option, Some, None, Result, Ok, Err, refl, sym, ap, subst, ◌∙◌, arith}
+use Rattle.std.proofs.lemmas.List.{length-append, length-drop, length-take-le}
+use Rattle.std.specs.Prelude.{IsSome}
 use Rattle.grasp_cbor.specs.Bytes.{AllBytes}
 use Rattle.grasp_cbor.specs.DataItem.{DataItem}
 use Rattle.grasp_cbor.specs.Ending.{IsWhole, IsPartial}
@@ -8,14 +9,14 @@ use Rattle.grasp_cbor.specs.declared.walker.FaultName.TheVariants as name
 use Rattle.grasp_cbor.proofs.HeadBytes.{AllBytes-back}
 use Rattle.grasp_types.specs.declared.message.Message.{Message}
 use Rattle.grasp_wire.specs.declared.fault.CutFault.{CutFault}
-use Rattle.grasp_wire.specs.declared.fault.CutFault.TheVariants.{Malformed, Indefinite, NotText, TooDeep, TooLong, NotMessage, OutOfMemory}
+use Rattle.grasp_wire.specs.declared.fault.CutFault.TheVariants.{Malformed, NotText, TooDeep, TooLong, NotMessage, OutOfMemory}
 use Rattle.grasp_wire.specs.declared.cutter.Cutter.{Cutter}
 use Rattle.grasp_wire.specs.Wire.{IsWireForm, AreWireForms}
 use Rattle.grasp_wire.specs.Stream.{RestKind, IsRest, Divides, waiting, too_long, not_message, faulty}
 use Rattle.grasp_wire.specs.Reads.{fault_of}
-use Rattle.grasp_wire.specs.Cutter.{Past, after_next, fault_after, lasting, HasFault, Finds, AnswersNext}
-use Rattle.grasp_wire.specs.Stands.{Stands, KeepsRest, KeepsUp, IsSame, IsFaultOf, AnswersItem, cut_limit, fed_count, rest_of, before_of}
-use Rattle.grasp_wire.proofs.Joins.{joined_more}
+use Rattle.grasp_wire.specs.Cutter.{Past, after_next, fault_after, lasting, HasFault, Finds, AnswersNext, TakesItem, TakesTo, Takes, CountsRest}
+use Rattle.grasp_wire.specs.Stands.{Stands, KeepsRest, KeepsUp, IsSame, IsFaultOf, AnswersFound, AnswersItem, cut_limit, fed_count, rest_of, before_of, taken_with}
+use Rattle.grasp_wire.proofs.Joins.{no_bytes, joined_more}
 use Rattle.grasp_wire.proofs.Rests.{no_message}
 
 -- no fault is known
@@ -58,7 +59,6 @@ has_fault c past fault s none h =
 
 finds_fault : (limit : ℕ) (past : Past) (fault : CutFault) → lasting fault ≡ Some fault → HasFault limit past fault → Finds limit past (Err fault)
 finds_fault limit past (Malformed at) e h = h
-finds_fault limit past (Indefinite at) e h = h
 finds_fault limit past (NotText at) e h = h
 finds_fault limit past (TooDeep at) e h = h
 finds_fault limit past (TooLong at) e h = h
@@ -138,26 +138,86 @@ pub next_failed : (c : Cutter) (past : Past) (used : ℕ) (fault : CutFault) →
 next_failed c past used OutOfMemory s none w h =
     let k = keeps c past s none in
     answers_none (cut_limit c) c past (Err OutOfMemory) s none (record { front = k.front; rest = rest_of c; item = w.0; used = used; forms = k.forms; parts = k.parts; whole = w.1 })
-next_failed c past used (Malformed at) s none w h = next_faulted c past (Malformed at) s none h
-next_failed c past used (Indefinite at) s none w h = next_faulted c past (Indefinite at) s none h
-next_failed c past used (NotText at) s none w h = next_faulted c past (NotText at) s none h
-next_failed c past used (TooDeep at) s none w h = next_faulted c past (TooDeep at) s none h
-next_failed c past used (TooLong at) s none w h = next_faulted c past (TooLong at) s none h
-next_failed c past used (NotMessage at) s none w h = next_faulted c past (NotMessage at) s none h
+next_failed c past used (NotMessage at) s none w h = next_faulted c past (NotMessage at) s none (h, refl)
+next_failed c past used (Malformed at) s none w h = absurd h
+next_failed c past used (NotText at) s none w h = absurd h
+next_failed c past used (TooDeep at) s none w h = absurd h
+next_failed c past used (TooLong at) s none w h = absurd h
 
 pub stands_failed : (c new : Cutter) (past : Past) (used : ℕ) (fault : CutFault) → Stands c past → c.fault ≡ None → AnswersItem (rest_of c) (cut_limit c) (before_of c) used (Err fault)
-    → IsSame c new → new.fault ≡ lasting fault → Stands new (after_next past (Err fault))
-stands_failed c new past used OutOfMemory s none h same is = stands_same c new past s none same is
-stands_failed c new past used (Malformed at) s none h same is = stands_faulted c new past (Malformed at) s none h same.count same.limit is
-stands_failed c new past used (Indefinite at) s none h same is = stands_faulted c new past (Indefinite at) s none h same.count same.limit is
-stands_failed c new past used (NotText at) s none h same is = stands_faulted c new past (NotText at) s none h same.count same.limit is
-stands_failed c new past used (TooDeep at) s none h same is = stands_faulted c new past (TooDeep at) s none h same.count same.limit is
-stands_failed c new past used (TooLong at) s none h same is = stands_faulted c new past (TooLong at) s none h same.count same.limit is
-stands_failed c new past used (NotMessage at) s none h same is = stands_faulted c new past (NotMessage at) s none h same.count same.limit is
+    → (fault ≡ OutOfMemory → rest_of new ≡ rest_of c) → fed_count new ≡ fed_count c → cut_limit new ≡ cut_limit c → new.fault ≡ lasting fault → Stands new (after_next past (Err fault))
+stands_failed c new past used OutOfMemory s none h rest count limit is = stands_same c new past s none (record { rest = rest refl; count = count; limit = limit }) is
+stands_failed c new past used (NotMessage at) s none h rest count limit is = stands_faulted c new past (NotMessage at) s none (h, refl) count limit is
+stands_failed c new past used (Malformed at) s none h rest count limit is = absurd h
+stands_failed c new past used (NotText at) s none h rest count limit is = absurd h
+stands_failed c new past used (TooDeep at) s none h rest count limit is = absurd h
+stands_failed c new past used (TooLong at) s none h rest count limit is = absurd h
+
+-- ---- how many bytes are taken
+
+pub takes_still : (c : Cutter) (past : Past) (fault : CutFault) (r : Result (Option Message) CutFault) (limit taken : ℕ) → Stands c past → c.fault ≡ Some fault → Takes limit past past.fault r taken taken
+takes_still c past fault r limit taken s is = subst (λ f. Takes limit past f r taken taken) (sym (s.fault ∙ is)) refl
+
+takes_by : (c : Cutter) (past : Past) (r : Result (Option Message) CutFault) (limit old new : ℕ) → Stands c past → c.fault ≡ None → TakesTo limit past r new → Takes limit past past.fault r old new
+takes_by c past r limit old new s none h = subst (λ f. Takes limit past f r old new) (sym (s.fault ∙ none)) h
+
+takes_item : (c : Cutter) (past : Past) (used taken : ℕ) → Stands c past → c.fault ≡ None → ((item : DataItem) × IsWhole (rest_of c) (cut_limit c) item used) → taken ≡ before_of c + used → TakesItem (cut_limit c) past taken
+takes_item c past used taken s none w e =
+    let k = keeps c past s none in
+    record { front = k.front; rest = rest_of c; item = w.0; used = used; forms = k.forms; parts = k.parts; whole = w.1; taken_is = e ∙ ap (λ n. n + used) (place_is c past s k) }
+
+pub takes_given : (c : Cutter) (past : Past) (message : Message) (used old taken : ℕ) → Stands c past → c.fault ≡ None → ((item : DataItem) × IsWhole (rest_of c) (cut_limit c) item used) → taken ≡ before_of c + used
+    → Takes (cut_limit c) past past.fault (Ok (Some message)) old taken
+takes_given c past message used old taken s none w e = takes_by c past (Ok (Some message)) (cut_limit c) old taken s none (takes_item c past used taken s none w e)
+
+failed_to : (limit : ℕ) (past : Past) (rest : List ℕ) (before used taken : ℕ) (fault : CutFault) → AnswersItem rest limit before used (Err fault) → TakesItem limit past taken → TakesTo limit past (Err fault) taken
+failed_to limit past rest before used taken OutOfMemory h t = t
+failed_to limit past rest before used taken (NotMessage at) h t = t
+failed_to limit past rest before used taken (Malformed at) h t = absurd h
+failed_to limit past rest before used taken (NotText at) h t = absurd h
+failed_to limit past rest before used taken (TooDeep at) h t = absurd h
+failed_to limit past rest before used taken (TooLong at) h t = absurd h
+
+pub takes_failed : (c : Cutter) (past : Past) (used old taken : ℕ) (fault : CutFault) → Stands c past → c.fault ≡ None → ((item : DataItem) × IsWhole (rest_of c) (cut_limit c) item used)
+    → AnswersItem (rest_of c) (cut_limit c) (before_of c) used (Err fault) → taken ≡ before_of c + used → Takes (cut_limit c) past past.fault (Err fault) old taken
+takes_failed c past used old taken fault s none w h e =
+    takes_by c past (Err fault) (cut_limit c) old taken s none (failed_to (cut_limit c) past (rest_of c) (before_of c) used taken fault h (takes_item c past used taken s none w e))
+
+pub takes_all : (c : Cutter) (past : Past) (old taken : ℕ) → Stands c past → c.fault ≡ None → taken ≡ fed_count c → Takes (cut_limit c) past past.fault (Ok None) old taken
+takes_all c past old taken s none e = takes_by c past (Ok None) (cut_limit c) old taken s none (e ∙ s.count)
+
+faulted_to : (limit : ℕ) (past : Past) (rest : List ℕ) (before taken : ℕ) (fault : CutFault) → AnswersFound rest limit before (Err fault) → taken ≡ taken_with limit fault → TakesTo limit past (Err fault) taken
+faulted_to limit past rest before taken (Malformed at) h e = e
+faulted_to limit past rest before taken (NotText at) h e = e
+faulted_to limit past rest before taken (TooDeep at) h e = e
+faulted_to limit past rest before taken (TooLong at) h e = e
+faulted_to limit past rest before taken (NotMessage at) h e = absurd h
+faulted_to limit past rest before taken OutOfMemory h e = let k = h.1 in absurd (cc k)
+
+pub takes_faulted : (c : Cutter) (past : Past) (old taken : ℕ) (fault : CutFault) → Stands c past → c.fault ≡ None → AnswersFound (rest_of c) (cut_limit c) (before_of c) (Err fault) → taken ≡ taken_with (cut_limit c) fault
+    → Takes (cut_limit c) past past.fault (Err fault) old taken
+takes_faulted c past old taken fault s none h e = takes_by c past (Err fault) (cut_limit c) old taken s none (faulted_to (cut_limit c) past (rest_of c) (before_of c) taken fault h e)
+
+-- a fault that was found lasts
+pub found_lasts : (rest : List ℕ) (limit before : ℕ) (fault : CutFault) → AnswersFound rest limit before (Err fault) → IsFaultOf rest limit before fault × (lasting fault ≡ Some fault)
+found_lasts rest limit before (Malformed at) h = h
+found_lasts rest limit before (NotText at) h = h
+found_lasts rest limit before (TooDeep at) h = h
+found_lasts rest limit before (TooLong at) h = h
+found_lasts rest limit before (NotMessage at) h = absurd h
+found_lasts rest limit before OutOfMemory h = h
 
 -- a whole item in another cutter with the same rest
 pub whole_moved : (c new : Cutter) (used : ℕ) → IsSame c new → ((item : DataItem) × IsWhole (rest_of c) (cut_limit c) item used) → (item : DataItem) × IsWhole (rest_of new) (cut_limit new) item used
 whole_moved c new used same w = (w.0, subst (λ n. IsWhole (rest_of new) n w.0 used) (sym same.limit) (subst (λ x. IsWhole x (cut_limit c) w.0 used) (sym same.rest) w.1))
+
+-- after an item fewer bytes wait
+pub fewer_wait : (c mid new : Cutter) (used : ℕ) → rest_of mid ≡ rest_of c → ((item : DataItem) × IsWhole (rest_of c) (cut_limit c) item used) → rest_of new ≡ drop used (rest_of mid)
+    → length (rest_of new) < length (rest_of c)
+fewer_wait c mid new used same w rest =
+    let inside = w.1.inside in
+    let some : 0 < length (take used (rest_of c)) = no_bytes w.0 (take used (rest_of c)) w.1.encodes in
+    omega (arith, ap length rest, ap length same, length-drop used (rest_of mid), length-take-le used (rest_of c) inside)
 
 -- no rest has want of memory
 no_memory : (before : ℕ) (kind : RestKind) → fault_of before kind ≡ Some OutOfMemory → ⊥
@@ -165,14 +225,12 @@ no_memory before waiting e = cc
 no_memory before too_long e = cc
 no_memory before not_message e = cc
 no_memory before (faulty name.Malformed place) e = cc
-no_memory before (faulty name.Indefinite place) e = cc
 no_memory before (faulty name.NotText place) e = cc
 no_memory before (faulty name.TooDeep place) e = cc
 
 -- a fault that lasts
-lasts_so : (limit : ℕ) (past : Past) (fault : CutFault) → HasFault limit past fault → lasting fault ≡ Some fault
+pub lasts_so : (limit : ℕ) (past : Past) (fault : CutFault) → HasFault limit past fault → lasting fault ≡ Some fault
 lasts_so limit past (Malformed at) h = refl
-lasts_so limit past (Indefinite at) h = refl
 lasts_so limit past (NotText at) h = refl
 lasts_so limit past (TooDeep at) h = refl
 lasts_so limit past (TooLong at) h = refl
@@ -186,3 +244,11 @@ stands_again c past fault s is =
     let last : lasting fault ≡ Some fault = lasts_so (cut_limit c) past fault h in
     let same : fault_after past.fault (lasting fault) ≡ past.fault = ap (fault_after past.fault) last ∙ sym e in
     subst (λ f. Stands c (record { fed = past.fed; given = past.given; fault = f })) (sym same) s
+
+-- what waits is counted, and it is nothing after a fault
+counts_by : (c : Cutter) (past : Past) (f : Option CutFault) → f ≡ c.fault → KeepsUp f c past → (IsSome c.fault → length (rest_of c) ≡ 0) → CountsRest (cut_limit c) past f (length (rest_of c))
+counts_by c past None e k none = record { front = k.front; rest = rest_of c; forms = k.forms; parts = k.parts; count_is = refl }
+counts_by c past (Some fault) e k none = none (subst IsSome e refl)
+
+pub counts_rest : (c : Cutter) (past : Past) → Stands c past → (IsSome c.fault → length (rest_of c) ≡ 0) → CountsRest (cut_limit c) past past.fault (length (rest_of c))
+counts_rest c past s none = counts_by c past past.fault s.fault s.keeps none

@@ -1,15 +1,24 @@
 -- Steps of reading on.
-use Rattle.std.proofs.Common.{◌≡◌, ℕ, ◌+◌, ◌<◌, List, [], ◌∷◌, ◌++◌, take, drop, get_or, length, Some, Ok, sym, ap, subst, ◌∙◌, append_assoc, arith}
-use Rattle.std.proofs.lemmas.List.{length-append, length-take-le, length_push, take_more, take-append-drop, take-append-le}
+use Rattle.std.proofs.Common.{◌≡◌, ℕ, ◌+◌, ◌<◌, List, [], ◌∷◌, ◌++◌, take, drop, get_or, length, None, Some, Result, Ok, inl, inr, refl, sym, ap, subst, ◌∙◌, append_assoc, arith}
+use Rattle.std.proofs.lemmas.Bool.{cases_lt}
+use Rattle.std.proofs.lemmas.List.{length-append, length-take-le, length_push, take_at, take_more, take-append-drop, take-append-le}
+use Rattle.grasp_cbor.specs.Bytes.{AllBytes}
+use Rattle.grasp_cbor.specs.CanGoOn.{CanGoOn}
 use Rattle.grasp_cbor.specs.DataItem.{DataItem}
-use Rattle.grasp_cbor.specs.Ending.{IsWhole, IsPartial}
-use Rattle.grasp_cbor.specs.ItemReader.{Reading, EndsWith, AnswersTaken, reader_limit}
+use Rattle.grasp_cbor.specs.Ending.{too_long, faulty, IsWhole, IsPartial, IsTooLong, IsFaulty}
+use Rattle.grasp_cbor.specs.ItemReader.{Reading, EndsWith, AnswersTaken, bytes_with, fault_of, reader_limit}
 use Rattle.grasp_cbor.specs.declared.item_reader.ItemReader.{ItemReader}
 use Rattle.grasp_cbor.specs.declared.read.ItemFault.{ItemFault}
+use Rattle.grasp_cbor.specs.declared.read.ItemFault.TheVariants.{Malformed, NotText, TooDeep, TooLong, OutOfMemory}
+use Rattle.grasp_cbor.specs.declared.walker.FaultName.{FaultName}
+use Rattle.grasp_cbor.specs.declared.walker.FaultName.TheVariants as name
+use Rattle.grasp_cbor.specs.declared.walker.Taken.{Taken}
 use Rattle.grasp_cbor.specs.declared.walker.Taken.TheVariants.{More, Whole}
+use Rattle.grasp_cbor.proofs.Cases.{one_ending}
+use Rattle.grasp_cbor.proofs.HeadBytes.{AllBytes-append}
 use Rattle.grasp_cbor.proofs.Insides.{zero_item}
 use Rattle.grasp_cbor.proofs.Kept.{ends_stays}
-use Rattle.grasp_wire.specs.ReadOn.{IsOpen, AnswersRead}
+use Rattle.grasp_wire.specs.ReadOn.{IsOpen, AnswersRead, MeetsFault, taken_at}
 
 -- no bytes can go on
 pub nothing_waits : (limit : ℕ) → 0 < limit → IsPartial [] limit
@@ -29,12 +38,23 @@ whole_stays s t limit used item w =
     let inside = w.inside in
     record { encodes = rw (take-append-le used s t inside) w.encodes; inside = omega (arith, length-append s t); within = w.within }
 
+-- what is answered where no fault was met
+pub exact_open : (reader : ItemReader) (s : List ℕ) (byte limit : ℕ) (r : Result Taken ItemFault) → fault_of reader ≡ None → AnswersTaken (bytes_with (fault_of reader) s byte) limit r → AnswersTaken (s ++ byte ∷ []) limit r
+exact_open reader s byte limit r e h = subst (λ f. AnswersTaken (bytes_with f s byte) limit r) e h
+
 -- the byte at this place was taken, and more can follow
-pub open_more : (old new : ItemReader) (bytes more : List ℕ) (i : ℕ) → i < length more → reader_limit new ≡ reader_limit old
-    → AnswersTaken ((bytes ++ take i more) ++ get_or more i 0 ∷ []) (reader_limit old) (Ok More) → Reading new ((bytes ++ take i more) ++ get_or more i 0 ∷ [])
+pub open_more : (old new : ItemReader) (bytes more : List ℕ) (i : ℕ) → i < length more → get_or more i 0 < 256 → IsOpen old (bytes ++ take i more) → reader_limit new ≡ reader_limit old → fault_of new ≡ None
+    → AnswersTaken (bytes_with (fault_of old) (bytes ++ take i more) (get_or more i 0)) (reader_limit old) (Ok More) → Reading new (bytes_with (fault_of old) (bytes ++ take i more) (get_or more i 0))
     → IsOpen new (bytes ++ take (i + 1) more)
-open_more old new bytes more i l same answer read =
-    subst (λ x. IsOpen new x) (one_more bytes more i l) (record { reading = read; waits = subst (λ n. IsPartial ((bytes ++ take i more) ++ get_or more i 0 ∷ []) n) (sym same) answer })
+open_more old new bytes more i l byte o same none answer read =
+    let front : List ℕ = bytes ++ take i more in
+    let waits : IsPartial (front ++ get_or more i 0 ∷ []) (reader_limit old) = exact_open old front (get_or more i 0) (reader_limit old) (Ok More) o.no_fault answer in
+    subst (λ x. IsOpen new x) (one_more bytes more i l) (record {
+      reading = subst (λ f. Reading new (bytes_with f front (get_or more i 0))) o.no_fault read;
+      no_fault = none;
+      are_bytes = AllBytes-append front (get_or more i 0 ∷ []) o.are_bytes (byte, tt);
+      waits = subst (λ n. IsPartial (front ++ get_or more i 0 ∷ []) n) (sym same) waits;
+    })
 
 -- it ended an item
 pub ended : (limit : ℕ) (bytes more : List ℕ) (i : ℕ) → i < length more → AnswersTaken ((bytes ++ take i more) ++ get_or more i 0 ∷ []) limit (Ok Whole) → AnswersRead bytes more limit (Ok (Some (i + 1)))
@@ -45,15 +65,43 @@ ended limit bytes more i l answer =
     let joined : front ++ drop (i + 1) more ≡ bytes ++ more = ap (λ x. x ++ drop (i + 1) more) (one_more bytes more i l) ∙ others bytes more (i + 1) in
     (omega arith, (answer.0, subst (λ x. IsWhole x limit answer.0 (length bytes + (i + 1))) joined (whole_stays front (drop (i + 1) more) limit (length bytes + (i + 1)) answer.0 at)))
 
+-- a fault is met with the last byte where the others can go on
+faulty_met : (s : List ℕ) (byte limit at : ℕ) (name : FaultName) → AllBytes (s ++ byte ∷ []) → IsPartial s limit → IsFaulty (s ++ byte ∷ []) limit name at → at + 1 ≡ length s + 1
+faulty_met s byte limit at name bytes w h =
+    let inside = h.fault.inside in
+    let front : take (length s) (s ++ byte ∷ []) ≡ s = take_at s (byte ∷ []) (length s) refl in
+    elim (cases_lt at (length s)) [
+      | inl lt ↦
+          let long : IsTooLong (s ++ byte ∷ []) (length s) = record { long = omega (arith, length_push s byte); can_go_on = subst (λ x. CanGoOn x) (sym front) w.can_go_on } in
+          let early : IsFaulty (s ++ byte ∷ []) (length s) name at = record { below = lt; fault = h.fault } in
+          absurd (let e : too_long ≡ faulty name at = one_ending (s ++ byte ∷ []) (length s) too_long (faulty name at) bytes long early in cc)
+      | inr ge ↦ omega (arith, length_push s byte)
+    ]
+
+pub met : (s : List ℕ) (byte limit : ℕ) (f : ItemFault) → AllBytes (s ++ byte ∷ []) → IsPartial s limit → EndsWith (s ++ byte ∷ []) limit f → taken_at limit f ≡ length s + 1
+met s byte limit (Malformed at) bytes w h = faulty_met s byte limit at name.Malformed bytes w h
+met s byte limit (NotText at) bytes w h = faulty_met s byte limit at name.NotText bytes w h
+met s byte limit (TooDeep at) bytes w h = faulty_met s byte limit at name.TooDeep bytes w h
+met s byte limit TooLong bytes w h = let short = w.short in let long = h.long in omega (arith, length_push s byte)
+met s byte limit OutOfMemory bytes w h = absurd h
+
 -- it has a fault
-pub faulted : (limit : ℕ) (bytes more : List ℕ) (i : ℕ) (fault : ItemFault) → i < length more → EndsWith ((bytes ++ take i more) ++ get_or more i 0 ∷ []) limit fault → EndsWith (bytes ++ more) limit fault
-faulted limit bytes more i fault l h =
+pub faulted : (limit : ℕ) (bytes more : List ℕ) (i : ℕ) (fault : ItemFault) → i < length more → AllBytes ((bytes ++ take i more) ++ get_or more i 0 ∷ []) → IsPartial (bytes ++ take i more) limit
+    → EndsWith ((bytes ++ take i more) ++ get_or more i 0 ∷ []) limit fault → MeetsFault bytes (bytes ++ more) limit fault × (taken_at limit fault ≡ length bytes + (i + 1))
+faulted limit bytes more i fault l all w h =
     let front : List ℕ = (bytes ++ take i more) ++ get_or more i 0 ∷ [] in
     let joined : front ++ drop (i + 1) more ≡ bytes ++ more = ap (λ x. x ++ drop (i + 1) more) (one_more bytes more i l) ∙ others bytes more (i + 1) in
-    subst (λ x. EndsWith x limit fault) joined (ends_stays front (drop (i + 1) more) limit fault h)
+    let at : taken_at limit fault ≡ length bytes + (i + 1) = omega (arith, met (bytes ++ take i more) (get_or more i 0) limit fault all w h, length-append bytes (take i more), length-take-le i more) in (
+      record {
+        ends = subst (λ x. EndsWith x limit fault) joined (ends_stays front (drop (i + 1) more) limit fault h);
+        later = omega arith;
+        inside = omega (arith, length-append bytes more);
+      },
+      at,
+    )
 
 -- after a whole item
-pub open_again : (old new : ItemReader) (bytes : List ℕ) → IsOpen old bytes → reader_limit new ≡ reader_limit old → Reading new [] → IsOpen new []
-open_again old new bytes o same read =
+pub open_again : (old new : ItemReader) (bytes : List ℕ) → IsOpen old bytes → reader_limit new ≡ reader_limit old → fault_of new ≡ None → Reading new [] → IsOpen new []
+open_again old new bytes o same none read =
     let short = o.waits.short in
-    record { reading = read; waits = nothing_waits (reader_limit new) (omega arith) }
+    record { reading = read; no_fault = none; are_bytes = tt; waits = nothing_waits (reader_limit new) (omega arith) }

@@ -1,5 +1,5 @@
 -- Every stream of bytes divides.
-use Rattle.std.proofs.Common.{◌≡◌, ℕ, zero, suc, ◌<◌, ◌⊎◌, inl, inr, List, [], ◌∷◌, length, take, drop, Option, Some, None, take-append-drop, refl, ap, subst, arith}
+use Rattle.std.proofs.Common.{◌≡◌, ℕ, zero, suc, ◌<◌, ◌^◌, ◌⊎◌, inl, inr, List, [], ◌∷◌, length, take, drop, Option, Some, None, take-append-drop, refl, ap, subst, arith}
 use Rattle.std.proofs.lemmas.List.{length-take-le, length-drop}
 use Rattle.grasp_cbor.specs.Bytes.{AllBytes}
 use Rattle.grasp_cbor.specs.DataItem.{DataItem}
@@ -31,8 +31,15 @@ by_reading item (Some m) read encodable =
     inl (record { message = m; is_message = finds.1; item_is = finds.0 })
 by_reading item None read encodable = inr (λ m h is. let again = message_again m h in let same = ap message_in is in absurd (cc (again, same, read)))
 
-decided : (item : DataItem) → IsEncodable item → IsItemOf item ⊎ IsNoMessage item
+pub decided : (item : DataItem) → IsEncodable item → IsItemOf item ⊎ IsNoMessage item
 decided item encodable = by_reading item (message_in item) refl encodable
+
+-- an item within the limit can be encoded
+pub whole_encodable : (s : List ℕ) (limit : ℕ) (item : DataItem) (used : ℕ) → limit < 2 ^ 64 → AllBytes s → IsWhole s limit item used → IsEncodable item
+whole_encodable s limit item used few bytes w =
+    let inside = w.inside in
+    let within = w.within in
+    encoded item (take used s) (AllBytes-take used s bytes) (omega (arith, few, length-take-le used s inside)) w.encodes
 
 abbrev HasDivision : List ℕ → ℕ → Type 0
 HasDivision stream limit = (messages : List Message) × (rest : List ℕ) × (kind : RestKind) × Divides stream limit messages rest kind
@@ -52,16 +59,16 @@ after_item s limit item used bytes w (inl is) next =
     let d = next (AllBytes-drop used s bytes) (omega (arith, length-drop used s, length-take-le used s inside)) in
     (is.message ∷ d.0, d.1, d.2, subst (λ x. Divides x limit (is.message ∷ d.0) d.1 d.2) (take-append-drop used s) (divides_more limit is.message (take used s) (drop used s) d.0 d.1 d.2 form d.3))
 
-by_ending : (fuel : ℕ) (s : List ℕ) (limit : ℕ) (e : Ending) → AllBytes s → length s < fuel → IsEnding s limit e → HasDivision s limit
-by_ending fuel s limit partial bytes l h = alone s limit rest.waiting bytes h
-by_ending fuel s limit too_long bytes l h = alone s limit rest.too_long bytes h
-by_ending fuel s limit (faulty name at) bytes l h = alone s limit (rest.faulty name at) bytes h
-by_ending zero s limit (whole item used) bytes l h = absurd (omega arith)
-by_ending (suc fuel) s limit (whole item used) bytes l h =
-    after_item s limit item used bytes h (decided item (encoded item (take used s) (AllBytes-take used s bytes) h.encodes))
-    (λ b k. let e = some_ending (drop used s) limit b in by_ending fuel (drop used s) limit e.0 b (omega arith) e.1)
+by_ending : (fuel : ℕ) (s : List ℕ) (limit : ℕ) (e : Ending) → limit < 2 ^ 64 → AllBytes s → length s < fuel → IsEnding s limit e → HasDivision s limit
+by_ending fuel s limit partial few bytes l h = alone s limit rest.waiting bytes h
+by_ending fuel s limit too_long few bytes l h = alone s limit rest.too_long bytes h
+by_ending fuel s limit (faulty name at) few bytes l h = alone s limit (rest.faulty name at) bytes h
+by_ending zero s limit (whole item used) few bytes l h = absurd (omega arith)
+by_ending (suc fuel) s limit (whole item used) few bytes l h =
+    after_item s limit item used bytes h (decided item (whole_encodable s limit item used few bytes h))
+    (λ b k. let e = some_ending (drop used s) limit b in by_ending fuel (drop used s) limit e.0 few b (omega arith) e.1)
 
-pub some_division : (stream : List ℕ) (limit : ℕ) → AllBytes stream → HasDivision stream limit
-some_division stream limit bytes =
+pub some_division : (stream : List ℕ) (limit : ℕ) → limit < 2 ^ 64 → AllBytes stream → HasDivision stream limit
+some_division stream limit few bytes =
     let e = some_ending stream limit bytes in
-    by_ending (suc (length stream)) stream limit e.0 bytes (omega arith) e.1
+    by_ending (suc (length stream)) stream limit e.0 few bytes (omega arith) e.1

@@ -4,7 +4,7 @@ use Rattle.std.proofs.lemmas.List.{length-append}
 use Rattle.std.specs.Prelude.{OnOk, is_some}
 use Rattle.grasp_cbor.specs.Bytes.{AllBytes}
 use Rattle.grasp_cbor.specs.declared.walker.FaultName.TheVariants as name
-use Rattle.grasp_cbor.specs.declared.read.ItemFault.TheVariants.{Malformed, Indefinite, NotText, TooDeep, TooLong}
+use Rattle.grasp_cbor.specs.declared.read.ItemFault.TheVariants.{Malformed, NotText, TooDeep, TooLong}
 use Rattle.grasp_cbor.proofs.HeadBytes.{AllBytes-back, AllBytes-append}
 use Rattle.grasp_cbor.proofs.Kept.{ends_stays}
 use Rattle.grasp_types.specs.declared.message.Message.{Message}
@@ -24,7 +24,6 @@ rest_stays rest more limit waiting other h = absurd (other refl)
 rest_stays rest more limit too_long other h = ends_stays rest more limit TooLong h
 rest_stays rest more limit not_message other h = record { item = h.item; used = h.used; whole = whole_stays rest more limit h.used h.item h.whole; no_message = h.no_message }
 rest_stays rest more limit (faulty name.Malformed at) other h = ends_stays rest more limit (Malformed at) h
-rest_stays rest more limit (faulty name.Indefinite at) other h = ends_stays rest more limit (Indefinite at) h
 rest_stays rest more limit (faulty name.NotText at) other h = ends_stays rest more limit (NotText at) h
 rest_stays rest more limit (faulty name.TooDeep at) other h = ends_stays rest more limit (TooDeep at) h
 
@@ -43,7 +42,7 @@ division_stays stream more limit messages rest kind bytes d other =
 waits_for_more : (before : ℕ) (kind : RestKind) (fault : CutFault) → fault_of before kind ≡ Some fault → kind ≢ waiting
 waits_for_more before kind fault e w = let q : None ≡ Some fault = sym (ap (fault_of before) w) ∙ e in cc
 
-fault_stays : (limit : ℕ) (past : Past) (piece : List ℕ) (fault : CutFault) → AllBytes (past.fed ++ piece) → HasFault limit past fault → HasFault limit (after_feed past piece) fault
+pub fault_stays : (limit : ℕ) (past : Past) (piece : List ℕ) (fault : CutFault) → AllBytes (past.fed ++ piece) → HasFault limit past fault → HasFault limit (after_feed past piece) fault
 fault_stays limit past piece fault bytes h = record {
   front = h.front;
   rest = h.rest ++ piece;

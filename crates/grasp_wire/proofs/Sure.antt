@@ -1,38 +1,37 @@
 -- What reading ends with, where it is known that it ends so.
-use Rattle.std.proofs.Common.{◌≡◌, ℕ, zero, suc, ◌+◌, ◌-◌, ◌<◌, ◌≤◌, List, ◌++◌, length, take, drop, Option, Some, None, Result, Ok, Err, refl, sym, ap, subst, ◌∙◌, arith}
+use Rattle.std.proofs.Common.{◌≡◌, ℕ, zero, suc, ◌+◌, ◌-◌, ◌<◌, ◌≤◌, Bool, true, false, List, [], ◌++◌, length, take, drop, Option, Some, None, Result, Ok, Err, refl, sym, ap, subst, ◌∙◌, arith}
 use Rattle.std.proofs.Math.Logic.{∥∥₁_elim, ∥∥₁_map}
 use Rattle.std.proofs.Math.Nat.{ℕ_set}
 use Rattle.std.specs.Coded.{le_prop}
-use Rattle.std.proofs.lemmas.List.{take-append-drop, take_rest, length-take-le}
+use Rattle.std.proofs.lemmas.List.{take-append-drop, take_rest, take_all, length-take-le}
 use Rattle.grasp_cbor.specs.Bytes.{AllBytes}
 use Rattle.grasp_cbor.specs.DataItem.{DataItem}
+use Rattle.grasp_cbor.specs.Encodes.{Encodes}
 use Rattle.grasp_cbor.specs.Ending.{Ending, whole, partial, too_long, faulty, IsWhole, IsPartial, IsEnding}
 use Rattle.grasp_cbor.specs.ItemReader.{EndsWith, reader_limit}
 use Rattle.grasp_cbor.specs.declared.item_reader.ItemReader.{ItemReader}
 use Rattle.grasp_cbor.specs.declared.walker.FaultName.{FaultName}
 use Rattle.grasp_cbor.specs.declared.walker.FaultName.TheVariants as name
 use Rattle.grasp_cbor.specs.declared.read.ItemFault.{ItemFault}
-use Rattle.grasp_cbor.specs.declared.read.ItemFault.TheVariants.{Malformed, Indefinite, NotText, TooDeep, TooLong, OutOfMemory}
+use Rattle.grasp_cbor.specs.declared.read.ItemFault.TheVariants.{Malformed, NotText, TooDeep, TooLong, OutOfMemory}
 use Rattle.grasp_cbor.proofs.Cases.{some_ending, one_ending}
 use Rattle.grasp_wire.specs.declared.fault.CutFault.{CutFault}
-use Rattle.grasp_wire.specs.ReadOn.{IsOpen, AnswersRead, IsOpenAfter, IsReadTo, place_in}
+use Rattle.grasp_wire.specs.ReadOn.{IsOpen, IsAt, AnswersRead, AnswersRest, IsOpenAfter, IsReadTo, MeetsFault, place_in, taken_at, taken_more}
+use Rattle.grasp_wire.proofs.ReadingOn.{whole_stays}
 
 -- each name by a number
 abbrev number_of : FaultName → ℕ
 number_of name.Malformed = 0
-number_of name.Indefinite = 1
-number_of name.TooDeep = 2
-number_of name.NotText = 3
+number_of name.TooDeep = 1
+number_of name.NotText = 2
 
 abbrev name_at : ℕ → FaultName
 name_at zero = name.Malformed
-name_at (suc zero) = name.Indefinite
-name_at (suc (suc zero)) = name.TooDeep
-name_at (suc (suc (suc n))) = name.NotText
+name_at (suc zero) = name.TooDeep
+name_at (suc (suc n)) = name.NotText
 
 name_back : (n : FaultName) → name_at (number_of n) ≡ n
 name_back name.Malformed = refl
-name_back name.Indefinite = refl
 name_back name.TooDeep = refl
 name_back name.NotText = refl
 
@@ -92,7 +91,6 @@ sure_whole s limit n bytes h =
 
 sure_fault : (s : List ℕ) (limit : ℕ) (f : ItemFault) → AllBytes s → ∥ EndsWith s limit f ∥₁ → EndsWith s limit f
 sure_fault s limit (Malformed at) bytes h = sure_ending s limit (faulty name.Malformed at) (omega arith) bytes h
-sure_fault s limit (Indefinite at) bytes h = sure_ending s limit (faulty name.Indefinite at) (omega arith) bytes h
 sure_fault s limit (NotText at) bytes h = sure_ending s limit (faulty name.NotText at) (omega arith) bytes h
 sure_fault s limit (TooDeep at) bytes h = sure_ending s limit (faulty name.TooDeep at) (omega arith) bytes h
 sure_fault s limit TooLong bytes h = sure_ending s limit too_long (omega arith) bytes h
@@ -102,16 +100,19 @@ sure_fault s limit OutOfMemory bytes h = ∥∥₁_elim h (hlevel) (λ x. x)
 sure_read : (s t : List ℕ) (limit : ℕ) (r : Result (Option ℕ) ItemFault) → AllBytes (s ++ t) → ∥ AnswersRead s t limit r ∥₁ → AnswersRead s t limit r
 sure_read s t limit (Ok (Some used)) bytes h = (∥∥₁_elim h le_prop (λ x. x.0), sure_whole (s ++ t) limit (length s + used) bytes (∥∥₁_map h (λ x. x.1)))
 sure_read s t limit (Ok None) bytes h = sure_ending (s ++ t) limit partial (omega arith) bytes h
-sure_read s t limit (Err fault) bytes h = sure_fault (s ++ t) limit fault bytes h
+sure_read s t limit (Err fault) bytes h = record {
+  ends = sure_fault (s ++ t) limit fault bytes (∥∥₁_map h (λ x. x.ends));
+  later = ∥∥₁_elim h le_prop (λ x. x.later);
+  inside = ∥∥₁_elim h le_prop (λ x. x.inside);
+}
 
 -- the place of a fault is inside
-place_inside : (s : List ℕ) (limit : ℕ) (f : ItemFault) → EndsWith s limit f → place_in f ≤ length s
-place_inside s limit (Malformed at) h = let l = h.fault.inside in omega arith
-place_inside s limit (Indefinite at) h = let l = h.fault.inside in omega arith
-place_inside s limit (NotText at) h = let l = h.fault.inside in omega arith
-place_inside s limit (TooDeep at) h = let l = h.fault.inside in omega arith
-place_inside s limit TooLong h = omega arith
-place_inside s limit OutOfMemory h = omega arith
+pub place_below : (limit : ℕ) (f : ItemFault) → place_in f ≤ taken_at limit f
+place_below limit (Malformed at) = omega arith
+place_below limit (NotText at) = omega arith
+place_below limit (TooDeep at) = omega arith
+place_below limit TooLong = omega arith
+place_below limit OutOfMemory = omega arith
 
 -- all but the first so many
 abbrev pub later : ℕ → List ℕ → List ℕ
@@ -126,17 +127,55 @@ pub rest_read : (reader : ItemReader) (rest : List ℕ) (n : ℕ) (r : Result (O
 rest_read reader rest n r bytes o answers =
     sure_read (take n rest) (later n rest) (reader_limit reader) r (subst AllBytes (sym (parted n rest)) bytes) (∥∥₁_map o (λ x. answers (take n rest) x))
 
-pub rest_whole : (limit : ℕ) (rest : List ℕ) (n used : ℕ) → n ≤ length rest → AnswersRead (take n rest) (later n rest) limit (Ok (Some used)) → (item : DataItem) × IsWhole rest limit item (n + used)
+pub rest_whole : (limit : ℕ) (rest : List ℕ) (n used : ℕ) → n ≤ length rest → AnswersRead (take n rest) (later n rest) limit (Ok (Some used)) → AnswersRest n rest limit (Ok (Some (n + used)))
 rest_whole limit rest n used l h =
-    (h.1.0, subst (λ x. IsWhole x limit h.1.0 (n + used)) (parted n rest) (subst (λ k. IsWhole (take n rest ++ later n rest) limit h.1.0 (k + used)) (length-take-le n rest l) h.1.1))
+    (omega arith, (h.1.0, subst (λ x. IsWhole x limit h.1.0 (n + used)) (parted n rest) (subst (λ k. IsWhole (take n rest ++ later n rest) limit h.1.0 (k + used)) (length-take-le n rest l) h.1.1)))
 
 pub rest_waits : (limit : ℕ) (rest : List ℕ) (n : ℕ) → AnswersRead (take n rest) (later n rest) limit (Ok None) → IsPartial rest limit
 rest_waits limit rest n h = subst (λ x. IsPartial x limit) (parted n rest) h
 
-pub rest_faulted : (limit : ℕ) (rest : List ℕ) (n : ℕ) (f : ItemFault) → AnswersRead (take n rest) (later n rest) limit (Err f) → EndsWith rest limit f × (place_in f ≤ length rest)
-rest_faulted limit rest n f h =
-    let k : EndsWith rest limit f = subst (λ x. EndsWith x limit f) (parted n rest) h in
-    (k, place_inside rest limit f k)
+pub rest_faulted : (limit : ℕ) (rest : List ℕ) (n : ℕ) (f : ItemFault) → AnswersRead (take n rest) (later n rest) limit (Err f) → MeetsFault (take n rest) rest limit f
+rest_faulted limit rest n f h = subst (λ x. MeetsFault (take n rest) x limit f) (parted n rest) h
+
+-- so many steps were taken
+pub rest_steps : (reader : ItemReader) (rest : List ℕ) (n before after : ℕ) (r : Result (Option ℕ) ItemFault) → n ≤ length rest → ∥ IsOpen reader (take n rest) ∥₁
+    → ((b : List ℕ) → IsOpen reader b → after ≡ before + taken_more (length b) (later n rest) (reader_limit reader) r) → after ≡ before + taken_more n (later n rest) (reader_limit reader) r
+rest_steps reader rest n before after r l o steps =
+    subst (λ k. after ≡ before + taken_more k (later n rest) (reader_limit reader) r) (length-take-le n rest l) (∥∥₁_elim o (ℕ_set _ _) (λ x. steps (take n rest) x))
+
+-- ---- where the bytes are known to be a whole item
+
+at_true : (reader : ItemReader) (full : Bool) (s : List ℕ) → full ≡ true → ∥ IsAt full reader s ∥₁ → ∥ IsAt true reader s ∥₁
+at_true reader full s e h = subst (λ b. ∥ IsAt b reader s ∥₁) e h
+
+pub at_false : (reader : ItemReader) (full : Bool) (s : List ℕ) → full ≡ false → ∥ IsAt full reader s ∥₁ → ∥ IsOpen reader s ∥₁
+at_false reader full s e h = subst (λ b. ∥ IsAt b reader s ∥₁) e h
+
+-- a whole item of all these bytes begins the rest
+begins_rest : (limit : ℕ) (rest : List ℕ) (n : ℕ) (item : DataItem) → n ≤ length rest → IsWhole (take n rest) limit item (length (take n rest)) → IsWhole rest limit item n
+begins_rest limit rest n item l w =
+    subst (λ x. IsWhole x limit item n) (take-append-drop n rest) (subst (λ k. IsWhole (take n rest ++ drop n rest) limit item k) (length-take-le n rest l) (whole_stays (take n rest) (drop n rest) limit (length (take n rest)) item w))
+
+pub known_whole : (reader : ItemReader) (full : Bool) (rest : List ℕ) (n : ℕ) → full ≡ true → n ≤ length rest → AllBytes rest → ∥ IsAt full reader (take n rest) ∥₁ → AnswersRest n rest (reader_limit reader) (Ok (Some n))
+known_whole reader full rest n e l bytes h =
+    (omega arith, sure_whole rest (reader_limit reader) n bytes (∥∥₁_map (at_true reader full (take n rest) e h) (λ x. (x.1.0, begins_rest (reader_limit reader) rest n x.1.0 l x.1.1))))
+
+pub known_open : (reader : ItemReader) (full : Bool) (s : List ℕ) → full ≡ true → ∥ IsAt full reader s ∥₁ → ∥ IsOpen reader [] ∥₁
+known_open reader full s e h = ∥∥₁_map (at_true reader full s e h) (λ x. x.0)
+
+-- the first so many bytes are a whole item
+whole_front : (limit : ℕ) (rest : List ℕ) (used : ℕ) (item : DataItem) → IsWhole rest limit item used → IsWhole (take used rest) limit item (length (take used rest))
+whole_front limit rest used item w =
+    let inside = w.inside in
+    let within = w.within in
+    record {
+      encodes = subst (λ x. Encodes item x) (sym (take_all (length (take used rest)) (take used rest) (omega arith))) w.encodes;
+      inside = omega arith;
+      within = omega (arith, length-take-le used rest inside);
+    }
+
+pub at_whole : (new : ItemReader) (limit : ℕ) (rest : List ℕ) (used : ℕ) (item : DataItem) → reader_limit new ≡ limit → IsWhole rest limit item used → ∥ IsOpen new [] ∥₁ → ∥ IsAt true new (take used rest) ∥₁
+at_whole new limit rest used item e w o = ∥∥₁_map o (λ x. (x, (item, subst (λ n. IsWhole (take used rest) n item (length (take used rest))) (sym e) (whole_front limit rest used item w))))
 
 -- and how it stands afterwards
 pub rest_then : (reader new : ItemReader) (rest : List ℕ) (n : ℕ) (r : Result (Option ℕ) ItemFault) → ∥ IsOpen reader (take n rest) ∥₁
@@ -145,17 +184,22 @@ rest_then reader new rest n r o then = subst (λ x. ∥ IsOpenAfter new x r ∥�
 
 -- ---- in a cutter without a fault
 
-pub opened : (fault : Option CutFault) (reader : ItemReader) (limit : ℕ) (s : List ℕ) → fault ≡ None → ∥ IsReadTo fault reader limit s ∥₁ → ∥ IsOpen reader s ∥₁
-opened fault reader limit s none read =
-    let h : ∥ (IsOpen reader s × (reader_limit reader ≡ limit)) ∥₁ = subst (λ f. ∥ IsReadTo f reader limit s ∥₁) none read in
+pub opened : (fault : Option CutFault) (full : Bool) (reader : ItemReader) (limit : ℕ) (s : List ℕ) → fault ≡ None → ∥ IsReadTo fault full reader limit s ∥₁ → ∥ IsAt full reader s ∥₁
+opened fault full reader limit s none read =
+    let h : ∥ (IsAt full reader s × (reader_limit reader ≡ limit)) ∥₁ = subst (λ f. ∥ IsReadTo f full reader limit s ∥₁) none read in
     ∥∥₁_map h (λ x. x.0)
 
-pub limited : (fault : Option CutFault) (reader : ItemReader) (limit : ℕ) (s : List ℕ) → fault ≡ None → ∥ IsReadTo fault reader limit s ∥₁ → reader_limit reader ≡ limit
-limited fault reader limit s none read =
-    let h : ∥ (IsOpen reader s × (reader_limit reader ≡ limit)) ∥₁ = subst (λ f. ∥ IsReadTo f reader limit s ∥₁) none read in
+pub limited : (fault : Option CutFault) (full : Bool) (reader : ItemReader) (limit : ℕ) (s : List ℕ) → fault ≡ None → ∥ IsReadTo fault full reader limit s ∥₁ → reader_limit reader ≡ limit
+limited fault full reader limit s none read =
+    let h : ∥ (IsAt full reader s × (reader_limit reader ≡ limit)) ∥₁ = subst (λ f. ∥ IsReadTo f full reader limit s ∥₁) none read in
     ∥∥₁_elim h (ℕ_set _ _) (λ x. x.1)
 
-pub read_to : (fault : Option CutFault) (new : ItemReader) (limit : ℕ) (s : List ℕ) → fault ≡ None → ∥ IsOpen new s ∥₁ → reader_limit new ≡ limit → ∥ IsReadTo fault new limit s ∥₁
-read_to fault new limit s none o same =
-    let k : ∥ (IsOpen new s × (reader_limit new ≡ limit)) ∥₁ = ∥∥₁_map o (λ x. (x, same)) in
-    subst (λ f. ∥ IsReadTo f new limit s ∥₁) (sym none) k
+pub read_to : (fault : Option CutFault) (full : Bool) (new : ItemReader) (limit : ℕ) (s : List ℕ) → fault ≡ None → ∥ IsAt full new s ∥₁ → reader_limit new ≡ limit → ∥ IsReadTo fault full new limit s ∥₁
+read_to fault full new limit s none o same =
+    let k : ∥ (IsAt full new s × (reader_limit new ≡ limit)) ∥₁ = ∥∥₁_map o (λ x. (x, same)) in
+    subst (λ f. ∥ IsReadTo f full new limit s ∥₁) (sym none) k
+
+-- behind a whole item
+pub read_past : (fault : Option CutFault) (full : Bool) (reader : ItemReader) (limit : ℕ) (s : List ℕ) → fault ≡ None → full ≡ true → ∥ IsReadTo fault full reader limit s ∥₁ → ∥ IsReadTo fault false reader limit [] ∥₁
+read_past fault full reader limit s none e read =
+    read_to fault false reader limit [] none (known_open reader full s e (opened fault full reader limit s none read)) (limited fault full reader limit s none read)

@@ -1,10 +1,10 @@
 -- What a cutter stands for, and what it answers.
-use Rattle.std.specs.Prelude.{◌≡◌, ℕ, List, [], ◌∷◌, ◌++◌, Option, Some, None, Result, Ok, Err, length, ⊤}
+use Rattle.std.specs.Prelude.{◌≡◌, ℕ, ◌+◌, List, [], ◌∷◌, ◌++◌, Option, Some, None, Result, Ok, Err, length}
 use Rattle.grasp_cbor.specs.DataItem.{DataItem}
 use Rattle.grasp_cbor.specs.Ending.{IsWhole}
 use Rattle.grasp_types.specs.declared.message.Message.{Message}
 use Rattle.grasp_wire.specs.declared.fault.CutFault.{CutFault}
-use Rattle.grasp_wire.specs.declared.fault.CutFault.TheVariants.{Malformed, Indefinite, NotText, TooDeep, TooLong, NotMessage, OutOfMemory}
+use Rattle.grasp_wire.specs.declared.fault.CutFault.TheVariants.{Malformed, NotText, TooDeep, TooLong, NotMessage, OutOfMemory}
 use Rattle.grasp_wire.specs.Wire.{AreWireForms}
 use Rattle.grasp_wire.specs.Stream.{Divides, RestKind, waiting}
 use Rattle.grasp_wire.specs.Reads.{fault_of}
@@ -27,7 +27,6 @@ after_feed past piece = record past { fed = past.fed ++ piece }
 -- the fault lasts: every fault but want of memory does
 abbrev pub lasting : CutFault → Option CutFault
 lasting (Malformed at) = Some (Malformed at)
-lasting (Indefinite at) = Some (Indefinite at)
 lasting (NotText at) = Some (NotText at)
 lasting (TooDeep at) = Some (TooDeep at)
 lasting (TooLong at) = Some (TooLong at)
@@ -89,6 +88,35 @@ abbrev pub AnswersNext : ℕ → Past → Option CutFault → Result (Option Mes
 AnswersNext limit past None result = Finds limit past result
 AnswersNext limit past (Some fault) result = result ≡ Err fault
 
+-- so many bytes of the stream are those up to the end of the item that stands behind the messages that were given
+pub record TakesItem (limit : ℕ) (past : Past) (taken : ℕ) : Type 0 where
+  pub front : List ℕ
+  pub rest : List ℕ
+  pub item : DataItem
+  pub used : ℕ
+  pub forms : AreWireForms past.given front limit
+  pub parts : past.fed ≡ front ++ rest
+  pub whole : IsWhole rest limit item used
+  pub taken_is : taken ≡ length front + used
+
+-- how many bytes of the stream were taken for an answer: all that were fed while its rest is waiting; those up to the end of an
+-- item, whether it is a message, none, or not yet known to be one for want of memory; as many as a message may have, of one that
+-- is too long; or all up to and with the one that has the fault
+abbrev pub TakesTo : ℕ → Past → Result (Option Message) CutFault → ℕ → Type 0
+TakesTo limit past (Ok None) taken = taken ≡ length past.fed
+TakesTo limit past (Ok (Some message)) taken = TakesItem limit past taken
+TakesTo limit past (Err OutOfMemory) taken = TakesItem limit past taken
+TakesTo limit past (Err (NotMessage at)) taken = TakesItem limit past taken
+TakesTo limit past (Err (TooLong at)) taken = taken ≡ at + limit
+TakesTo limit past (Err (Malformed at)) taken = taken ≡ at + 1
+TakesTo limit past (Err (NotText at)) taken = taken ≡ at + 1
+TakesTo limit past (Err (TooDeep at)) taken = taken ≡ at + 1
+
+-- and none after a fault that lasts
+abbrev pub Takes : ℕ → Past → Option CutFault → Result (Option Message) CutFault → ℕ → ℕ → Type 0
+Takes limit past None result before taken = TakesTo limit past result taken
+Takes limit past (Some fault) result before taken = taken ≡ before
+
 -- so many bytes stand behind the messages that were given
 pub record HasRest (limit : ℕ) (past : Past) (count : ℕ) : Type 0 where
   pub front : List ℕ
@@ -97,7 +125,7 @@ pub record HasRest (limit : ℕ) (past : Past) (count : ℕ) : Type 0 where
   pub parts : past.fed ≡ front ++ rest
   pub count_is : count ≡ length rest
 
--- the number counts the bytes of the rest; after a fault that lasts nothing is said of it
+-- the number counts the bytes of the rest; it is none after a fault that lasts
 abbrev pub CountsRest : ℕ → Past → Option CutFault → ℕ → Type 0
 CountsRest limit past None count = HasRest limit past count
-CountsRest limit past (Some fault) count = ⊤
+CountsRest limit past (Some fault) count = count ≡ 0

@@ -1,18 +1,20 @@
 -- Laws on messages and streams.
-use Rattle.std.specs.Prelude.{◌≡◌, ◌≢◌, ◌<◌, ◌≤◌, ◌^◌, ◌⊎◌, ℕ, List, ◌++◌, All, IsSome, Result, Ok, Err, length, take}
+use Rattle.std.specs.Prelude.{◌≡◌, ◌≢◌, ◌-◌, ◌<◌, ◌≤◌, ◌^◌, ◌⊎◌, ℕ, List, ◌∷◌, ◌++◌, All, Option, Some, None, IsSome, Result, Ok, Err, length, take}
 use Rattle.std.specs.List.{flat_map}
 use Rattle.grasp_cbor.specs.Bytes.{AllBytes}
 use Rattle.grasp_cbor.specs.Shortest.{shortest}
 use Rattle.grasp_types.specs.Message.{item_of, IsMessage}
 use Rattle.grasp_types.specs.declared.message.Message.{Message}
 use Rattle.grasp_wire.specs.declared.cutter.Cutter.{Cutter}
+use Rattle.grasp_wire.specs.declared.fault.CutFault.{CutFault}
 use Rattle.grasp_wire.specs.declared.fault.CutFault.TheVariants.{OutOfMemory}
 use Rattle.grasp_wire.specs.declared.fault.OneFault.{OneFault}
 use Rattle.grasp_wire.specs.declared.fault.OneFault.TheVariants.{Cut}
 use Rattle.grasp_wire.specs.Wire.{IsWireForm}
-use Rattle.grasp_wire.specs.Cutter.{Past, Waits}
+use Rattle.grasp_wire.specs.Cutter.{Past, Waits, AnswersNext}
 use Rattle.grasp_wire.specs.Stands.{Stands, cut_limit}
 use Rattle.grasp_wire.specs.One.{AnswersOne}
+use Rattle.grasp_wire.specs.Reads.{fault_of}
 use Rattle.grasp_wire.specs.Stream.{Splits, Divides, RestKind, waiting, IsRest, BeginsNoMessage}
 
 -- bytes are the wire form of at most one message
@@ -21,7 +23,7 @@ OneMessageForBytes = (a b : Message) (bytes : List ℕ) (limit : ℕ) → IsWire
 
 -- a stream divides in some way
 abbrev pub SomeDivision : Type 0
-SomeDivision = (stream : List ℕ) (limit : ℕ) → AllBytes stream → (messages : List Message) × (rest : List ℕ) × (kind : RestKind) × Divides stream limit messages rest kind
+SomeDivision = (stream : List ℕ) (limit : ℕ) → limit < 2 ^ 64 → AllBytes stream → (messages : List Message) × (rest : List ℕ) × (kind : RestKind) × Divides stream limit messages rest kind
 
 -- and in one way alone
 abbrev pub OneDivision : Type 0
@@ -86,3 +88,30 @@ AllGivenAtNone = (limit : ℕ) (past : Past) (messages : List Message) (rest : L
 abbrev pub AllGivenAtFault : Type 0
 AllGivenAtFault = (cutter : Cutter) (past : Past) (messages : List Message) (rest : List ℕ) → Stands cutter past → IsSome past.fault → Splits past.fed (cut_limit cutter) messages rest
     → messages ≡ past.given
+
+-- what an answer says of the division of what was fed: it is the next message, or all were given and the rest is waiting, or
+-- all were given and the rest has this fault; want of memory says nothing
+abbrev pub TellsNext : Past → List Message → List ℕ → RestKind → Result (Option Message) CutFault → Type 0
+TellsNext past messages rest kind (Ok (Some message)) = (others : List Message) × (messages ≡ past.given ++ message ∷ others)
+TellsNext past messages rest kind (Ok None) = (messages ≡ past.given) × (kind ≡ waiting)
+TellsNext past messages rest kind (Err OutOfMemory) = Unit {0}
+TellsNext past messages rest kind (Err fault) = (messages ≡ past.given) × (fault_of (length past.fed - length rest) kind ≡ Some fault)
+
+-- each answer of a cutter says so
+abbrev pub AnswersAreDivided : Type 0
+AnswersAreDivided = (cutter : Cutter) (past : Past) (result : Result (Option Message) CutFault) (messages : List Message) (rest : List ℕ) (kind : RestKind) → Stands cutter past
+    → AnswersNext (cut_limit cutter) past past.fault result → Divides past.fed (cut_limit cutter) messages rest kind → TellsNext past messages rest kind result
+
+-- a cutter has one answer, but for want of memory
+abbrev pub OneNextAnswer : Type 0
+OneNextAnswer = (cutter : Cutter) (past : Past) (a b : Result (Option Message) CutFault) → cut_limit cutter < 2 ^ 64 → Stands cutter past → AnswersNext (cut_limit cutter) past past.fault a
+    → AnswersNext (cut_limit cutter) past past.fault b → (a ≡ b) ⊎ ((a ≡ Err OutOfMemory) ⊎ (b ≡ Err OutOfMemory))
+
+-- a datagram has an answer that isn't want of memory
+abbrev pub SomeAnswer : Type 0
+SomeAnswer = (bytes : List ℕ) (limit : ℕ) → limit < 2 ^ 64 → AllBytes bytes → (answer : Result Message OneFault) × AnswersOne bytes limit answer × (answer ≢ Err (Cut OutOfMemory))
+
+-- and one alone
+abbrev pub OneAnswer : Type 0
+OneAnswer = (bytes : List ℕ) (limit : ℕ) (a b : Result Message OneFault) → AllBytes bytes → AnswersOne bytes limit a → AnswersOne bytes limit b
+    → (a ≡ b) ⊎ ((a ≡ Err (Cut OutOfMemory)) ⊎ (b ≡ Err (Cut OutOfMemory)))

@@ -1,7 +1,9 @@
+pub mod Chunks
 pub mod Cutter
 pub mod Laws
 pub mod One
 pub mod Parts
+pub mod Put
 pub mod ReadMessages
 pub mod ReadOn
 pub mod ReadParts
@@ -9,4 +11,5 @@ pub mod Reading
 pub mod Reads
 pub mod Stands
 pub mod Stream
+pub mod Whole
 pub mod Wire

@@ -1,4 +1,4 @@
--- Which message an item is (RFC 8990, section 2.8).
+-- Inside: how a message is read from an item (RFC 8990, section 2.8). Only private calls cite it.
 use Rattle.std.specs.Prelude.{◌==◌, ℕ, Option, Some, None, List, length, if◌then◌else◌}
 use Rattle.std.specs.List.{slice_range}
 use Rattle.grasp_cbor.specs.DataItem.{DataItem}

@@ -1,7 +1,5 @@
--- What is read from an item, or from a place of an array, where it is there.
---
--- Private functions state their results by these definitions. That they read exactly the items of messages is what
--- `message_of_item` ensures, by the layout of messages alone.
+-- Inside: what is read from an item, or from a place of an array, where it is there. Only private calls cite it; that they
+-- read exactly the items of messages is what `message_of_item` ensures, by the layout of messages alone.
 use Rattle.std.specs.Prelude.{◌==◌, ◌+◌, ℕ, Bool, true, false, Option, Some, None, List, [], ◌∷◌, length, slice_get, nat_lt, if◌then◌else◌}
 use Rattle.grasp_cbor.specs.DataItem.{DataItem, unsigned, text_string, array, simple_value, items_in}
 

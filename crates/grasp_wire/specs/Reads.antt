@@ -3,13 +3,12 @@ use Rattle.std.specs.Prelude.{ℕ, ◌+◌, Option, Some, None}
 use Rattle.grasp_cbor.specs.declared.walker.FaultName.{FaultName}
 use Rattle.grasp_cbor.specs.declared.walker.FaultName.TheVariants as name
 use Rattle.grasp_wire.specs.declared.fault.CutFault.{CutFault}
-use Rattle.grasp_wire.specs.declared.fault.CutFault.TheVariants.{Malformed, Indefinite, NotText, TooDeep, TooLong, NotMessage}
+use Rattle.grasp_wire.specs.declared.fault.CutFault.TheVariants.{Malformed, NotText, TooDeep, TooLong, NotMessage}
 use Rattle.grasp_wire.specs.Stream.{RestKind, waiting, too_long, not_message, faulty}
 
 -- the fault of this name at this place
 abbrev pub named : FaultName → ℕ → CutFault
 named name.Malformed at = Malformed at
-named name.Indefinite at = Indefinite at
 named name.NotText at = NotText at
 named name.TooDeep at = TooDeep at
 

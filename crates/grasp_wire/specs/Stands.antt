@@ -1,11 +1,11 @@
 -- What the code keeps of a stream that is cut.
-use Rattle.std.specs.Prelude.{◌≡◌, ℕ, ◌-◌, List, ◌++◌, Option, Some, None, Result, Ok, Err, length, take, drop}
+use Rattle.std.specs.Prelude.{◌≡◌, ℕ, ◌+◌, ◌-◌, List, ◌++◌, Option, Some, None, Result, Ok, Err, length, take, drop}
 use Rattle.grasp_cbor.specs.Bytes.{AllBytes}
 use Rattle.grasp_cbor.specs.DataItem.{DataItem}
 use Rattle.grasp_cbor.specs.Ending.{IsWhole, IsPartial}
 use Rattle.grasp_types.specs.declared.message.Message.{Message}
 use Rattle.grasp_wire.specs.declared.fault.CutFault.{CutFault}
-use Rattle.grasp_wire.specs.declared.fault.CutFault.TheVariants.{OutOfMemory}
+use Rattle.grasp_wire.specs.declared.fault.CutFault.TheVariants.{Malformed, NotText, TooDeep, TooLong, NotMessage, OutOfMemory}
 use Rattle.grasp_wire.specs.declared.cutter.Cutter.{Cutter}
 use Rattle.grasp_wire.specs.Wire.{IsWireForm, AreWireForms}
 use Rattle.grasp_wire.specs.Stream.{RestKind, IsRest}
@@ -23,6 +23,23 @@ fed_count c = c.fed
 -- the bytes that are kept
 abbrev pub rest_of : Cutter → List ℕ
 rest_of c = drop c.start c.held.items
+
+-- how many of them there are
+abbrev pub waiting_count : Cutter → ℕ
+waiting_count c = length (rest_of c)
+
+-- how many bytes of the stream were taken
+abbrev pub taken_count : Cutter → ℕ
+taken_count c = c.taken
+
+-- how many bytes of the stream were taken where this fault was met
+abbrev pub taken_with : ℕ → CutFault → ℕ
+taken_with limit (Malformed at) = at + 1
+taken_with limit (NotText at) = at + 1
+taken_with limit (TooDeep at) = at + 1
+taken_with limit (TooLong at) = at + limit
+taken_with limit (NotMessage at) = at
+taken_with limit OutOfMemory = 0
 
 -- how many bytes stand before these
 abbrev pub before_of : Cutter → ℕ
@@ -62,13 +79,21 @@ pub record IsFaultOf (rest : List ℕ) (limit before : ℕ) (fault : CutFault) :
 abbrev pub AnswersFound : List ℕ → ℕ → ℕ → Result (Option ℕ) CutFault → Type 0
 AnswersFound rest limit before (Ok (Some used)) = (item : DataItem) × IsWhole rest limit item used
 AnswersFound rest limit before (Ok None) = IsPartial rest limit
+AnswersFound rest limit before (Err (NotMessage at)) = ⊥
 AnswersFound rest limit before (Err fault) = IsFaultOf rest limit before fault × (lasting fault ≡ Some fault)
+
+-- how many bytes of the stream were taken then
+abbrev pub TakesFound : ℕ → ℕ → ℕ → Result (Option ℕ) CutFault → ℕ → Type 0
+TakesFound limit before fed (Ok (Some used)) taken = taken ≡ before + used
+TakesFound limit before fed (Ok None) taken = taken ≡ fed
+TakesFound limit before fed (Err fault) taken = taken ≡ taken_with limit fault
 
 -- what an item of so many bytes is: a message, or none
 abbrev pub AnswersItem : List ℕ → ℕ → ℕ → ℕ → Result Message CutFault → Type 0
 AnswersItem rest limit before used (Ok message) = IsWireForm message (take used rest) limit
 AnswersItem rest limit before used (Err OutOfMemory) = Unit {0}
-AnswersItem rest limit before used (Err fault) = IsFaultOf rest limit before fault × (lasting fault ≡ Some fault)
+AnswersItem rest limit before used (Err (NotMessage at)) = IsFaultOf rest limit before (NotMessage at)
+AnswersItem rest limit before used (Err fault) = ⊥
 
 -- the fault that lasts after an answer
 abbrev pub fault_in : {A : Type 0} → Result A CutFault → Option CutFault

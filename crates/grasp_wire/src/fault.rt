@@ -5,11 +5,10 @@
 /// `TooLong` and `NotMessage`, that of the item's first byte.
 #[derive(Clone, Copy, Debug, PartialEq, Eq)]
 pub enum CutFault {
-    /// An initial byte that is reserved, that has an indefinite length where its type has none, or that is a break (RFC
-    /// 8949, section 3), or a simple value below 32 in two bytes.
+    /// An initial byte that is reserved or has an indefinite length in a type that has none; a break where nothing of
+    /// indefinite length is innermost, or where a key waits for its value; in a string of indefinite length what is
+    /// neither a chunk of its kind nor a break (RFC 8949, section 3); a simple value below 32 in two bytes.
     Malformed { at: u64 },
-    /// An initial byte of indefinite length (RFC 8949, section 3.2), which isn't accepted.
-    Indefinite { at: u64 },
     /// A byte of a text string that no UTF-8 of its length has there.
     NotText { at: u64 },
     /// An array, a map or a tag inside 16 of these.

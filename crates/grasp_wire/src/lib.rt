@@ -2,8 +2,6 @@
 #![tactic(auto)]
 
 mod cutter;
-#[cfg(test)]
-mod cutter_tests;
 mod encoding;
 mod fault;
 mod laws;
@@ -12,21 +10,20 @@ mod one;
 mod read_on;
 mod reading;
 #[cfg(test)]
-mod reading_tests;
-mod room_lists;
-mod room_message;
-mod room_parts;
-#[cfg(test)]
 mod tests;
-mod write_lists;
-mod write_message;
-mod write_parts;
+mod threads;
+mod writing;
 
 pub use cutter::Cutter;
-pub use encoding::{encode, fits, shortest_is_wire_form};
+pub use encoding::{
+    encode, encoded, end_fits, fits, flood_fits, invalid_fits, shortest_is_wire_form, step_fits,
+};
 pub use fault::{CutFault, EncodeFault, OneFault};
 pub use laws::{
-    divisions_grow, encoded_come_first, forms_are_decoded, fronts_divide, given_come_first,
-    one_division_of_a_stream, one_kind_of_rest, one_message_for_bytes,
+    answers_are_divided, any_pieces_cut_alike, cutters_give_whole, divisions_grow,
+    encoded_come_first, forms_are_decoded, fronts_divide, given_come_first,
+    one_answer_for_a_datagram, one_division_of_a_stream, one_kind_of_rest, one_message_for_bytes,
+    one_next_answer,
 };
 pub use one::decode_one;
+pub use threads::cutters_may_cross;

@@ -5,12 +5,13 @@ use Rattle.grasp_types.specs.declared.session.Handle.{Handle}
 use Rattle.grasp_types.specs.declared.session.Kind.{Kind}
 use Rattle.grasp_types.specs.declared.session.Kind.TheVariants.{Negotiation, Synchronization}
 use Rattle.grasp_session.specs.declared.answer.SessionRefused.{SessionRefused}
-use Rattle.grasp_session.specs.declared.answer.SessionRefused.TheVariants.{SessionsFull}
 use Rattle.grasp_session.specs.declared.begin.Begin.{Begin}
 use Rattle.grasp_session.specs.Transcript.{opening}
-use Rattle.grasp_session.specs.Sessions.{Sessions, no_sessions, role_of, begun_state, MayStart, Starts, after_start}
+use Rattle.grasp_session.specs.Sessions.{Sessions, no_sessions, role_of, begun_state, start_reply, after_start}
+use Rattle.grasp_session.specs.Says.{Starts}
 use Rattle.grasp_session.specs.Stands as table
 use Rattle.grasp_session.proofs.Means.{state_same}
+use Rattle.grasp_session.proofs.Says.{started}
 use Rattle.grasp_session.specs.declared.table.Table.{Table}
 use Rattle.grasp_world.specs.declared.seat.Seat.{Seat}
 use Rattle.grasp_world.specs.Seat.{Stands, empty_seat, owner_of, state_of, is_gone, HasSession}
@@ -48,20 +49,18 @@ begun_has now b h s f g = record {
 }
 
 pub begins : (seat : Seat) (t : Table) (now : ℕ) (b : Begin) (h : Handle) → Stands seat empty_seat → b.stream ≡ 1 → b.owner ≡ owner_of b.taken
-    → ((z : Sessions) → table.Stands seat.table z → MayStart z (Ok h) × table.Stands t (after_start z now b (Ok h)))
+    → ((z : Sessions) → table.Stands seat.table z → (Ok h ≡ start_reply z) × table.Stands t (after_start z now b (Ok h)))
     → Stands (record { alloc = seat.alloc; table = t; handle = Some h }) (begun_at now b)
 begins seat t now b h s f g starts =
     let st : table.Stands seat.table no_sessions = subst (table.Stands seat.table) s.holds.none s.stands in
     let q = starts no_sessions st in
-    record { sessions = after_start no_sessions now b (Ok h); stands = q.1; holds = begun_has now b h q.0 f g }
+    record { sessions = after_start no_sessions now b (Ok h); stands = q.1; holds = begun_has now b h (started no_sessions h (sym q.0)) f g }
 
 -- it is never full
 pub has_room : (seat : Seat) (t : Table) (now : ℕ) (b : Begin) (refused : SessionRefused) (P : Type 0) → Stands seat empty_seat
-    → ((z : Sessions) → table.Stands seat.table z → MayStart z (Err refused) × table.Stands t (after_start z now b (Err refused))) → P
-has_room seat t now b refused P s starts = by_refusal refused (starts no_sessions st).0 where
-  st : table.Stands seat.table no_sessions
-  st = subst (table.Stands seat.table) s.holds.none s.stands
-
-  by_refusal : (refused : SessionRefused) → MayStart no_sessions (Err refused) → P
-  by_refusal SessionsFull e = absurd (false≢true e)
-  by_refusal refused e = absurd e
+    → ((z : Sessions) → table.Stands seat.table z → (Err refused ≡ start_reply z) × table.Stands t (after_start z now b (Err refused))) → P
+has_room seat t now b refused P s starts =
+    let st : table.Stands seat.table no_sessions = subst (table.Stands seat.table) s.holds.none s.stands in
+    absurd (not_refused refused (starts no_sessions st).0) where
+      not_refused : (refused : SessionRefused) → Err refused ≡ start_reply no_sessions → ⊥
+      not_refused refused e = cc

@@ -5,18 +5,18 @@ use Rattle.std.proofs.lemmas.List.{reverse-append, reverse-reverse}
 use Rattle.grasp_types.specs.declared.message.Message.{Message}
 use Rattle.grasp_session.specs.Messages.{Side, Near, Far, other}
 use Rattle.grasp_session.specs.Conversation.{Said, spoken}
-use Rattle.grasp_session.specs.Talk.{Stage, Absent, Party, Talk, party, Move, run}
-use Rattle.grasp_session.specs.Laws.{HasTaken, IsOpened}
-use Rattle.grasp_session.proofs.Inboxes.{run_taken}
+use Rattle.grasp_session.specs.Talk.{Stage, Absent, Party, Talk, party, Move, run, Reached}
+use Rattle.grasp_session.specs.Laws.{IsOpened}
+use Rattle.grasp_session.proofs.Inboxes.{absent_took}
+use Rattle.grasp_session.proofs.Reaching.{in_order}
 use Rattle.grasp_session.proofs.Firsts.{first_is_request}
 use Rattle.grasp_wire.specs.Laws.{encoded}
-use Rattle.grasp_world.specs.World.{EndState, WorldState, end_at, with_delivered, sent_to, whole_in, hearing}
+use Rattle.grasp_wire.specs.Whole.{whole_in}
+use Rattle.grasp_world.specs.World.{EndState, WorldState, end_at, with_delivered, sent_to, hearing}
 use Rattle.grasp_world.specs.Steps.{delivered_to}
 use Rattle.grasp_world.specs.Seat.{is_begun, is_open}
 use Rattle.grasp_world.specs.Node.{NodeState, node_at, at_end, heard_all, fresh_in, after_delivery}
-use Rattle.grasp_world.specs.Stands.{Ran}
 use Rattle.grasp_world.proofs.Prefixes.{Parts, parts}
-use Rattle.grasp_world.proofs.Untaken.{absent_untaken}
 use Rattle.grasp_world.proofs.TalkHearing.{Keeps, hearing_keeps, Takes, hearing_takes, closed_hears_none}
 
 -- the talk after so many bytes were delivered
@@ -29,18 +29,12 @@ node_of side e p said = record { end = e; stage = p.stage; taken = p.taken; mine
 
 -- ---- what was taken, and what is left
 
-theirs_split : (t : Talk) (side : Side) → Ran t → sent_to side t ≡ reverse (party t side).taken ++ (party t side).inbox
-theirs_split t side r =
-    let h : HasTaken side t.said (party t side) = subst (λ (x : Talk). HasTaken side x.said (party x side)) (sym r.ran) (run_taken r.moves side) in
-    ap reverse h.given ∙ (reverse-append (reverse (party t side).inbox) (party t side).taken ∙ ap (λ (l : List Message). reverse (party t side).taken ++ l) (reverse-reverse (party t side).inbox))
-
 -- near's request comes first
-far_opened : (t : Talk) → Ran t → t.far.stage ≡ Absent → IsOpened t.far.inbox
+far_opened : (t : Talk) → Reached t → t.far.stage ≡ Absent → IsOpened t.far.inbox
 far_opened t r e =
-    let first : IsOpened (sent_to Far t) = subst (λ (x : Talk). IsOpened (sent_to Far x)) (sym r.ran) (first_is_request r.moves) in
-    subst IsOpened (theirs_split t Far r ∙ ap (λ (l : List Message). reverse l ++ t.far.inbox) (absent_untaken t r e)) first
+    subst IsOpened (in_order t r Far ∙ ap (λ (l : List Message). reverse l ++ t.far.inbox) (absent_took t r Far e)) (first_is_request t r)
 
-opened_at : (t : Talk) (side : Side) → Ran t → side ≡ Far → (party t side).stage ≡ Absent → IsOpened (party t side).inbox
+opened_at : (t : Talk) (side : Side) → Reached t → side ≡ Far → (party t side).stage ≡ Absent → IsOpened (party t side).inbox
 opened_at t Near r e f = absurd (cc)
 opened_at t Far r e f = far_opened t r f
 
@@ -50,7 +44,7 @@ begun_at t Far b e = absurd (cc)
 
 -- ---- an open end
 
-takes_fresh : (e : EndState) (t : Talk) (side : Side) (count : ℕ) → Ran t → (side ≡ Near → is_begun t.near.stage ≡ true) → is_open (party t side).stage ≡ true
+takes_fresh : (e : EndState) (t : Talk) (side : Side) (count : ℕ) → Reached t → (side ≡ Near → is_begun t.near.stage ≡ true) → is_open (party t side).stage ≡ true
     → Parts (sent_to side t) (party t side).taken (party t side).inbox count
     → Takes side e.reading (drop (length (party t side).taken) (whole_in count (sent_to side t))) t (heard_talk e t side count)
 takes_fresh e t side count r b o p =
@@ -76,7 +70,7 @@ same_node side e said heard p stage taken f g h =
     ap (node_of side e p) f ∙ (ap (λ (s : Stage). node_of side e (record { stage = s; inbox = p.inbox; taken = p.taken }) said) g
     ∙ ap (λ (l : List Message). node_of side e (record { stage = stage; inbox = p.inbox; taken = l }) said) h)
 
-open_here : (e : EndState) (t : Talk) (side : Side) (count : ℕ) → Ran t → (side ≡ Near → is_begun t.near.stage ≡ true) → is_open (party t side).stage ≡ true
+open_here : (e : EndState) (t : Talk) (side : Side) (count : ℕ) → Reached t → (side ≡ Near → is_begun t.near.stage ≡ true) → is_open (party t side).stage ≡ true
     → Parts (sent_to side t) (party t side).taken (party t side).inbox count
     → node_of side (with_delivered e count) (party (heard_talk e t side count) side) (heard_talk e t side count).said ≡ with_heard (node_of side e (party t side) t.said) count
 open_here e t side count r b o p =
@@ -87,18 +81,18 @@ open_here e t side count r b o p =
 
 -- ---- any end
 
-by_open : (e : EndState) (t : Talk) (side : Side) (count : ℕ) (b : Bool) → is_open (party t side).stage ≡ b → Ran t → (side ≡ Near → is_begun t.near.stage ≡ true) → e.delivered ≤ count
+by_open : (e : EndState) (t : Talk) (side : Side) (count : ℕ) (b : Bool) → is_open (party t side).stage ≡ b → Reached t → (side ≡ Near → is_begun t.near.stage ≡ true) → e.delivered ≤ count
     → (is_open (party t side).stage ≡ true → (party t side).taken ≡ reverse (whole_in e.delivered (sent_to side t)))
     → node_of side (with_delivered e count) (party (heard_talk e t side count) side) (heard_talk e t side count).said ≡ after_delivery (node_of side e (party t side) t.said) count
 by_open e t side count true o r b le k =
-    open_here e t side count r b o (parts (sent_to side t) (party t side).taken (party t side).inbox e.delivered count (theirs_split t side r) (k o) le)
+    open_here e t side count r b o (parts (sent_to side t) (party t side).taken (party t side).inbox e.delivered count (in_order t r side) (k o) le)
     ∙ sym (cond-true (is_open (party t side).stage) (with_heard (node_of side e (party t side) t.said) count) (at_end (node_of side e (party t side) t.said) (with_delivered e count)) o)
 by_open e t side count false o r b le k =
     let none = closed_hears_none side e.reading (length (whole_in count (sent_to side t)) - length (party t side).taken) (party t side).stage o in
     ap (λ (ms : List Move). node_of side (with_delivered e count) (party (run t ms) side) (run t ms).said) none
     ∙ sym (cond-false (is_open (party t side).stage) (with_heard (node_of side e (party t side) t.said) count) (at_end (node_of side e (party t side) t.said) (with_delivered e count)) o)
 
-pub delivered_here : (w : WorldState) (side : Side) (count : ℕ) → Ran w.talk → (side ≡ Near → is_begun w.talk.near.stage ≡ true)
+pub delivered_here : (w : WorldState) (side : Side) (count : ℕ) → Reached w.talk → (side ≡ Near → is_begun w.talk.near.stage ≡ true)
     → (end_at w side).delivered ≤ count → count ≤ length (encoded (sent_to side w.talk))
     → (is_open (party w.talk side).stage ≡ true → (party w.talk side).taken ≡ reverse (whole_in (end_at w side).delivered (sent_to side w.talk)))
     → node_at (delivered_to w side count) side ≡ after_delivery (node_at w side) count

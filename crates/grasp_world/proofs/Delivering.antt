@@ -18,15 +18,15 @@ use Rattle.grasp_wire.specs.Stream.{IsRest, Splits, waiting}
 use Rattle.grasp_wire.specs.Wire.{AreWireForms}
 use Rattle.grasp_wire.specs.declared.cutter.Cutter.{Cutter}
 use Rattle.grasp_wire.specs.declared.fault.CutFault.{CutFault}
-use Rattle.grasp_wire.specs.declared.fault.CutFault.TheVariants.{Malformed, Indefinite, NotText, TooDeep, TooLong, NotMessage, OutOfMemory}
+use Rattle.grasp_wire.specs.declared.fault.CutFault.TheVariants.{Malformed, NotText, TooDeep, TooLong, NotMessage, OutOfMemory}
 use Rattle.grasp_world.proofs.SeatHearing.{heard_all-more}
-use Rattle.grasp_world.proofs.Wholes.{whole_fronts, given_whole}
+use Rattle.grasp_wire.proofs.Wholes.{whole_fronts, given_whole}
 use Rattle.grasp_world.specs.Delivery.{IsFed}
 use Rattle.grasp_world.specs.Node.{heard_by, heard_all}
 use Rattle.grasp_world.specs.Seat.{SeatState, at_stage}
 use Rattle.grasp_world.specs.Seat as seat
 use Rattle.grasp_world.specs.Short.{the_limit}
-use Rattle.grasp_world.specs.World.{whole_in}
+use Rattle.grasp_wire.specs.Whole.{whole_in}
 use Rattle.grasp_world.specs.declared.seat.Seat.{Seat}
 
 -- the cutter gave so many messages more than those that were taken, and the seat took them
@@ -121,7 +121,6 @@ all_heard start c place now theirs taken count s more f answers h =
 
 lasting_fault : (limit : ℕ) (past : Past) (fault : CutFault) → fault ≢ OutOfMemory → Finds limit past (Err fault) → HasFault limit past fault
 lasting_fault limit past (Malformed at) other h = h
-lasting_fault limit past (Indefinite at) other h = h
 lasting_fault limit past (NotText at) other h = h
 lasting_fault limit past (TooDeep at) other h = h
 lasting_fault limit past (TooLong at) other h = h

@@ -14,7 +14,7 @@ use Rattle.grasp_world.specs.Node.{NodeState, Stands, Cuts, seat_of, heard_all, 
 use Rattle.grasp_world.specs.Seat.{at_stage, is_open}
 use Rattle.grasp_world.specs.Seat as seat
 use Rattle.grasp_world.specs.Short.{the_limit}
-use Rattle.grasp_world.specs.World.{whole_in}
+use Rattle.grasp_wire.specs.Whole.{whole_in}
 use Rattle.grasp_world.specs.declared.node.Node.{Node}
 use Rattle.grasp_world.specs.declared.seat.Seat.{Seat}
 

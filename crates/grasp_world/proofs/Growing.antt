@@ -9,7 +9,7 @@ use Rattle.grasp_types.specs.Message.{item_of}
 use Rattle.grasp_types.specs.declared.message.Message.{Message}
 use Rattle.grasp_types.specs.declared.message.Message.TheVariants.{Noop}
 use Rattle.grasp_wire.specs.Laws.{encoded}
-use Rattle.grasp_world.specs.World.{whole_in}
+use Rattle.grasp_wire.specs.Whole.{whole_in}
 use Rattle.grasp_world.specs.Node.{NodeState, Stands, Cuts, with_theirs}
 use Rattle.grasp_world.specs.declared.node.Node.{Node}
 

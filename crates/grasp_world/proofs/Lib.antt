@@ -2,9 +2,7 @@ pub mod Delivering
 pub mod Feeding
 pub mod SeatHearing
 pub mod Runs
-pub mod Wholes
 pub mod Prefixes
-pub mod Untaken
 pub mod TalkHearing
 pub mod Delivered
 pub mod Sizes

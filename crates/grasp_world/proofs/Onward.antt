@@ -13,7 +13,8 @@ use Rattle.grasp_session.specs.Talk as talk
 use Rattle.grasp_session.specs.Talk.{Cause, Expires, Closes, Stage, Absent, Refused, Present, Party, Talk, party, spoke, stays, says_checked, says_at, marks_at, Requests, Says, Marks, moved, run}
 use Rattle.grasp_world.specs.declared.event.Event.{Event}
 use Rattle.grasp_world.specs.declared.event.Event.TheVariants as event
-use Rattle.grasp_world.specs.World.{EndState, WorldState, end_at, with_end, with_talk, with_reading, with_taken, with_told, with_closed, with_delivered, began, expiry, held, held_in, waiting_in, sent_to, whole_in, is_reached, hearing}
+use Rattle.grasp_wire.specs.Whole.{whole_in}
+use Rattle.grasp_world.specs.World.{EndState, WorldState, end_at, with_end, with_talk, with_reading, with_taken, with_told, with_closed, with_delivered, began, expiry, held, held_in, waiting_in, sent_to, is_reached, hearing}
 use Rattle.grasp_world.specs.Steps.{Answer, side_of, tells, asked, requests, listens, says, polls, arrives, delivered_to, delivers, closes, step, after_all}
 use Rattle.grasp_world.proofs.TalkHearing.{hearing_keeps}
 

@@ -5,7 +5,8 @@ use Rattle.std.proofs.lemmas.List.{append_assoc, append_cancel_left, reverse-rev
 use Rattle.grasp_cbor.specs.Shortest.{shortest}
 use Rattle.grasp_types.specs.Message.{item_of}
 use Rattle.grasp_types.specs.declared.message.Message.{Message}
-use Rattle.grasp_world.specs.World.{whole_in}
+use Rattle.grasp_wire.specs.Whole.{whole_in}
+use Rattle.grasp_wire.proofs.Wholes.{whole_first}
 
 -- what fewer bytes hold whole comes first
 whole_before : (ms : List Message) (a b : ℕ) → a ≤ b → (rest : List Message) × (whole_in b ms ≡ whole_in a ms ++ rest)
@@ -22,15 +23,6 @@ whole_before (m ∷ ms) a b le = by_test (nat_le (length (shortest (item_of m)))
       let g = leb-false n b f in
       absurd (omega arith)
   by_test false q e f r = (cond q (m ∷ whole_in (b - n) ms) [], refl)
-
--- what so many bytes hold whole are the first messages
-whole_first : (ms : List Message) (n : ℕ) → (rest : List Message) × (ms ≡ whole_in n ms ++ rest)
-whole_first [] n = ([], refl)
-whole_first (m ∷ ms) n = by_test (nat_le (length (shortest (item_of m))) n) (whole_first ms (n - length (shortest (item_of m)))) where
-  by_test : (b : Bool) → ((rest : List Message) × (ms ≡ whole_in (n - length (shortest (item_of m))) ms ++ rest))
-      → (rest : List Message) × (m ∷ ms ≡ cond b (m ∷ whole_in (n - length (shortest (item_of m))) ms) [] ++ rest)
-  by_test true r = (r.0, ap (λ (l : List Message). m ∷ l) r.1)
-  by_test false r = (m ∷ ms, refl)
 
 -- of theirs, these were taken, newest first, these are whole now, and these are left
 pub record Parts (theirs taken inbox : List Message) (count : ℕ) : Type 0 where

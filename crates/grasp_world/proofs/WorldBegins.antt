@@ -2,17 +2,18 @@
 use Rattle.std.proofs.Common.{◌≡◌, ℕ, max, nat_le, Bool, true, false, cond, ◌&&◌, [], ◌∷◌, refl, sym, ap, ◌∙◌, subst}
 use Rattle.grasp_session.specs.Messages.{Side, Near, Far}
 use Rattle.grasp_session.specs.Transcript.{Transcript, Expired, is_going, deadline_of, marked}
-use Rattle.grasp_session.specs.Talk.{Stage, Absent, Refused, Present, Talk, party, stays, Expires, Closes, Marks, marks_at, moved, run}
+use Rattle.grasp_session.specs.Talk.{Stage, Absent, Refused, Present, Talk, party, stays, Expires, Closes, Marks, marks_at, moved, run, Reached}
 use Rattle.grasp_world.specs.World.{WorldState, end_at, with_end, with_reading, with_closed, expiry, began}
 use Rattle.grasp_world.specs.Steps.{clocks}
 use Rattle.grasp_world.specs.Seat.{is_begun, expired, broken, at_stage}
 use Rattle.grasp_world.specs.Node.{node_at, after_beginning, at_end, with_seat, seat_of}
 use Rattle.grasp_world.specs.Node as node
-use Rattle.grasp_world.specs.Stands.{Ran, Stands}
+use Rattle.grasp_world.specs.Stands.{Stands}
 use Rattle.grasp_world.specs.declared.node.Node.{Node}
 use Rattle.grasp_world.specs.declared.world.World.{World}
 use Rattle.grasp_world.specs.declared.report.Report.TheVariants.{Reading}
-use Rattle.grasp_world.proofs.Runs.{ran_one, began_ran}
+use Rattle.grasp_session.proofs.Reaching.{move_reaches}
+use Rattle.grasp_world.proofs.Runs.{began_ran}
 use Rattle.grasp_world.proofs.Worlds.{with_near, with_far, staying, staying_near, staying_far}
 
 -- the stage that an end has
@@ -48,13 +49,13 @@ pub began_near : (world : World) (n : Node) (w : WorldState) (millis : ℕ) → 
 began_near world n w millis s near =
     let e = began_is w Near millis in
     subst (Stands (with_near world n)) (sym e)
-    (staying_near world n w _ _ s (expired_begun (max w.near.reading millis) w.talk.near.stage) (subst (λ (x : WorldState). Ran x.talk) e (began_ran w Near millis s.ran)) near)
+    (staying_near world n w _ _ s (expired_begun (max w.near.reading millis) w.talk.near.stage) (subst (λ (x : WorldState). Reached x.talk) e (began_ran w Near millis s.reached)) near)
 
 pub began_far : (world : World) (n : Node) (w : WorldState) (millis : ℕ) → Stands world w → node.Stands n (after_beginning (node_at w Far) millis) → Stands (with_far world n) (began w Far millis)
 began_far world n w millis s far =
     let e = began_is w Far millis in
     subst (Stands (with_far world n)) (sym e)
-    (staying_far world n w _ _ s (expired_begun (max w.far.reading millis) w.talk.far.stage) (subst (λ (x : WorldState). Ran x.talk) e (began_ran w Far millis s.ran)) far)
+    (staying_far world n w _ _ s (expired_begun (max w.far.reading millis) w.talk.far.stage) (subst (λ (x : WorldState). Reached x.talk) e (began_ran w Far millis s.reached)) far)
 
 -- ---- a session whose stream is closed
 
@@ -75,16 +76,16 @@ broken_begun (Present v) = refl
 closed_is : (w : WorldState) (side : Side) → closed_world w side ≡ staying w side (with_closed (end_at w side)) (broken (party w.talk side).stage)
 closed_is w side = ap (with_end w side (with_closed (end_at w side))) (closes_stays w.talk side (party w.talk side).stage refl)
 
-closed_ran : (w : WorldState) (side : Side) → Ran w.talk → Ran (stays w.talk side (broken (party w.talk side).stage))
-closed_ran w side r = subst Ran (closes_stays w.talk side (party w.talk side).stage refl) (ran_one w.talk (Marks side Closes) r)
+closed_ran : (w : WorldState) (side : Side) → Reached w.talk → Reached (stays w.talk side (broken (party w.talk side).stage))
+closed_ran w side r = subst Reached (closes_stays w.talk side (party w.talk side).stage refl) (move_reaches w.talk (Marks side Closes) r)
 
 pub closed_near : (world : World) (n : Node) (w : WorldState) → Stands world w → node.Stands n (at_end (with_seat (node_at w Near) (at_stage (seat_of (node_at w Near)) (broken w.talk.near.stage))) (with_closed w.near))
     → Stands (with_near world n) (closed_world w Near)
-closed_near world n w s near = subst (Stands (with_near world n)) (sym (closed_is w Near)) (staying_near world n w _ _ s (broken_begun w.talk.near.stage) (closed_ran w Near s.ran) near)
+closed_near world n w s near = subst (Stands (with_near world n)) (sym (closed_is w Near)) (staying_near world n w _ _ s (broken_begun w.talk.near.stage) (closed_ran w Near s.reached) near)
 
 pub closed_far : (world : World) (n : Node) (w : WorldState) → Stands world w → node.Stands n (at_end (with_seat (node_at w Far) (at_stage (seat_of (node_at w Far)) (broken w.talk.far.stage))) (with_closed w.far))
     → Stands (with_far world n) (closed_world w Far)
-closed_far world n w s far = subst (Stands (with_far world n)) (sym (closed_is w Far)) (staying_far world n w _ _ s (broken_begun w.talk.far.stage) (closed_ran w Far s.ran) far)
+closed_far world n w s far = subst (Stands (with_far world n)) (sym (closed_is w Far)) (staying_far world n w _ _ s (broken_begun w.talk.far.stage) (closed_ran w Far s.reached) far)
 
 -- ---- the clock's reading
 

@@ -39,8 +39,8 @@ polls_report w side number told e = ap polled (polled_is w side number told (hel
 
 near_held : (world : World) (n : Node) (w : WorldState) (number : ℕ) (o : Option Transcript) → held w Near number ≡ o → Stands world w
     → node.Stands n (with_seat (node_at w Near) (after_polling (seat_of (node_at w Near)) (option_map progress_of o))) → Stands (with_near world n) (polls w Near number).world
-near_held world n w number None h s near = rw h (staying_near world n w w.near w.talk.near.stage s refl s.ran near)
-near_held world n w number (Some v) h s near = rw h (staying_near world n w (with_told w.near (tells (progress_of v))) w.talk.near.stage s refl s.ran near)
+near_held world n w number None h s near = rw h (staying_near world n w w.near w.talk.near.stage s refl s.reached near)
+near_held world n w number (Some v) h s near = rw h (staying_near world n w (with_told w.near (tells (progress_of v))) w.talk.near.stage s refl s.reached near)
 
 pub polls_near : (world : World) (n : Node) (w : WorldState) (number : ℕ) (told : Option Progress) → Stands world w → told ≡ polled_at (seat_of (node_at w Near)) number
     → node.Stands n (with_seat (node_at w Near) (after_polling (seat_of (node_at w Near)) told)) → Stands (with_near world n) (polls w Near number).world
@@ -50,8 +50,8 @@ polls_near world n w number told s e near =
 
 far_held : (world : World) (n : Node) (w : WorldState) (number : ℕ) (o : Option Transcript) → held w Far number ≡ o → Stands world w
     → node.Stands n (with_seat (node_at w Far) (after_polling (seat_of (node_at w Far)) (option_map progress_of o))) → Stands (with_far world n) (polls w Far number).world
-far_held world n w number None h s far = rw h (staying_far world n w w.far w.talk.far.stage s refl s.ran far)
-far_held world n w number (Some v) h s far = rw h (staying_far world n w (with_told w.far (tells (progress_of v))) w.talk.far.stage s refl s.ran far)
+far_held world n w number None h s far = rw h (staying_far world n w w.far w.talk.far.stage s refl s.reached far)
+far_held world n w number (Some v) h s far = rw h (staying_far world n w (with_told w.far (tells (progress_of v))) w.talk.far.stage s refl s.reached far)
 
 pub polls_far : (world : World) (n : Node) (w : WorldState) (number : ℕ) (told : Option Progress) → Stands world w → told ≡ polled_at (seat_of (node_at w Far)) number
     → node.Stands n (with_seat (node_at w Far) (after_polling (seat_of (node_at w Far)) told)) → Stands (with_far world n) (polls w Far number).world
@@ -82,8 +82,8 @@ listens_report w found e = ap incoming (found_is w found (waiting_in w.far w.tal
 
 far_waiting : (world : World) (n : Node) (w : WorldState) (o : Option Transcript) → waiting_in w.far w.talk.far.stage ≡ o → Stands world w
     → node.Stands n (with_seat (node_at w Far) (after_listening (seat_of (node_at w Far)) (option_map request_of o))) → Stands (with_far world n) (listens w).world
-far_waiting world n w None h s far = rw h (staying_far world n w w.far w.talk.far.stage s refl s.ran far)
-far_waiting world n w (Some v) h s far = rw h (staying_far world n w (with_taken w.far) w.talk.far.stage s refl s.ran far)
+far_waiting world n w None h s far = rw h (staying_far world n w w.far w.talk.far.stage s refl s.reached far)
+far_waiting world n w (Some v) h s far = rw h (staying_far world n w (with_taken w.far) w.talk.far.stage s refl s.reached far)
 
 pub listens_far : (world : World) (n : Node) (w : WorldState) (found : Option Objective) → Stands world w → found ≡ waiting_at (seat_of (node_at w Far))
     → node.Stands n (with_seat (node_at w Far) (after_listening (seat_of (node_at w Far)) found)) → Stands (with_far world n) (listens w).world

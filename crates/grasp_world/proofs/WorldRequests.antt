@@ -7,18 +7,18 @@ use Rattle.grasp_types.specs.declared.message.Message.TheVariants.{ReqNeg}
 use Rattle.grasp_session.specs.Messages.{Near}
 use Rattle.grasp_session.specs.Transcript.{opening}
 use Rattle.grasp_session.specs.Sessions.{Sessions}
-use Rattle.grasp_session.specs.Talk.{Stage, Absent, Refused, Present, Talk, Requests, requests, moved}
+use Rattle.grasp_session.specs.Talk.{Stage, Absent, Refused, Present, Talk, Requests, requests, moved, Reached}
 use Rattle.grasp_world.specs.World.{WorldState, with_taken}
 use Rattle.grasp_world.specs.Steps as step
 use Rattle.grasp_world.specs.Steps.{asked}
 use Rattle.grasp_world.specs.Seat.{SeatState, is_begun, requested_at, Holds}
 use Rattle.grasp_world.specs.Node.{node_at, seat_of, with_seat, having_sent}
 use Rattle.grasp_world.specs.Node as node
-use Rattle.grasp_world.specs.Stands.{Ran, Stands}
+use Rattle.grasp_world.specs.Stands.{Stands}
 use Rattle.grasp_world.specs.declared.node.Node.{Node}
 use Rattle.grasp_world.specs.declared.world.World.{World}
 use Rattle.grasp_world.specs.declared.report.Report.TheVariants as report
-use Rattle.grasp_world.proofs.Runs.{ran_one}
+use Rattle.grasp_session.proofs.Reaching.{move_reaches}
 use Rattle.grasp_world.proofs.Worlds.{Sound, staged}
 use Rattle.grasp_world.proofs.WorldSays.{having_spoken, near_spoke, far_spoken}
 
@@ -55,11 +55,11 @@ asks_world w value loops timeout d e =
     rw d
     (ap (λ (t : Talk). record { near = with_taken w.near; far = w.far; dialled = true; arrived = w.arrived; talk = t }) (asks_talk w value loops timeout e))
 
-asks_sound : (w : WorldState) (value : DataItem) (loops timeout : ℕ) → w.talk.near.stage ≡ Absent → Ran w.talk → Sound (asking w value loops timeout)
+asks_sound : (w : WorldState) (value : DataItem) (loops timeout : ℕ) → w.talk.near.stage ≡ Absent → Reached w.talk → Sound (asking w value loops timeout)
 asks_sound w value loops timeout e r = record {
   begun = refl;
   named = λ _. refl;
-  ran = subst Ran (asks_talk w value loops timeout e) (ran_one w.talk (Requests w.near.reading timeout 1 (asked value loops)) r);
+  reached = subst Reached (asks_talk w value loops timeout e) (move_reaches w.talk (Requests w.near.reading timeout 1 (asked value loops)) r);
 }
 
 abbrev pub having_dialled : World → Node → World
@@ -77,7 +77,7 @@ pub asks_stands : (world : World) (n : Node) (w : WorldState) (value : DataItem)
 asks_stands world n w value loops timeout s d near =
     let first : w.dialled ≡ false = sym s.dialled ∙ d in
     let e = near_absent world w s first in
-    let o = asks_sound w value loops timeout e s.ran in
+    let o = asks_sound w value loops timeout e s.reached in
     let here = asks_near n w value loops timeout (holds_untold s.near.seat.sessions world.near.seat.handle (seat_of (node_at w Near)) e s.near.seat.holds) near in
     subst (Stands (having_dialled world n)) (sym (asks_world w value loops timeout first e)) (record {
       near = near_spoke n w true (with_taken w.near) (ReqNeg 1 (asked value loops)) (Present (opening Negotiation Near timeout w.near.reading 1 (asked value loops))) here;
@@ -86,7 +86,7 @@ asks_stands world n w value loops timeout s d near =
       arrived = s.arrived;
       begun = o.begun;
       named = o.named;
-      ran = o.ran;
+      reached = o.reached;
     })
 
 pub asks_report : (w : WorldState) (value : DataItem) (loops timeout : ℕ) → w.dialled ≡ false → report.Started 1 ≡ (step.requests w value loops timeout).report

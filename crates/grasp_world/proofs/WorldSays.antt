@@ -7,20 +7,20 @@ use Rattle.grasp_session.specs.declared.answer.SessionRefused.{SessionRefused}
 use Rattle.grasp_session.specs.Messages.{Side, Near, Far}
 use Rattle.grasp_session.specs.Conversation.{strip, requested, spoken}
 use Rattle.grasp_session.specs.Transcript.{Transcript, Saying, act_of, refusal, message_of, having_said}
-use Rattle.grasp_session.specs.Talk.{Stage, Absent, Refused, Present, Talk, party, spoke, Move, Says, says_checked, says_at, moved}
+use Rattle.grasp_session.specs.Talk.{Stage, Absent, Refused, Present, Talk, party, spoke, Move, Says, says_checked, says_at, moved, Reached}
 use Rattle.grasp_world.specs.World.{EndState, WorldState, the_name, end_at, with_talk, held, held_in, sent_to}
 use Rattle.grasp_world.specs.Steps.{says, refused_as}
 use Rattle.grasp_world.specs.Seat.{SeatState, is_begun, end_of, held_at, said_at}
 use Rattle.grasp_world.specs.Node.{node_at, seat_of, having_sent, after_telling, reply_of}
 use Rattle.grasp_world.specs.Node as node
-use Rattle.grasp_world.specs.Stands.{Ran, Stands}
+use Rattle.grasp_world.specs.Stands.{Stands}
 use Rattle.grasp_world.specs.declared.node.Node.{Node}
 use Rattle.grasp_world.specs.declared.world.World.{World}
 use Rattle.grasp_world.specs.declared.report.Report.{Report}
 use Rattle.grasp_world.specs.declared.report.Report.TheVariants as report
 use Rattle.grasp_world.proofs.Growing.{theirs_more}
 use Rattle.grasp_world.proofs.Names.{run_named}
-use Rattle.grasp_world.proofs.Runs.{ran_one}
+use Rattle.grasp_session.proofs.Reaching.{move_reaches}
 use Rattle.grasp_world.proofs.Worlds.{with_near, with_far, Sound, sound, near_stands, far_stands, staged}
 
 -- what was sent grows by the message
@@ -109,7 +109,7 @@ spoke_begun w Near m v u p b = b ∙ ap is_begun p
 spoke_begun w Far m v u p b = b
 
 moved_named : (w : WorldState) (move : Move) → Sound w → w.dialled ≡ true → (requested (strip (moved w.talk move).said)).name ≡ the_name
-moved_named w move o h = ap (λ (q : Objective). q.name) (run_named w.talk move o.ran (sym o.begun ∙ h)) ∙ o.named h
+moved_named w move o h = ap (λ (q : Objective). q.name) (run_named w.talk move o.reached (sym o.begun ∙ h)) ∙ o.named h
 
 says_sound : (w : WorldState) (side : Side) (now : ℕ) (saying : Saying) (v : Transcript) → (party w.talk side).stage ≡ Present v → refusal v (act_of saying) ≡ None → Sound w
     → Sound (with_talk w (spoke w.talk side (message_of v saying) (Present (having_said v now saying))))
@@ -118,7 +118,7 @@ says_sound w side now saying v p f o =
     record {
       begun = spoke_begun w side (message_of v saying) v (having_said v now saying) p o.begun;
       named = subst (λ (t : Talk). w.dialled ≡ true → (requested (strip t.said)).name ≡ the_name) e (moved_named w (Says side now saying) o);
-      ran = subst Ran e (ran_one w.talk (Says side now saying) o.ran);
+      reached = subst Reached e (move_reaches w.talk (Says side now saying) o.reached);
     }
 
 says_world : (w : WorldState) (side : Side) (number : ℕ) (saying : Saying) (v : Transcript) → held w side number ≡ Some v → refusal v (act_of saying) ≡ None

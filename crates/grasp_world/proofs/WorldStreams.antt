@@ -52,7 +52,7 @@ arrives_stands world w s d a = subst (Stands (with_arrived world)) (sym (arrives
   arrived = refl;
   begun = s.begun;
   named = s.named;
-  ran = s.ran;
+  reached = s.reached;
 })
 
 -- ---- what is delivered
@@ -69,7 +69,7 @@ delivered_sound w side count o =
     record {
       begun = same ∙ (o.begun ∙ sym (delivered_begun w side count));
       named = λ h. ap (λ (said : List Said). (requested (strip said)).name) (delivered_said w side count) ∙ o.named (sym same ∙ h);
-      ran = delivered_ran w side count o.ran;
+      reached = delivered_ran w side count o.reached;
     }
 
 dialled_begun : (w : WorldState) → Sound w → is_reached w Near ≡ true → is_begun w.talk.near.stage ≡ true
@@ -80,7 +80,7 @@ pub delivers_near : (world : World) (n : Node) (w : WorldState) (count : ℕ) �
 delivers_near world n w count s r near =
     let next = delivered_next (node_at w Near) count in
     let flags = delivered_flags w Near next in
-    let here = delivered_here w Near next s.ran (λ same. dialled_begun w (sound world w s) r) (next_from (node_at w Near) count s.near.within) (next_within (node_at w Near) count) s.near.whole in
+    let here = delivered_here w Near next s.reached (λ same. dialled_begun w (sound world w s) r) (next_from (node_at w Near) count s.near.within) (next_within (node_at w Near) count) s.near.whole in
     rw r
     (near_stands world n w (delivered_to w Near next) s flags.0 flags.1 (delivered_sound w Near next (sound world w s)) (subst (node.Stands n) (sym here) near)
     (subst (node.Stands world.far) (sym (delivered_there w Near next)) s.far))
@@ -90,7 +90,7 @@ pub delivers_far : (world : World) (n : Node) (w : WorldState) (count : ℕ) →
 delivers_far world n w count s r far =
     let next = delivered_next (node_at w Far) count in
     let flags = delivered_flags w Far next in
-    let here = delivered_here w Far next s.ran (λ same. absurd (far_near same)) (next_from (node_at w Far) count s.far.within) (next_within (node_at w Far) count) s.far.whole in
+    let here = delivered_here w Far next s.reached (λ same. absurd (far_near same)) (next_from (node_at w Far) count s.far.within) (next_within (node_at w Far) count) s.far.whole in
     rw r
     (far_stands world n w (delivered_to w Far next) s flags.0 flags.1 (delivered_sound w Far next (sound world w s)) (subst (node.Stands world.near) (sym (delivered_there w Far next)) s.near)
     (subst (node.Stands n) (sym here) far))

@@ -2,12 +2,12 @@
 use Rattle.std.proofs.Common.{◌≡◌, true, refl, sym, ◌∙◌, subst}
 use Rattle.grasp_session.specs.Messages.{Side, Near, Far}
 use Rattle.grasp_session.specs.Conversation.{strip, requested}
-use Rattle.grasp_session.specs.Talk.{Stage, party, stays}
+use Rattle.grasp_session.specs.Talk.{Stage, party, stays, Reached}
 use Rattle.grasp_world.specs.World.{EndState, WorldState, the_name, with_end}
 use Rattle.grasp_world.specs.Seat.{is_begun}
 use Rattle.grasp_world.specs.Node.{NodeState, node_at}
 use Rattle.grasp_world.specs.Node as node
-use Rattle.grasp_world.specs.Stands.{Ran, Stands}
+use Rattle.grasp_world.specs.Stands.{Stands}
 use Rattle.grasp_world.specs.declared.node.Node.{Node}
 use Rattle.grasp_world.specs.declared.world.World.{World}
 
@@ -22,10 +22,10 @@ with_far world n = record { near = world.near; far = n; dialled = world.dialled;
 pub record Sound (w : WorldState) : Type 0 where
   pub begun : w.dialled ≡ is_begun w.talk.near.stage
   pub named : w.dialled ≡ true → (requested (strip w.talk.said)).name ≡ the_name
-  pub ran : Ran w.talk
+  pub reached : Reached w.talk
 
 pub sound : (world : World) (w : WorldState) → Stands world w → Sound w
-sound world w s = record { begun = s.begun; named = s.named; ran = s.ran }
+sound world w s = record { begun = s.begun; named = s.named; reached = s.reached }
 
 -- one node is as it was, and the other stands anew
 pub near_stands : (world : World) (n : Node) (w x : WorldState) → Stands world w → x.dialled ≡ w.dialled → x.arrived ≡ w.arrived → Sound x
@@ -37,7 +37,7 @@ near_stands world n w x s dialled arrived o near far = record {
   arrived = s.arrived ∙ sym arrived;
   begun = o.begun;
   named = o.named;
-  ran = o.ran;
+  reached = o.reached;
 }
 
 pub far_stands : (world : World) (n : Node) (w x : WorldState) → Stands world w → x.dialled ≡ w.dialled → x.arrived ≡ w.arrived → Sound x
@@ -49,7 +49,7 @@ far_stands world n w x s dialled arrived o near far = record {
   arrived = s.arrived ∙ sym arrived;
   begun = o.begun;
   named = o.named;
-  ran = o.ran;
+  reached = o.reached;
 }
 
 -- ---- an end changes, and its session's stage, and nothing is said
@@ -60,15 +60,15 @@ staying w side e stage = with_end w side e (stays w.talk side stage)
 abbrev pub staged : NodeState → EndState → Stage → NodeState
 staged n e stage = record { end = e; stage = stage; taken = n.taken; mine = n.mine; theirs = n.theirs }
 
-staying_sound : (w : WorldState) (side : Side) (e : EndState) (stage : Stage) → Sound w → is_begun stage ≡ is_begun (party w.talk side).stage → Ran (stays w.talk side stage) → Sound (staying w side e stage)
-staying_sound w Near e stage o b r = record { begun = o.begun ∙ sym b; named = o.named; ran = r }
-staying_sound w Far e stage o b r = record { begun = o.begun; named = o.named; ran = r }
+staying_sound : (w : WorldState) (side : Side) (e : EndState) (stage : Stage) → Sound w → is_begun stage ≡ is_begun (party w.talk side).stage → Reached (stays w.talk side stage) → Sound (staying w side e stage)
+staying_sound w Near e stage o b r = record { begun = o.begun ∙ sym b; named = o.named; reached = r }
+staying_sound w Far e stage o b r = record { begun = o.begun; named = o.named; reached = r }
 
-pub staying_near : (world : World) (n : Node) (w : WorldState) (e : EndState) (stage : Stage) → Stands world w → is_begun stage ≡ is_begun w.talk.near.stage → Ran (stays w.talk Near stage)
+pub staying_near : (world : World) (n : Node) (w : WorldState) (e : EndState) (stage : Stage) → Stands world w → is_begun stage ≡ is_begun w.talk.near.stage → Reached (stays w.talk Near stage)
     → node.Stands n (staged (node_at w Near) e stage) → Stands (with_near world n) (staying w Near e stage)
 staying_near world n w e stage s b r near = near_stands world n w (staying w Near e stage) s refl refl (staying_sound w Near e stage (sound world w s) b r) near s.far
 
-pub staying_far : (world : World) (n : Node) (w : WorldState) (e : EndState) (stage : Stage) → Stands world w → is_begun stage ≡ is_begun w.talk.far.stage → Ran (stays w.talk Far stage)
+pub staying_far : (world : World) (n : Node) (w : WorldState) (e : EndState) (stage : Stage) → Stands world w → is_begun stage ≡ is_begun w.talk.far.stage → Reached (stays w.talk Far stage)
     → node.Stands n (staged (node_at w Far) e stage) → Stands (with_far world n) (staying w Far e stage)
 staying_far world n w e stage s b r far = far_stands world n w (staying w Far e stage) s refl refl (staying_sound w Far e stage (sound world w s) b r) s.near far
 

@@ -8,10 +8,10 @@ use Rattle.grasp_types.specs.declared.session.Outcome.TheVariants as outcome
 use Rattle.grasp_types.specs.declared.session.Progress.TheVariants.{Ended}
 use Rattle.grasp_types.specs.declared.refusal.ApiRefused.TheVariants.{NoSession}
 use Rattle.grasp_session.specs.Messages.{Side}
-use Rattle.grasp_session.specs.Conversation.{strip, requested}
+use Rattle.grasp_session.specs.Conversation.{strip, requested, IsLegalConversation}
 use Rattle.grasp_session.specs.Transcript.{Transcript, outcome_of}
 use Rattle.grasp_session.specs.Talk.{Present, party}
-use Rattle.grasp_session.specs.Laws.{IsBounded, Agreement}
+use Rattle.grasp_session.specs.Laws.{IsBounded, Agreement, IsView}
 use Rattle.grasp_world.specs.declared.event.End.{End}
 use Rattle.grasp_world.specs.declared.event.Event.{Event}
 use Rattle.grasp_world.specs.declared.event.Event.TheVariants.{Request, Listen, Poll}
@@ -29,6 +29,14 @@ pub record IsSafe (w : WorldState) : Type 0 where
 -- whatever happens, in any order
 abbrev pub EveryRunIsSafe : Type 0
 EveryRunIsSafe = (events : List Event) → IsSafe (after_all first_world events)
+
+-- the conversation is legal, and each end's transcript is an earlier part of it, with what that end said and the first of what the other end said
+pub record IsLegalRun (w : WorldState) : Type 0 where
+  pub legal : IsLegalConversation w.talk.said
+  pub views : (side : Side) (v : Transcript) → (party w.talk side).stage ≡ Present v → IsView side w.talk.said v
+
+abbrev pub EveryRunIsLegal : Type 0
+EveryRunIsLegal = (events : List Event) → IsLegalRun (after_all first_world events)
 
 -- the reading of an end never falls
 abbrev pub ReadingsNeverFall : Type 0
@@ -53,7 +61,7 @@ abbrev pub OutcomesAreToldOnce : Type 0
 OutcomesAreToldOnce = (w : WorldState) (end : End) (handle h : ℕ) (o : Outcome) (events : List Event) → (step w (Poll end handle)).report ≡ Polled (Ended o)
     → (step (after_all (step w (Poll end handle)).world events) (Poll end h)).report ≡ Refused NoSession
 
--- the outcome that an agent is told, as an agreement, is that of its end's transcript
+-- the outcome that an agent is told is that of its end's transcript
 abbrev pub PollsTellOutcomes : Type 0
 PollsTellOutcomes = (w : WorldState) (end : End) (handle : ℕ) (o : Outcome) → (step w (Poll end handle)).report ≡ Polled (Ended o)
     → (v : Transcript) × ((party (step w (Poll end handle)).world.talk (side_of end)).stage ≡ Present v) × (outcome_of v ≡ Some o)

@@ -1,6 +1,5 @@
 pub mod World
 pub mod Steps
-pub mod Whole
 pub mod Laws
 pub mod Saying
 pub mod Short

@@ -13,7 +13,8 @@ use Rattle.grasp_wire.specs.declared.cutter.Cutter.{Cutter}
 use Rattle.grasp_world.specs.Seat.{SeatState, at_stage, requested_at, opened_at, expired, broken, heard, is_begun, is_open, said_at, after_saying, polled_at, after_polling, waiting_at, after_listening}
 use Rattle.grasp_world.specs.Seat as seat
 use Rattle.grasp_world.specs.Short.{the_limit}
-use Rattle.grasp_world.specs.World.{EndState, WorldState, end_at, sent_to, whole_in, with_reading, with_delivered}
+use Rattle.grasp_wire.specs.Whole.{whole_in}
+use Rattle.grasp_world.specs.World.{EndState, WorldState, end_at, sent_to, with_reading, with_delivered}
 use Rattle.grasp_world.specs.declared.node.Node.{Node}
 
 -- one end, its session's stage, the messages that it took, newest first, all that it sent, and all that the other end sent, oldest first

@@ -19,7 +19,8 @@ use Rattle.grasp_world.specs.declared.event.Event.{Event}
 use Rattle.grasp_world.specs.declared.event.Event.TheVariants as event
 use Rattle.grasp_world.specs.declared.report.Report.{Report}
 use Rattle.grasp_world.specs.declared.report.Report.TheVariants.{Reading, Started, Incoming, NotYet, Done, Polled, Refused, Taken, Nothing}
-use Rattle.grasp_world.specs.World.{WorldState, end_at, with_end, with_talk, with_taken, with_told, with_closed, with_delivered, the_name, began, held, waiting_in, sent_to, whole_in, is_reached, hearing}
+use Rattle.grasp_wire.specs.Whole.{whole_in}
+use Rattle.grasp_world.specs.World.{WorldState, end_at, with_end, with_talk, with_taken, with_told, with_closed, with_delivered, the_name, began, held, waiting_in, sent_to, is_reached, hearing}
 
 -- the agent knows the outcome from this progress
 abbrev pub tells : Progress → Bool

@@ -1,8 +1,6 @@
 -- Two nodes and the one stream between them: all that was said and taken, and what was delivered (RFC 8990, section 2.5.5).
-use Rattle.std.specs.Prelude.{ℕ, zero, suc, ◌-◌, max, nat_le, ◌==◌, Bool, true, false, not, ◌&&◌, if◌then◌else◌, List, [], ◌∷◌, Option, Some, None, reverse, replicate, length, bytes_eq}
-use Rattle.grasp_types.specs.Message.{item_of}
+use Rattle.std.specs.Prelude.{ℕ, zero, suc, max, nat_le, ◌==◌, Bool, true, false, not, ◌&&◌, if◌then◌else◌, List, [], ◌∷◌, Option, Some, None, reverse, replicate, length, bytes_eq}
 use Rattle.grasp_types.specs.declared.message.Message.{Message}
-use Rattle.grasp_cbor.specs.Shortest.{shortest}
 use Rattle.grasp_session.specs.Messages.{Side, Near, Far, other}
 use Rattle.grasp_session.specs.Conversation.{spoken}
 use Rattle.grasp_session.specs.Transcript.{Transcript, is_going, deadline_of, request_of}
@@ -98,11 +96,6 @@ waiting_in e (Present v) = if not e.taken && (is_going v && bytes_eq (request_of
 -- the messages to this side, oldest first
 abbrev pub sent_to : Side → Talk → List Message
 sent_to side t = reverse (spoken (other side) t.said)
-
--- the first of these messages, as many as so many bytes of their encodings hold whole
-abbrev pub whole_in : ℕ → List Message → List Message
-whole_in n [] = []
-whole_in n (m ∷ ms) = if nat_le (length (shortest (item_of m))) n then m ∷ whole_in (n - length (shortest (item_of m))) ms else []
 
 -- the stream has this end, and the end wasn't told that it is closed
 abbrev pub is_reached : WorldState → Side → Bool

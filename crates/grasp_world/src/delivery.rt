@@ -3,7 +3,7 @@
 ghost use Rattle.std.specs.Prelude.{◌≡◌, ◌+◌, ◌<◌, ◌≤◌, ◌^◌, ℕ, List, OnOk, drop, length, min, reverse};
 ghost use Rattle.grasp_types.specs.declared.message.Message.{Message};
 ghost use Rattle.grasp_world.specs.Seat.{SeatState, Stands, at_stage};
-ghost use Rattle.grasp_world.specs.World.{whole_in};
+ghost use Rattle.grasp_wire.specs.Whole.{whole_in};
 ghost use Rattle.grasp_world.specs.Node.{heard_by, heard_all};
 ghost use Rattle.grasp_world.specs.Delivery.{IsFed};
 

@@ -4,7 +4,7 @@ ghost use Rattle.std.specs.Prelude.{◌≡◌, IfOk};
 ghost use Rattle.grasp_world.specs.Saying.{IsSaying};
 
 use grasp_cbor::OutOfMemory;
-use grasp_types::{Value, Verdict};
+use grasp_types::{Plain, Value, Verdict};
 
 /// One of the two nodes.
 #[derive(Clone, Copy, Debug, PartialEq, Eq)]

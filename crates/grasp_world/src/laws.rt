@@ -1,11 +1,15 @@
 //! What holds of every run of two nodes. It says nothing at run time.
 
-ghost use Rattle.grasp_world.specs.Laws.{EveryRunIsSafe, ReadingsNeverFall, CutsAreFinal, OneRequestIsMade, RequestsAreTakenOnce, OutcomesAreToldOnce, PollsTellOutcomes};
-ghost use Rattle.grasp_world.specs.Whole.{WholeFrontsDivide, CuttersGiveWhole};
+ghost use Rattle.grasp_world.specs.Laws.{EveryRunIsSafe, EveryRunIsLegal, ReadingsNeverFall, CutsAreFinal, OneRequestIsMade, RequestsAreTakenOnce, OutcomesAreToldOnce, PollsTellOutcomes};
 
 /// After any events the steps are bounded by the request's loop count, and two ends that agree hold one objective.
 pub fn every_run_is_safe()
     ensures { EveryRunIsSafe }
+{}
+
+/// After any events the conversation is legal, and each node's transcript is an earlier part of it.
+pub fn every_run_is_legal()
+    ensures { EveryRunIsLegal }
 {}
 
 /// Whatever happens, the reading of a node never falls.
@@ -33,14 +37,7 @@ pub fn outcomes_are_told_once()
     ensures { OutcomesAreToldOnce }
 {}
 
-/// The outcome that an agent is told, as an agreement, is that of its end's transcript.
+/// The outcome that an agent is told is that of its end's transcript.
 pub fn polls_tell_outcomes()
     ensures { PollsTellOutcomes }
-{}
-
-/// The first bytes of joined encodings divide into the messages that they hold whole, and a cutter that was fed them
-/// and waits gave these.
-pub fn cutters_give_whole()
-    ensures divide { WholeFrontsDivide }
-    ensures give { CuttersGiveWhole }
 {}

@@ -1,7 +1,7 @@
 use Rattle.grasp_cbor.specs.Item.{data_item_of, items_of, pairs_of}
 use Rattle.std.proofs.Common.{sym, arith}
 use Rattle.grasp_cbor.proofs.Places.{pairs_depth_got}
-use Rattle.grasp_cbor.proofs.Steps.{list_step, map_step}
+use Rattle.grasp_cbor.proofs.Written.{list_step, map_step}
 use Rattle.grasp_cbor.proofs.write.+write.Goals as goal
 
 pub write_list-loop-i-preserved : goal.write_list-loop-i-preserved

@@ -1,7 +1,7 @@
 use Rattle.std.proofs.Common.{◌+◌, ◌*◌}
 use Rattle.grasp_cbor.specs.DataItem.{data_items, data_pairs, depth_of, items_depth, pairs_depth}
 use Rattle.grasp_cbor.specs.Item.{data_item_of, items_of, pairs_of}
-use Rattle.grasp_cbor.proofs.Steps.{IsListStep, IsMapStep}
+use Rattle.grasp_cbor.proofs.Written.{IsListStep, IsMapStep}
 use Rattle.grasp_cbor.proofs.write.+write.Given as goal
 
 abbrev pub decreases-write_parts : goal.decreases-write_parts

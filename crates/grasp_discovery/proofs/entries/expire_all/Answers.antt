@@ -1,7 +1,11 @@
-use Rattle.std.proofs.Common.{◌≡◌, ◌≤◌, Some, length, slice_get, sym, ap, ◌∙◌, arith}
+use Rattle.std.proofs.Common.{◌≡◌, ◌≤◌, Some, length, slice_get, refl, sym, ap, ◌∙◌, arith}
+use Rattle.indexmap.specs.IndexMap.{set_value_at}
 use Rattle.grasp_discovery.specs.Discoveries.{live_entry}
-use Rattle.grasp_discovery.proofs.Lists.{first_through, length_first_through, first_through_none, first_through_more, first_through_all}
+use Rattle.grasp_types.proofs.Through.{WritesValue, first_through, length_first_through, first_through_none, first_through_more, first_through_all}
 use Rattle.grasp_discovery.proofs.entries.expire_all.Goals as goal
+
+writes : {K V : Type 0} → WritesValue {K = K} {V = V} set_value_at
+writes = record { none = λ i w. refl; first = λ x xs w. refl; later = λ x xs i w. refl }
 
 pub loop-i-init : goal.loop-i-init
 loop-i-init c = sym (first_through_none (live_entry c.args.now) c.args.entries.now.entries)
@@ -16,7 +20,7 @@ loop-i-preserved c =
     let f = live_entry c.args.now in
     let at : slice_get (first_through f c.loop-i.i c.args.entries.now.entries) c.loop-i.i ≡ Some (c.pair_mut-cached.result.0.now, c.pair_mut-cached.result.1.now) =
     rw (← c.loop-i.invariant) c.pair_mut-cached.ensures.value in
-    rw c.loop-i.invariant (first_through_more f c.loop-i.i c.args.entries.now.entries _ _ _ at (ap (λ v. (c.pair_mut-cached.result.0.now, v)) c.expire.ensures))
+    rw c.loop-i.invariant (first_through_more set_value_at writes f c.loop-i.i c.args.entries.now.entries _ _ _ at (ap (λ v. (c.pair_mut-cached.result.0.now, v)) c.expire.ensures))
 
 pub returns : goal.returns
 returns c =

@@ -1,6 +1,6 @@
 use Rattle.std.proofs.Common.{◌≡◌}
 use Rattle.grasp_discovery.specs.Discoveries.{live_entry}
-use Rattle.grasp_discovery.proofs.Lists.{first_through}
+use Rattle.grasp_types.proofs.Through.{first_through}
 use Rattle.grasp_discovery.proofs.entries.expire_all.Given as goal
 
 -- the entries before this one have expired

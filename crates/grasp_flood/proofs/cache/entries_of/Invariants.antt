@@ -3,5 +3,5 @@ use Rattle.grasp_flood.specs.Floods.{entry_of}
 use Rattle.grasp_flood.proofs.cache.entries_of.Given as goal
 
 -- the parts before this one
-abbrev pub invariant-loop-i : goal.invariant-loop-i
-invariant-loop-i l = l.told.items ≡ map (entry_of l.flood l.end) (take l.i l.parts)
+abbrev pub invariant-loop-part : goal.invariant-loop-part
+invariant-loop-part l = l.told.items ≡ map (entry_of l.flood l.end) (take l.part-index l.part-items)

@@ -1,5 +1,5 @@
 use Rattle.std.proofs.Common.{◌≡◌}
-use Rattle.grasp_flood.proofs.Entries.{first_through}
+use Rattle.grasp_types.proofs.Through.{first_through}
 use Rattle.grasp_flood.specs.Floods.{after_renewal}
 use Rattle.grasp_flood.proofs.cache.renew_all.Given as goal
 

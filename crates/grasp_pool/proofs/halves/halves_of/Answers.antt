@@ -1,48 +1,29 @@
-use Rattle.std.proofs.Common.{rules, ◌≡◌, ◌+◌, ◌-◌, ◌%◌, ◌<◌, ◌≤◌, ◌^◌, sym, subst}
-use Rattle.grasp_types.specs.Prefix.{AddressBlock as Prefix, IsPrefix}
+use Rattle.std.proofs.Common.{◌-◌, ◌^◌, sym, subst, bit_and, bit_xor}
+use Rattle.grasp_types.specs.Prefix.{IsPrefix}
 use Rattle.grasp_pool.specs.Spans.{size}
-use Rattle.grasp_pool.specs.Parts.{AreHalves}
-use Rattle.grasp_pool.specs.Functions.{parent_of, buddy_of}
-use Rattle.grasp_pool.proofs.Buddies.{size_small, offset_small, are_halves, buddy_valid, buddy_fits, of_three}
+use Rattle.grasp_pool.proofs.Buddies.{are_halves, buddy_valid, of_three, parent_bits, buddy_bits, parent_made, buddy_made}
 use Rattle.grasp_pool.proofs.halves.halves_of.Goals as goal
-
-pub overflow_add-offset : goal.overflow_add-offset
-overflow_add-offset c =
-    let e : c.size_of-half.result ≡ size c.args.prefix = c.size_of-half.ensures.value
-    in let s : size c.args.prefix + size c.args.prefix ≤ 2 ^ 127 = size_small c.args.prefix c.size_of-half.ensures.valid c.requires
-    in search rules
 
 pub prefix_at-parent-requires : goal.prefix_at-parent-requires
 prefix_at-parent-requires c =
     let p = c.args.prefix
-    in of_three (λ h a l. IsPrefix (a - a % (h + h)) (l - 1)) (size p) p.address p.length _ _ _
-    c.size_of-half.ensures.value c.address-address.ensures.value c.length-length.ensures.value (are_halves p c.size_of-half.ensures.valid c.requires).valid
-
-pub overflow_sub-half : goal.overflow_sub-half
-overflow_sub-half c =
-    let p = c.args.prefix
-    in of_three (λ h a l. a % (h + h) ≤ h) (size p) p.address p.length _ _ _
-    c.size_of-half.ensures.value c.address-address.ensures.value c.length-length.ensures.value (offset_small p c.size_of-half.ensures.valid).0
-
-pub overflow_add-start : goal.overflow_add-start
-overflow_add-start c =
-    let p = c.args.prefix
-    in let b : c.address-address.result - c.address-address.result % (c.size_of-half.result + c.size_of-half.result)
-    + (c.size_of-half.result - c.address-address.result % (c.size_of-half.result + c.size_of-half.result)) < 2 ^ 128
-    = of_three (λ h a l. (a - a % (h + h)) + (h - a % (h + h)) < 2 ^ 128) (size p) p.address p.length _ _ _
-    c.size_of-half.ensures.value c.address-address.ensures.value c.length-length.ensures.value (buddy_fits p c.size_of-half.ensures.valid c.requires)
-    in search rules
+    in let v = c.size_of-half.ensures.valid
+    in of_three (λ h a l. IsPrefix (bit_and a (2 ^ 128 - 1 - h)) (l - 1)) (size p) p.address p.length _ _ _
+    c.size_of-half.ensures.value c.address-address.ensures.value c.length-length.ensures.value
+    (subst (λ n. IsPrefix n (p.length - 1)) (sym (parent_bits p v c.requires)) (are_halves p v c.requires).valid)
 
 pub prefix_at-buddy-requires : goal.prefix_at-buddy-requires
 prefix_at-buddy-requires c =
     let p = c.args.prefix
-    in of_three (λ h a l. IsPrefix ((a - a % (h + h)) + (h - a % (h + h))) l) (size p) p.address p.length _ _ _
-    c.size_of-half.ensures.value c.address-address.ensures.value c.length-length.ensures.value (buddy_valid p c.size_of-half.ensures.valid c.requires)
+    in let v = c.size_of-half.ensures.valid
+    in of_three (λ h a l. IsPrefix (bit_xor a h) l) (size p) p.address p.length _ _ _
+    c.size_of-half.ensures.value c.address-address.ensures.value c.length-length.ensures.value
+    (subst (λ n. IsPrefix n p.length) (sym (buddy_bits p v)) (buddy_valid p v c.requires))
 
-pub returns-clause-halves : goal.returns-clause-halves
-returns-clause-halves c =
-    let p = c.args.prefix
-    in let e : c.prefix_at-parent.result ≡ parent_of p = search rules
-    in let f : c.prefix_at-buddy.result ≡ buddy_of p = search rules
-    in subst (λ (x : Prefix). AreHalves p (record { parent = x; buddy = c.prefix_at-buddy.result })) (sym e)
-    (subst (λ (y : Prefix). AreHalves p (record { parent = parent_of p; buddy = y })) (sym f) (are_halves p c.size_of-half.ensures.valid c.requires))
+pub returns-clause-parent : goal.returns-clause-parent
+returns-clause-parent c = parent_made c.args.prefix c.prefix_at-parent.result c.size_of-half.result c.address-address.result c.length-length.result c.size_of-half.ensures.valid c.requires
+    c.size_of-half.ensures.value c.address-address.ensures.value c.length-length.ensures.value c.prefix_at-parent.ensures
+
+pub returns-clause-buddy : goal.returns-clause-buddy
+returns-clause-buddy c = buddy_made c.args.prefix c.prefix_at-buddy.result c.size_of-half.result c.address-address.result c.length-length.result c.size_of-half.ensures.valid
+    c.size_of-half.ensures.value c.address-address.ensures.value c.length-length.ensures.value c.prefix_at-buddy.ensures

@@ -1,5 +1,5 @@
 use Rattle.grasp_pool.specs.Ledger.{last_of}
-use Rattle.grasp_pool.proofs.Runs.{always_sound, sound_authorities, sound_offers, sound_pools, sound_owned}
+use Rattle.grasp_pool.proofs.Runs.{always_sound, sound_authorities, sound_offers, sound_owned}
 use Rattle.grasp_pool.proofs.laws.prefixes_stay_apart.Goals as goal
 
 pub returns-clause-held : goal.returns-clause-held
@@ -12,7 +12,7 @@ pub returns-clause-offers : goal.returns-clause-offers
 returns-clause-offers c = λ l steps start run. sound_offers (last_of l steps) (always_sound l steps start run)
 
 pub returns-clause-pools : goal.returns-clause-pools
-returns-clause-pools c = λ l steps start run. sound_pools (last_of l steps) (always_sound l steps start run)
+returns-clause-pools c = λ l steps start run. (always_sound l steps start run).pools
 
 pub returns-clause-owned : goal.returns-clause-owned
 returns-clause-owned c = λ l steps start run. sound_owned (last_of l steps) (always_sound l steps start run)

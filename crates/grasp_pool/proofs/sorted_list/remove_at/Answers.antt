@@ -1,29 +1,11 @@
-use Rattle.std.proofs.Common.{◌≡◌, ◌<◌, ◌∙◌, ap, arith, length, slice_index_or, Contains, List}
+use Rattle.std.proofs.Common.{rules, ◌≡◌, ◌<◌, ◌∙◌, ap, arith, length, slice_index_or}
 use Rattle.std.proofs.lemmas.List.{get_or_default}
-use Rattle.grasp_pool.proofs.Equal.{removed_is}
-use Rattle.grasp_pool.proofs.Lists.{remove_rising, remove_members}
-use Rattle.grasp_pool.specs.Canonical.{IsRising}
-use Rattle.std.proofs.lemmas.List.Elements.{Contains-get_or}
-use Rattle.std.proofs.Common.{Contains, subst, sym, rules, List}
 use Rattle.grasp_types.specs.Prefix.{AddressBlock as Prefix}
-use Rattle.grasp_pool.specs.Parts.{IsRemoved}
+use Rattle.grasp_pool.proofs.Equal.{remove_is}
 use Rattle.grasp_pool.proofs.sorted_list.remove_at.Goals as goal
 
-pub returns-clause-items : goal.returns-clause-items
-returns-clause-items c = subst (λ (l : List Prefix). IsRemoved c.args.list.now.items l c.remove.result) (sym c.remove.ensures.items)
-    (remove_members c.args.list.now.items c.args.i c.remove.result c.requires.rising (search rules) c.remove.ensures.value)
-
 pub returns-clause-is : goal.returns-clause-is
-returns-clause-is c =
-    let old = c.args.list.now.items
-    in let rising = remove_rising old c.args.i c.requires.rising (search rules) c.remove.result
-    in removed_is old c.remove.new.self.items c.remove.result c.requires.rising (subst (λ (l : List Prefix). IsRising l) (sym c.remove.ensures.items) rising)
-    (subst (λ (x : Prefix). Contains old x) (sym c.remove.ensures.value) (Contains-get_or old c.args.i c.remove.result (search rules))) (returns-clause-items c)
-
-pub returns-clause-rising : goal.returns-clause-rising
-returns-clause-rising c =
-    let rising = remove_rising c.args.list.now.items c.args.i c.requires.rising (search rules) c.remove.result
-    in subst (λ (l : List Prefix). IsRising l) (sym c.remove.ensures.items) rising
+returns-clause-is c = c.remove.ensures.items ∙ remove_is c.args.list.now.items c.args.i c.remove.result c.requires.rising (search rules) c.remove.ensures.value
 
 pub returns-clause-below : goal.returns-clause-below
 returns-clause-below c = λ k d lt.

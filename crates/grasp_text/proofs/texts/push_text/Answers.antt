@@ -10,4 +10,4 @@ loop-byte-preserved c =
     let old : List ℕ = string_bytes c.args.out.now in
     let next : List ℕ = escaped (get_or xs i 0) in
     let more = escaped_more xs i c.loop-byte-test.true in
-    c.in_ok-push_escaped.ensures ∙ ap (λ (x : List ℕ). x ++ next) c.loop-byte.invariant ∙ append_assoc old (32 ∷ 39 ∷ all_escaped (take i xs)) next ∙ ap (λ (x : List ℕ). old ++ 32 ∷ 39 ∷ x) (sym more)
+    c.in_ok-push_escaped.ensures.text ∙ ap (λ (x : List ℕ). x ++ next) c.loop-byte.invariant ∙ append_assoc old (32 ∷ 39 ∷ all_escaped (take i xs)) next ∙ ap (λ (x : List ℕ). old ++ 32 ∷ 39 ∷ x) (sym more)

@@ -1,4 +1,4 @@
-use Rattle.grasp_wire.proofs.EncodedFirst.{fronts}
+use Rattle.grasp_wire.proofs.Wholes.{fronts}
 use Rattle.grasp_wire.proofs.laws.fronts_divide.Goals as goal
 
 pub returns : goal.returns

@@ -1,10 +1,11 @@
-use Rattle.std.proofs.Common.{◌≡◌, ℕ, List, ◌++◌, take}
+use Rattle.std.proofs.Common.{◌≡◌, ◌+◌, ℕ, List, ◌++◌, take}
 use Rattle.grasp_cbor.specs.ItemReader.{reader_limit}
 use Rattle.grasp_wire.specs.ReadOn.{IsOpen}
 use Rattle.grasp_wire.proofs.read_on.read_on.Given as goal
 
 abbrev pub invariant-loop-i : goal.invariant-loop-i
-invariant-loop-i l = record {
+invariant-loop-i g l = record {
   limit : reader_limit l.reader ≡ reader_limit l.fn.reader;
   opened : (bytes : List ℕ) → IsOpen l.fn.reader bytes → IsOpen l.reader (bytes ++ take l.i l.more);
+  steps : l.steps ≡ l.fn.steps + l.i;
 }

@@ -1,8 +1,8 @@
-use Rattle.std.proofs.Common.{rules, ◌≡◌, ◌∙◌, ◌<◌, length, Some, None, sym, ap, subst, slice_get}
+use Rattle.std.proofs.Common.{rules, ◌≡◌, ◌∙◌, ◌<◌, length, true, Some, None, sym, ap, subst, slice_get}
 use Rattle.std.proofs.lemmas.Option.{slice_get_within}
 use Rattle.grasp_agent.specs.Kept.{IsKept}
 use Rattle.grasp_agent.specs.Replies.{after_giver_end}
-use Rattle.grasp_agent.specs.States.{AgentState}
+use Rattle.grasp_agent.specs.States.{AgentState, is_open}
 use Rattle.grasp_agent.specs.Stored.{state_of}
 use Rattle.grasp_agent.proofs.Keeping.{offer_reserved, kept_giver_end}
 use Rattle.grasp_agent.proofs.prefix_agent.PrefixAgent.settle.Goals as goal
@@ -17,10 +17,11 @@ invariant_of-self c =
     let s : AgentState = state_of c.self.inside
     in let at : slice_get s.giving c.args.place ≡ Some c.args.giving = ap (λ (x : AgentState). slice_get x.giving c.args.place) c.self.view_is ∙ c.requires.place
     in let none : s.act ≡ None = ap (λ (x : AgentState). x.act) c.self.view_is ∙ c.requires.none
+    in let serves : is_open s.stage ≡ true = ap (λ (x : AgentState). is_open x.stage) c.self.view_is ∙ c.requires.serves
     in let e : ◌≡◌ {A = AgentState} (record s { pool = c.settle_last.new.pool; giving = c.remove-left.new.self.items }) (after_giver_end s c.args.place c.args.giving c.args.outcome.now)
     = λ i. record s { pool = c.settle_last.ensures i; giving = c.remove-left.ensures.by_index.2 i }
     in record {
-      kept = subst IsKept (sym e) (kept_giver_end s c.args.place c.args.giving c.args.outcome.now none at c.self.invariant.kept);
+      kept = subst IsKept (sym e) (kept_giver_end s c.args.place c.args.giving c.args.outcome.now none at serves c.self.invariant.kept);
       giving = search rules;
       cursor = c.self.invariant.cursor;
     }

@@ -20,3 +20,9 @@ returns-clause-after c =
     let objectives = filter_same _ (λ o. not (is_owned_by c.args.asa o)) _ (λ x b f' k. search rules) _ _ c.retain.ensures.filtered in
     let agents = filter_same _ (λ a. not (is_numbered c.args.asa a)) _ (λ x b f' k. search rules) _ _ c.retain-2.ensures.filtered in
     rw (agents, objectives) (ap (without_agent c.args.asa) c.self.view_is)
+
+pub returns-clause-registry : goal.returns-clause-registry
+returns-clause-registry c =
+    let objectives = filter_same _ (λ o. not (is_owned_by c.args.asa o)) _ (λ x b f' k. search rules) _ _ c.retain.ensures.filtered in
+    let agents = filter_same _ (λ a. not (is_numbered c.args.asa a)) _ (λ x b f' k. search rules) _ _ c.retain-2.ensures.filtered in
+    rw (agents, objectives) (kept_without_agent _ c.args.asa c.self.invariant.registry)

@@ -22,3 +22,8 @@ pub returns-clause-after : goal.returns-clause-after
 returns-clause-after c =
     let objectives = filter_same _ (λ o. not (is_of c.args.asa c.args.name.now o)) _ (λ x b f' k. search rules) _ _ c.retain.ensures.filtered in
     rw objectives (ap (λ r. with_objectives r (filter (λ o. not (is_of c.args.asa c.args.name.now o)) r.objectives)) c.self.view_is)
+
+pub returns-clause-registry : goal.returns-clause-registry
+returns-clause-registry c =
+    let objectives = filter_same _ (λ o. not (is_of c.args.asa c.args.name.now o)) _ (λ x b f' k. search rules) _ _ c.retain.ensures.filtered in
+    rw objectives (kept_with_fewer _ (λ o. not (is_of c.args.asa c.args.name.now o)) c.self.invariant.registry)

@@ -11,3 +11,8 @@ invariant_of-self c =
       agents = omega arith;
       objectives = c.self.invariant.objectives;
     }
+
+pub returns-clause-registry : goal.returns-clause-registry
+returns-clause-registry c =
+    let apart = subst (λ r. is_agent_name r c.args.name ≡ false) (sym c.self.view_is) (sym c.is_agent_name.ensures ∙ c.if-is_agent_name.false) in
+    rw c.in-Ok.ensures.items (kept_with_agent _ c.args.name c.self.invariant.registry (omega arith) (omega arith) apart)

@@ -1,7 +1,7 @@
 use Rattle.std.proofs.Common.{◌≡◌, Some, None, refl, sym, subst}
 use Rattle.std.specs.Prelude.{IsSome}
 use Rattle.std.specs.Map.{lookup}
-use Rattle.grasp_types.specs.Origin.{same_origin}
+use Rattle.grasp_types.specs.Same.{same_origin}
 use Rattle.grasp_discovery.proofs.Memories.{asker_relay, asker_none, OnErr_anyhow}
 use Rattle.grasp_discovery.proofs.discovery.Discovery.asker_of.Goals as goal
 

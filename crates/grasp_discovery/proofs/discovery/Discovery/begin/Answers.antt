@@ -1,18 +1,18 @@
-use Rattle.std.proofs.Common.{◌≡◌, false, sym, ◌∙◌, subst}
-use Rattle.grasp_discovery.specs.Discoveries.{IsSound, is_searching, is_full, with_search}
+use Rattle.std.proofs.Common.{◌≡◌, false, sym, ◌∙◌, subst, arith}
+use Rattle.grasp_discovery.specs.Discoveries.{IsDiscoveries, is_searching, is_full, with_search}
 use Rattle.grasp_discovery.specs.Topic.{topic_of}
 use Rattle.grasp_discovery.proofs.Soundness.{sound_begin}
 use Rattle.grasp_discovery.proofs.discovery.Discovery.begin.Goals as goal
 
 -- with one more search
-more : (c : goal.In-Ok) → IsSound (with_search (record { searches = c.self.inside.searches.items; entries = c.self.inside.entries.entries; memories = c.self.inside.memories.entries }) (record { asa = c.args.asa; topic = topic_of c.args.name c.args.kind; session = c.args.session; end = c.reading_after.result; over = false }))
+more : (c : goal.In-Ok) → IsDiscoveries (with_search (record { searches = c.self.inside.searches.items; entries = c.self.inside.entries.entries; memories = c.self.inside.memories.entries }) (record { asa = c.args.asa; topic = topic_of c.args.name c.args.kind; session = c.args.session; end = c.reading_after.result; over = false }))
 more c =
     let none = subst (λ all. is_searching all c.args.asa (topic_of c.args.name c.args.kind) ≡ false) (sym c.self.view_is) c.requires in
     let room = subst (λ all. is_full all ≡ false) (sym c.self.view_is) (sym c.full.ensures ∙ c.if-full.false) in
-    sound_begin _ _ none room c.self.invariant
+    sound_begin _ _ none room c.self.invariant.all
 
-pub invariant_of-self-2 : goal.invariant_of-self-2
-invariant_of-self-2 c = rw c.in-Ok.ensures.items (more c)
+pub invariant_of-self : goal.invariant_of-self
+invariant_of-self c = record { all = rw c.in-Ok.ensures.items (more c); searches = omega (arith, c.self.invariant.searches, c.in-Ok.ensures.capacity) }
 
 pub returns-clause-sound : goal.returns-clause-sound
 returns-clause-sound c = rw c.in-Ok.ensures.items (more c)

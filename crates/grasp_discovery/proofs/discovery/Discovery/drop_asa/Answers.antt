@@ -1,4 +1,4 @@
-use Rattle.std.proofs.Common.{rules, ◌≡◌, ◌==◌, not, filter}
+use Rattle.std.proofs.Common.{rules, ◌≡◌, ◌==◌, not, filter, arith}
 use Rattle.std.proofs.lemmas.Fn.{filter_same}
 use Rattle.grasp_discovery.proofs.Soundness.{sound_drop}
 use Rattle.grasp_discovery.proofs.discovery.Discovery.drop_asa.Goals as goal
@@ -8,10 +8,14 @@ left : (c : goal.After-retain) → c.retain.new.self.items ≡ filter (λ search
 left c = filter_same _ (λ search. not (search.asa == c.args.asa)) _ (λ x b f' k. search rules) _ _ c.retain.ensures.filtered
 
 pub invariant_of-self : goal.invariant_of-self
-invariant_of-self c = rw (left c) (sound_drop (record { searches = c.self.inside.searches.items; entries = c.self.inside.entries.entries; memories = c.self.inside.memories.entries }) c.args.asa c.self.invariant)
+invariant_of-self c =
+    record {
+      all = rw (left c) (sound_drop (record { searches = c.self.inside.searches.items; entries = c.self.inside.entries.entries; memories = c.self.inside.memories.entries }) c.args.asa c.self.invariant.all);
+      searches = omega (arith, c.self.invariant.searches, c.retain.ensures.capacity);
+    }
 
 pub returns-clause-after : goal.returns-clause-after
 returns-clause-after c = rw (left c, ← c.self.view_is)
 
 pub returns-clause-sound : goal.returns-clause-sound
-returns-clause-sound c = rw (left c) (sound_drop (record { searches = c.self.inside.searches.items; entries = c.self.inside.entries.entries; memories = c.self.inside.memories.entries }) c.args.asa c.self.invariant)
+returns-clause-sound c = rw (left c) (sound_drop (record { searches = c.self.inside.searches.items; entries = c.self.inside.entries.entries; memories = c.self.inside.memories.entries }) c.args.asa c.self.invariant.all)

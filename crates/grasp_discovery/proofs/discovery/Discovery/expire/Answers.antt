@@ -1,4 +1,4 @@
-use Rattle.std.proofs.Common.{rules, ◌≡◌, nat_lt, length, filter, map, sym, ap, ◌∙◌}
+use Rattle.std.proofs.Common.{rules, ◌≡◌, nat_lt, length, filter, map, sym, ap, ◌∙◌, arith}
 use Rattle.std.specs.Vec.{with_items}
 use Rattle.std.proofs.lemmas.List.{with_items_is}
 use Rattle.indexmap.proofs.CallerLemmas.{filter-RetainsPairs}
@@ -20,10 +20,14 @@ memories : (c : goal.After-retain-2) → c.retain-2.new.self.entries ≡ filter 
 memories c = filter-RetainsPairs _ (λ memory. nat_lt c.args.now memory.1.end) _ (λ k v b w g call. search rules) _ _ c.retain-2.ensures.filtered
 
 pub invariant_of-self : goal.invariant_of-self
-invariant_of-self c = rw (searches c, entries c, memories c) (sound_expiry (record { searches = c.self.inside.searches.items; entries = c.self.inside.entries.entries; memories = c.self.inside.memories.entries }) c.args.now c.self.invariant)
+invariant_of-self c =
+    record {
+      all = rw (searches c, entries c, memories c) (sound_expiry (record { searches = c.self.inside.searches.items; entries = c.self.inside.entries.entries; memories = c.self.inside.memories.entries }) c.args.now c.self.invariant.all);
+      searches = omega (arith, c.self.invariant.searches);
+    }
 
 pub returns-clause-after : goal.returns-clause-after
 returns-clause-after c = rw (searches c, entries c, memories c, ← c.self.view_is)
 
 pub returns-clause-sound : goal.returns-clause-sound
-returns-clause-sound c = rw (searches c, entries c, memories c) (sound_expiry (record { searches = c.self.inside.searches.items; entries = c.self.inside.entries.entries; memories = c.self.inside.memories.entries }) c.args.now c.self.invariant)
+returns-clause-sound c = rw (searches c, entries c, memories c) (sound_expiry (record { searches = c.self.inside.searches.items; entries = c.self.inside.entries.entries; memories = c.self.inside.memories.entries }) c.args.now c.self.invariant.all)

@@ -46,7 +46,7 @@ invariant_of-self-2 c =
     let unknown = remembered_is origin c.self.inside.memories.entries _ _ c.contains_key.ensures c.if-contains_key.false in
     let last = c.in_ok-insert.ensures.entries ∙ insert_entry_new origin c.in_ok-memory.memory c.self.inside.memories.entries unknown in
     let room : length c.self.inside.memories.entries < 256 = omega (arith, c.len.ensures.len) in
-    rw last (sound_remember (seen c.self.inside) origin c.in_ok-memory.memory unknown room c.self.invariant)
+    record { all = rw last (sound_remember (seen c.self.inside) origin c.in_ok-memory.memory unknown room c.self.invariant.all); searches = c.self.invariant.searches }
 
 pub returns-clause-reply : goal.returns-clause-reply
 returns-clause-reply c =
@@ -67,4 +67,4 @@ returns-clause-sound c =
     let unknown = remembered_is origin c.self.inside.memories.entries _ _ c.contains_key.ensures c.if-contains_key.false in
     let last = c.in_ok-insert.ensures.entries ∙ insert_entry_new origin c.in_ok-memory.memory c.self.inside.memories.entries unknown in
     let room : length c.self.inside.memories.entries < 256 = omega (arith, c.len.ensures.len) in
-    rw last (sound_remember (seen c.self.inside) origin c.in_ok-memory.memory unknown room c.self.invariant)
+    rw last (sound_remember (seen c.self.inside) origin c.in_ok-memory.memory unknown room c.self.invariant.all)

@@ -1,18 +1,12 @@
-use Rattle.std.proofs.Common.{List, Contains, subst, sym}
+use Rattle.std.proofs.Common.{◌≡◌, ◌<◌, ◌↔◌, ◌∙◌, List, Contains, MatchOption, IsTrue, Bool, length, slice_index_or, ap, subst, sym}
 use Rattle.grasp_types.specs.Prefix.{AddressBlock as Prefix}
 use Rattle.grasp_pool.specs.Holdings.{Holding}
-use Rattle.grasp_pool.proofs.Equal.{has_true, has_false}
+use Rattle.grasp_pool.proofs.Equal.{found_tells}
 use Rattle.grasp_pool.proofs.pool.Pool.is_reserved.Goals as goal
 
-pub returns-in-Some-clause-is : goal.returns-in-Some-clause-is
-returns-in-Some-clause-is c =
-    let found : Contains c.deref.result.now c.args.prefix = (c.in-Some.field-0, c.in-Some.ensures.0, c.in-Some.ensures.1)
-    in let has : Contains c.args.self.now.reserved c.args.prefix
-    = subst (λ (h : Holding). Contains h.reserved c.args.prefix) c.self.view_is (subst (λ (xs : List Prefix). Contains xs c.args.prefix) c.deref.ensures.value found)
-    in sym (has_true c.args.self.now.reserved c.args.prefix has)
-
-pub returns-in-None-clause-is : goal.returns-in-None-clause-is
-returns-in-None-clause-is c =
-    let none : ¬ Contains c.args.self.now.reserved c.args.prefix
-    = subst (λ (h : Holding). ¬ Contains h.reserved c.args.prefix) c.self.view_is (subst (λ (xs : List Prefix). ¬ Contains xs c.args.prefix) c.deref.ensures.value c.in-None.ensures)
-    in sym (has_false c.args.self.now.reserved c.args.prefix none)
+pub returns : goal.returns
+returns c =
+    let p = c.args.prefix
+    in let e : c.deref.result.now ≡ c.args.self.now.reserved = c.deref.ensures.value ∙ ap (λ (h : Holding). h.reserved) c.self.view_is
+    in let found = subst (λ (xs : List Prefix). MatchOption c.find_prefix.result (¬ Contains xs p) (λ i. (i < length xs) × (slice_index_or xs i p ≡ p))) e c.find_prefix.ensures
+    in subst (λ (b : Bool). IsTrue b ↔ Contains c.args.self.now.reserved p) (sym c.is_some.ensures) (found_tells c.args.self.now.reserved p c.find_prefix.result found)

@@ -14,3 +14,6 @@ returns-clause-ok c = λ past s.
     both_ok c.append.result c.append.ensures.ok c.append.ensures.count (λ rest count.
     stands_fed c.args.self.now c.compact.new.self c.append.new.self past c.args.piece.now s none (AllBytes-from c.args.piece.now (λ i. omega (arith, c.type_inv.piece i))) c.compact.ensures.same
     rest count c.append.ensures.limit (c.append.ensures.fault ∙ c.compact.ensures.fault ∙ none))
+
+pub append-requires-clause-open : goal.append-requires-clause-open
+append-requires-clause-open c = c.compact.ensures.fault ∙ none_in c.args.self.now.fault c.is_some.result c.is_some.ensures c.if-is_some.false

@@ -17,13 +17,13 @@ pub say-requires : goal.say-requires
 say-requires c =
     let w = began c.requires.stands.0 (side_of c.args.end) 0 in
     let s = c.begin.ensures c.requires.stands.0 c.requires.stands.1 in
-    (node_at w Near, s.near, said_fits w Near c.args.number (saying_of c.args.saying) s.ran s.named s.begun c.requires.short)
+    (node_at w Near, s.near, said_fits w Near c.args.number (saying_of c.args.saying) s.reached s.named s.begun c.requires.short)
 
 pub say-requires-in-Far : goal.say-requires-in-Far
 say-requires-in-Far c =
     let w = began c.requires.stands.0 (side_of c.args.end) 0 in
     let s = c.begin.ensures c.requires.stands.0 c.requires.stands.1 in
-    (node_at w Far, s.far, said_fits w Far c.args.number (saying_of c.args.saying) s.ran s.named s.begun c.requires.short)
+    (node_at w Far, s.far, said_fits w Far c.args.number (saying_of c.args.saying) s.reached s.named s.begun c.requires.short)
 
 -- what the node answered, and the world after it, at either end
 said_is : (c : Joined-end) (v : WorldState) → Stands c.args.self.now v → c.match-end.said ≡ reply_of (said_at (seat_of (node_at (began v (side_of c.args.end) 0) (side_of c.args.end))) c.args.number (saying_of c.args.saying))

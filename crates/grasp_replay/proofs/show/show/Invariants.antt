@@ -1,5 +1,0 @@
-use Rattle.grasp_replay.proofs.Showing.{HasShown}
-use Rattle.grasp_replay.proofs.show.show.Given as goal
-
-abbrev pub invariant-loop-shown : goal.invariant-loop-shown
-invariant-loop-shown l = HasShown l.limit l.input l.output.items l.cutter l._shown

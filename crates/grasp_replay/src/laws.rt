@@ -1,8 +1,0 @@
-// Laws on what the tasks make. They say nothing at run time.
-ghost use Rattle.grasp_replay.specs.Laws.{TasksAreFunctions, WholeInputsEndWell};
-
-/// A task makes one output of an input, with one status, which is `Ok` where the input is whole.
-pub fn tasks_are_functions()
-    ensures one { TasksAreFunctions }
-    ensures well { WholeInputsEndWell }
-{}

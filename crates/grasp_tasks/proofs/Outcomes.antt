@@ -1,0 +1,58 @@
+-- How the program ends while nothing outside fails.
+use Rattle.std.proofs.Common.{◌≡◌, ◌≢◌, ◌⊎◌, inl, inr, ℕ, List, Option, None, Some, IfSome, refl, sym, subst}
+use Rattle.grasp_tasks.specs.Ending.{IsAfterInput}
+use Rattle.grasp_tasks.specs.Laws.{IsWholeInput}
+use Rattle.grasp_tasks.specs.Task.{Makes, Tells, IsTooLarge, IsBadScript, IsDone, IsOutcome, IsOkOrMemory}
+use Rattle.grasp_tasks.specs.declared.exit.Status.{Status}
+use Rattle.grasp_tasks.specs.declared.exit.Status.TheVariants as status
+use Rattle.grasp_tasks.specs.declared.task.Task.{Task}
+
+-- R and K: the source and the sink failed
+pub record Ends (R K : Type 0) (task : Task) (limit : ℕ) (input before after : Option (List ℕ)) (s : Status) : Type 0 where
+  pub no_usage : s ≢ status.Usage
+  pub read_fault : s ≡ status.ReadFault → R
+  pub write_fault : s ≡ status.WriteFault → K
+  pub too_large : s ≡ status.TooLarge → IfSome input (λ i. IsTooLarge task i)
+  pub small : IsAfterInput s → IfSome input (λ i. ¬ IsTooLarge task i)
+  pub bad_script : (line : ℕ) → s ≡ status.BadScript line → IfSome input (λ i. IsBadScript task i line)
+  pub done : IsDone s → Tells task limit input before after s
+
+made_of : (task : Task) (limit : ℕ) (input : List ℕ) (before after : Option (List ℕ)) (s : Status) → Tells task limit (Some input) before after s → (output : List ℕ) × Makes task limit input output s
+made_of task limit input before after s t = (t.output, subst (λ i. Makes task limit i t.output s) t.told t.makes)
+
+pub ends_as_told : (R K : Type 0) (task : Task) (limit : ℕ) (input before after : Option (List ℕ)) (s : Status) → Ends R K task limit input before after s → ¬ R → ¬ K
+    → IfSome input (λ i. ¬ IsTooLarge task i → IsOutcome task limit i s)
+ends_as_told R K task limit None before after s h r k = tt
+ends_as_told R K task limit (Some input) before after status.Ok h r k = λ small. made_of task limit input before after status.Ok (h.done tt)
+ends_as_told R K task limit (Some input) before after (status.Finding f) h r k = λ small. made_of task limit input before after (status.Finding f) (h.done tt)
+ends_as_told R K task limit (Some input) before after status.Usage h r k = λ small. absurd (h.no_usage refl)
+ends_as_told R K task limit (Some input) before after (status.BadScript line) h r k = λ small. h.bad_script line refl
+ends_as_told R K task limit (Some input) before after status.ReadFault h r k = λ small. absurd (r (h.read_fault refl))
+ends_as_told R K task limit (Some input) before after status.WriteFault h r k = λ small. absurd (k (h.write_fault refl))
+ends_as_told R K task limit (Some input) before after status.OutOfMemory h r k = λ small. tt
+ends_as_told R K task limit (Some input) before after status.TooLarge h r k = λ small. absurd (small (h.too_large refl))
+
+pub ends_too_large : (R K : Type 0) (task : Task) (limit : ℕ) (input before after : Option (List ℕ)) (s : Status) → Ends R K task limit input before after s → ¬ R
+    → IfSome input (λ i. IsTooLarge task i → (s ≡ status.TooLarge) ⊎ (s ≡ status.OutOfMemory))
+ends_too_large R K task limit None before after s h r = tt
+ends_too_large R K task limit (Some input) before after status.Ok h r = λ large. absurd (h.small tt large)
+ends_too_large R K task limit (Some input) before after (status.Finding f) h r = λ large. absurd (h.small tt large)
+ends_too_large R K task limit (Some input) before after status.Usage h r = λ large. absurd (h.no_usage refl)
+ends_too_large R K task limit (Some input) before after (status.BadScript line) h r = λ large. absurd (h.small tt large)
+ends_too_large R K task limit (Some input) before after status.ReadFault h r = λ large. absurd (r (h.read_fault refl))
+ends_too_large R K task limit (Some input) before after status.WriteFault h r = λ large. absurd (h.small tt large)
+ends_too_large R K task limit (Some input) before after status.OutOfMemory h r = λ large. inr refl
+ends_too_large R K task limit (Some input) before after status.TooLarge h r = λ large. inl refl
+
+pub ends_whole : (R K : Type 0) (task : Task) (limit : ℕ) (input before after : Option (List ℕ)) (s : Status) → Ends R K task limit input before after s
+    → (IsDone s → IfSome input (λ i. IsWholeInput task limit i → s ≡ status.Ok)) → ((line : ℕ) → s ≡ status.BadScript line → IfSome input (λ i. ¬ IsWholeInput task limit i)) → ¬ R → ¬ K
+    → IfSome input (λ i. ¬ IsTooLarge task i → IsWholeInput task limit i → IsOkOrMemory s)
+ends_whole R K task limit None before after s h well good r k = tt
+ends_whole R K task limit (Some input) before after status.Ok h well good r k = λ small whole. tt
+ends_whole R K task limit (Some input) before after (status.Finding f) h well good r k = λ small whole. subst IsOkOrMemory (sym (well tt whole)) tt
+ends_whole R K task limit (Some input) before after status.Usage h well good r k = λ small whole. absurd (h.no_usage refl)
+ends_whole R K task limit (Some input) before after (status.BadScript line) h well good r k = λ small whole. absurd (good line refl whole)
+ends_whole R K task limit (Some input) before after status.ReadFault h well good r k = λ small whole. absurd (r (h.read_fault refl))
+ends_whole R K task limit (Some input) before after status.WriteFault h well good r k = λ small whole. absurd (k (h.write_fault refl))
+ends_whole R K task limit (Some input) before after status.OutOfMemory h well good r k = λ small whole. tt
+ends_whole R K task limit (Some input) before after status.TooLarge h well good r k = λ small whole. absurd (small (h.too_large refl))

@@ -1,0 +1,309 @@
+-- What the tasks make of one input, and of whole inputs.
+use Rattle.std.proofs.Common.{◌≡◌, ◌<◌, ◌+◌, ℕ, List, [], ◌∷◌, ◌++◌, Option, None, Some, length, map, refl, sym, ap, ◌∙◌, append-nil, append_assoc, length-append, arith, subst, ◌⊎◌, inl, inr}
+use Rattle.std.specs.List.{All}
+use Rattle.std.proofs.lemmas.List.Elements.{All-head, All-tail}
+use Rattle.grasp_cbor.specs.Bytes.{AllBytes}
+use Rattle.grasp_cbor.specs.Shortest.{shortest}
+use Rattle.grasp_cbor.proofs.HeadBytes.{AllBytes-back}
+use Rattle.grasp_types.specs.Message.{item_of}
+use Rattle.grasp_types.specs.declared.message.Message.{Message}
+use Rattle.grasp_text.specs.Line.{line_of, IsLineOf, CanBegin}
+use Rattle.grasp_text.specs.Place.{IsPlace, IsUnfit}
+use Rattle.grasp_text.specs.Words.{words_of, joined}
+use Rattle.grasp_text.proofs.Lines.{line_one}
+use Rattle.grasp_script.specs.Report.{header_text}
+use Rattle.grasp_script.proofs.Beginnings.{one_script}
+use Rattle.grasp_wire.specs.Laws.{encoded}
+use Rattle.grasp_cbor.specs.declared.walker.FaultName.{FaultName}
+use Rattle.grasp_cbor.specs.declared.walker.FaultName.TheVariants as name
+use Rattle.grasp_wire.specs.Reads.{named}
+use Rattle.grasp_wire.specs.Stream.{Divides, RestKind, waiting, too_long, not_message, faulty, IsRest}
+use Rattle.grasp_wire.specs.Wire.{AreWireForms}
+use Rattle.grasp_world.specs.World.{first_world}
+use Rattle.grasp_wire.proofs.Dividing.{one_division, one_kind}
+use Rattle.grasp_wire.proofs.Joins.{divides_alone, divides_more}
+use Rattle.grasp_wire.proofs.ReadingOn.{nothing_waits}
+use Rattle.grasp_tasks.specs.Laws.{AreLines, IsWholeInput, TasksAreFunctions, WholeInputsEndWell}
+use Rattle.grasp_tasks.specs.Pack.{CanPack, IsRefused, StopsAt, Packs}
+use Rattle.grasp_tasks.specs.Ending.{status_of}
+use Rattle.grasp_tasks.specs.Replay.{reports_from, Replays}
+use Rattle.grasp_tasks.specs.Show.{Shows, shown, truncated, rest_finding}
+use Rattle.grasp_tasks.specs.Task.{ShowMakes, PackMakes, ReplayMakes, Makes, IsOfInput, IsDone, IsUnmade}
+use Rattle.grasp_tasks.specs.declared.exit.Finding.{Finding}
+use Rattle.grasp_tasks.specs.declared.exit.Finding.TheVariants.{Cut, Truncated, BadText, TooLong}
+use Rattle.grasp_tasks.specs.declared.exit.Status.{Status}
+use Rattle.grasp_tasks.specs.declared.exit.Status.TheVariants as status
+use Rattle.grasp_tasks.specs.declared.made.Unmade.{Unmade}
+use Rattle.grasp_tasks.specs.declared.made.Unmade.TheVariants as unmade
+use Rattle.grasp_tasks.specs.declared.task.Task.{Task}
+use Rattle.grasp_tasks.specs.declared.task.Task.TheVariants.{Show, Pack, Replay}
+
+-- a stream divides in one way
+
+same_length : (f g r s t : List ℕ) → t ≡ f ++ r → t ≡ g ++ s → r ≡ s → length f ≡ length g
+same_length f g r s t a b e = omega (arith, ap length a, ap length b, length-append f r, length-append g s, ap length e)
+
+shows_one : (limit : ℕ) (input a b : List ℕ) (f g : Option Finding) → AllBytes input → Shows limit input a f → Shows limit input b g → (a ≡ b) × (f ≡ g)
+shows_one limit input a b f g bytes x y =
+    let one = one_division input limit x.messages y.messages x.rest y.rest x.divides.splits y.divides.splits in
+    let kind_y : IsRest x.rest limit y.kind = subst (λ (r : List ℕ). IsRest r limit y.kind) (sym one.1) y.divides.kind_is in
+    let kinds = one_kind x.rest limit x.kind y.kind (AllBytes-back x.front x.rest (subst AllBytes x.parts bytes)) x.divides.kind_is kind_y in
+    let before = same_length x.front y.front x.rest y.rest input x.parts y.parts one.1 in (
+      x.output_is ∙ ap shown one.0 ∙ sym y.output_is,
+      x.finding_is ∙ ap (λ n. rest_finding n x.rest x.kind) before ∙ ap (λ r. rest_finding (length y.front) r x.kind) one.1 ∙ ap (rest_finding (length y.front) y.rest) kinds ∙ sym y.finding_is,
+    )
+
+divides_whole : (limit : ℕ) (ms : List Message) (s : List ℕ) → 0 < limit → AreWireForms ms s limit → Divides s limit ms [] waiting
+divides_whole limit [] s some forms = subst (λ (t : List ℕ). Divides t limit [] [] waiting) (sym forms) (divides_alone limit [] waiting tt (nothing_waits limit some))
+divides_whole limit (m ∷ ms) s some forms =
+    subst (λ (t : List ℕ). Divides t limit (m ∷ ms) [] waiting) (sym forms.4) (divides_more limit m forms.0 forms.1 ms [] waiting forms.2 (divides_whole limit ms forms.1 some forms.3))
+
+shows_whole : (limit : ℕ) (ms : List Message) (input : List ℕ) → 0 < limit → AreWireForms ms input limit → Shows limit input (shown ms) None
+shows_whole limit ms input some forms = record {
+  messages = ms;
+  front = input;
+  rest = [];
+  kind = waiting;
+  parts = sym (append-nil input);
+  divides = divides_whole limit ms input some forms;
+  output_is = refl;
+  finding_is = refl;
+}
+
+-- a line is bad at one place
+
+begins_less : (a b : List (List ℕ)) → CanBegin (a ++ b) → CanBegin a
+begins_less a b c = record { message = c.message; more = b ++ c.more; whole = c.whole; words = c.words ∙ append_assoc a b c.more }
+
+-- of two parts of one list one begins the other
+pub record Longer (a b : List (List ℕ)) (w : List ℕ) : Type 0 where
+  pub more : List (List ℕ)
+  pub is : b ≡ (a ++ w ∷ []) ++ more
+
+shorter : (a b : List (List ℕ)) (v w : List ℕ) (r s : List (List ℕ)) → a ++ v ∷ r ≡ b ++ w ∷ s → (a ≡ b) ⊎ (Longer a b v ⊎ Longer b a w)
+shorter [] [] v w r s e = inl refl
+shorter [] (y ∷ b) v w r s e = inr (inl (record { more = b; is = cc e }))
+shorter (x ∷ a) [] v w r s e = inr (inr (record { more = a; is = cc e }))
+shorter (x ∷ a) (y ∷ b) v w r s e =
+    let head : x ≡ y = cc e in
+    elim (shorter a b v w r s (cc e)) [
+      | inl same ↦ inl (ap (λ z. z ∷ a) head ∙ ap (λ z. y ∷ z) same)
+      | inr longer ↦ elim longer [
+        | inl l ↦ inr (inl (record { more = l.more; is = ap (λ z. y ∷ z) l.is ∙ ap (λ z. z ∷ ((a ++ v ∷ []) ++ l.more)) (sym head) }))
+        | inr l ↦ inr (inr (record { more = l.more; is = ap (λ z. x ∷ z) l.is ∙ ap (λ z. z ∷ ((b ++ w ∷ []) ++ l.more)) head }))
+      ]
+    ]
+
+too_far : (a b : List (List ℕ)) (v : List ℕ) → Longer a b v → CanBegin b → ¬ CanBegin (a ++ v ∷ []) → ⊥
+too_far a b v l begins none = none (begins_less (a ++ v ∷ []) l.more (subst CanBegin l.is begins))
+
+unfit_one : (words front other : List (List ℕ)) (v w : List ℕ) (r s : List (List ℕ)) → IsUnfit words front v r → IsUnfit words other w s → front ≡ other
+unfit_one words front other v w r s x y =
+    elim (shorter front other v w r s (sym x.parts ∙ y.parts)) [
+      | inl same ↦ same
+      | inr longer ↦ elim longer [
+        | inl l ↦ absurd (too_far front other v l y.before x.none)
+        | inr l ↦ absurd (too_far other front w l x.before y.none)
+      ]
+    ]
+
+rest_behind : (front : List (List ℕ)) (w : List ℕ) (rest words : List (List ℕ)) → words ≡ front ++ w ∷ rest → CanBegin words → CanBegin (front ++ w ∷ [])
+rest_behind front w rest words e begins = begins_less (front ++ w ∷ []) rest (subst CanBegin (e ∙ sym (append_assoc front (w ∷ []) rest)) begins)
+
+place_one : (line : List ℕ) (a b : ℕ) → IsPlace line a → IsPlace line b → a ≡ b
+place_one line a b (inl x) (inl y) = x.place ∙ ap (λ front. length (joined (front ++ [] ∷ []))) (unfit_one (words_of line) x.front y.front x.word y.word x.rest y.rest x.unfit y.unfit) ∙ sym y.place
+place_one line a b (inl x) (inr y) = absurd (x.unfit.none (rest_behind x.front x.word x.rest (words_of line) x.unfit.parts y.before))
+place_one line a b (inr x) (inl y) = absurd (y.unfit.none (rest_behind y.front y.word y.rest (words_of line) y.unfit.parts x.before))
+place_one line a b (inr x) (inr y) = x.place ∙ sym y.place
+
+-- lines are packed in one way
+
+refused_one : (limit : ℕ) (text : List ℕ) (n : ℕ) (f g : Finding) → IsRefused limit text n f → IsRefused limit text n g → f ≡ g
+refused_one limit text n (BadText l a) (BadText m b) x y = ap (λ k. BadText k a) (x.0 ∙ sym y.0) ∙ ap (BadText m) (place_one text a b x.2 y.2)
+refused_one limit text n (BadText l a) (TooLong m) x y = absurd (x.1 y.1.message y.1.is_line)
+refused_one limit text n (TooLong l) (BadText m b) x y = absurd (y.1 x.1.message x.1.is_line)
+refused_one limit text n (TooLong l) (TooLong m) x y = ap TooLong (x.0 ∙ sym y.0)
+refused_one limit text n (BadText l a) (Cut fault) x y = absurd y
+refused_one limit text n (BadText l a) (Truncated at) x y = absurd y
+refused_one limit text n (TooLong l) (Cut fault) x y = absurd y
+refused_one limit text n (TooLong l) (Truncated at) x y = absurd y
+refused_one limit text n (Cut fault) g x y = absurd x
+refused_one limit text n (Truncated at) g x y = absurd x
+
+first_one : (a b : List ℕ) (x y z : List (List ℕ)) → z ≡ a ∷ x → z ≡ b ∷ y → a ≡ b
+first_one a b x y z e f = cc (e, f)
+
+stops_one : (limit k : ℕ) (lines : List (List ℕ)) (f g : Option Finding) → StopsAt limit k lines f → StopsAt limit k lines g → f ≡ g
+stops_one limit k lines None None x y = refl
+stops_one limit k lines None (Some g) x y = absurd (cc (x, y.first))
+stops_one limit k lines (Some f) None x y = absurd (cc (x.first, y))
+stops_one limit k lines (Some f) (Some g) x y =
+    ap Some (refused_one limit x.text (k + 1) f g x.refused (subst (λ (t : List ℕ). IsRefused limit t (k + 1) g) (first_one y.text x.text y.others x.others lines y.first x.first) y.refused))
+
+no_refusal : (limit n : ℕ) (m : Message) (f : Finding) → CanPack limit m → IsRefused limit (line_of m) n f → ⊥
+no_refusal limit n m (BadText l a) can x = x.1 m can.is_line
+no_refusal limit n m (TooLong l) can x =
+    let same : x.1.message ≡ m = line_one (line_of m) x.1.message m x.1.is_line can.is_line in
+    omega (arith, x.1.long, can.sendable.1, ap (λ (y : Message). length (shortest (item_of y))) same)
+no_refusal limit n m (Cut fault) can x = x
+no_refusal limit n m (Truncated at) can x = x
+
+no_stop : (limit k : ℕ) (m : Message) (lines others : List (List ℕ)) (f : Option Finding) → CanPack limit m → lines ≡ line_of m ∷ others → StopsAt limit k lines f → ⊥
+no_stop limit k m lines others None can e x = cc (e, x)
+no_stop limit k m lines others (Some f) can e x =
+    no_refusal limit (k + 1) m f can (subst (λ (t : List ℕ). IsRefused limit t (k + 1) f) (first_one x.text (line_of m) x.others others lines x.first e) x.refused)
+
+packs_same : (limit before k j : ℕ) (ms ns : List Message) (x y : List (List ℕ)) (f g : Option Finding) → All (CanPack limit) ms → All (CanPack limit) ns
+    → map line_of ms ++ x ≡ map line_of ns ++ y → k ≡ before + length ms → j ≡ before + length ns → StopsAt limit k x f → StopsAt limit j y g → (ms ≡ ns) × (f ≡ g)
+packs_same limit before k j [] [] x y f g all_m all_n e is_k is_j a b =
+    (refl, stops_one limit k x f g a (subst (λ (n : ℕ). StopsAt limit n x g) (is_j ∙ sym is_k) (subst (λ (l : List (List ℕ)). StopsAt limit j l g) (sym e) b)))
+packs_same limit before k j [] (n ∷ ns) x y f g all_m all_n e is_k is_j a b = absurd (no_stop limit k n x (map line_of ns ++ y) f (All-head (CanPack limit) n ns all_n) e a)
+packs_same limit before k j (m ∷ ms) [] x y f g all_m all_n e is_k is_j a b = absurd (no_stop limit j m y (map line_of ms ++ x) g (All-head (CanPack limit) m ms all_m) (sym e) b)
+packs_same limit before k j (m ∷ ms) (n ∷ ns) x y f g all_m all_n e is_k is_j a b =
+    let can_m = All-head (CanPack limit) m ms all_m in
+    let can_n = All-head (CanPack limit) n ns all_n in
+    let line : line_of n ≡ line_of m = cc e in
+    let same : m ≡ n = line_one (line_of m) m n can_m.is_line (subst (λ (t : List ℕ). IsLineOf t n) line can_n.is_line) in
+    let others = packs_same limit (before + 1) k j ms ns x y f g (All-tail (CanPack limit) m ms all_m) (All-tail (CanPack limit) n ns all_n) (cc e) (omega (arith, is_k)) (omega (arith, is_j)) a b in
+    (ap (λ z. z ∷ ms) same ∙ ap (λ z. n ∷ z) others.0, others.1)
+
+packs_one : (limit : ℕ) (input a b : List ℕ) (f g : Option Finding) → Packs limit input a f → Packs limit input b g → (a ≡ b) × (f ≡ g)
+packs_one limit input a b f g x y =
+    let one = packs_same limit 0 (length x.messages) (length y.messages) x.messages y.messages x.others y.others f g x.can y.can (sym x.lines ∙ y.lines) (omega arith) (omega arith) x.stops y.stops in
+    (x.output_is ∙ ap encoded one.0 ∙ sym y.output_is, one.1)
+
+packs_whole : (limit : ℕ) (ms : List Message) (input : List ℕ) → AreLines limit input ms → Packs limit input (encoded ms) None
+packs_whole limit ms input l = record { messages = ms; others = []; lines = l.lines ∙ sym (append-nil (map line_of ms)); can = l.can; output_is = refl; stops = refl }
+
+-- a script is run in one way
+
+replays_one : (input a b : List ℕ) → Replays input a → Replays input b → a ≡ b
+replays_one input a b x y = x.output_is ∙ ap (λ ls. header_text ++ reports_from first_world ls) (one_script input x.lines y.lines x.script y.script) ∙ sym y.output_is
+
+-- the status is that of a finding, or of none, of which P holds
+pub record HasFinding (P : Option Finding → Type 0) (s : Status) : Type 0 where
+  pub finding : Option Finding
+  pub is : s ≡ status_of finding
+  pub holds : P finding
+
+show_finding : (limit : ℕ) (input output : List ℕ) (s : Status) → ShowMakes limit input output s → HasFinding (Shows limit input output) s
+show_finding limit input output status.Ok x = record { finding = None; is = refl; holds = x }
+show_finding limit input output (status.Finding f) x = record { finding = Some f; is = refl; holds = x }
+show_finding limit input output status.Usage x = absurd x
+show_finding limit input output (status.BadScript line) x = absurd x
+show_finding limit input output status.ReadFault x = absurd x
+show_finding limit input output status.WriteFault x = absurd x
+show_finding limit input output status.OutOfMemory x = absurd x
+show_finding limit input output status.TooLarge x = absurd x
+
+pack_finding : (limit : ℕ) (input output : List ℕ) (s : Status) → PackMakes limit input output s → HasFinding (Packs limit input output) s
+pack_finding limit input output status.Ok x = record { finding = None; is = refl; holds = x }
+pack_finding limit input output (status.Finding f) x = record { finding = Some f; is = refl; holds = x }
+pack_finding limit input output status.Usage x = absurd x
+pack_finding limit input output (status.BadScript line) x = absurd x
+pack_finding limit input output status.ReadFault x = absurd x
+pack_finding limit input output status.WriteFault x = absurd x
+pack_finding limit input output status.OutOfMemory x = absurd x
+pack_finding limit input output status.TooLarge x = absurd x
+
+-- `replay` ends well
+replay_ok : (input output : List ℕ) (s : Status) → ReplayMakes input output s → (s ≡ status.Ok) × Replays input output
+replay_ok input output status.Ok x = (refl, x)
+replay_ok input output (status.Finding f) x = absurd x
+replay_ok input output status.Usage x = absurd x
+replay_ok input output (status.BadScript line) x = absurd x
+replay_ok input output status.ReadFault x = absurd x
+replay_ok input output status.WriteFault x = absurd x
+replay_ok input output status.OutOfMemory x = absurd x
+replay_ok input output status.TooLarge x = absurd x
+
+same_status : (s t : Status) (f g : Option Finding) → s ≡ status_of f → t ≡ status_of g → f ≡ g → s ≡ t
+same_status s t f g is_s is_t e = is_s ∙ ap status_of e ∙ sym is_t
+
+pub tasks_are_functions : TasksAreFunctions
+tasks_are_functions Show limit input a b s t some bytes x y =
+    let p = show_finding limit input a s x in
+    let q = show_finding limit input b t y in
+    let one = shows_one limit input a b p.finding q.finding bytes p.holds q.holds in
+    (one.0, same_status s t p.finding q.finding p.is q.is one.1)
+tasks_are_functions Pack limit input a b s t some bytes x y =
+    let p = pack_finding limit input a s x in
+    let q = pack_finding limit input b t y in
+    let one = packs_one limit input a b p.finding q.finding p.holds q.holds in
+    (one.0, same_status s t p.finding q.finding p.is q.is one.1)
+tasks_are_functions Replay limit input a b s t some bytes x y =
+    let p = replay_ok input a s x in
+    let q = replay_ok input b t y in
+    (replays_one input a b p.1 q.1, p.0 ∙ sym q.0)
+
+pub whole_inputs_end_well : WholeInputsEndWell
+whole_inputs_end_well Show limit input output ended some bytes whole x =
+    (tasks_are_functions Show limit input output (shown whole.0) ended status.Ok some bytes x (shows_whole limit whole.0 input some whole.1)).1
+whole_inputs_end_well Pack limit input output ended some bytes whole x =
+    (tasks_are_functions Pack limit input output (encoded whole.0) ended status.Ok some bytes x (packs_whole limit whole.0 input whole.1)).1
+whole_inputs_end_well Replay limit input output ended some bytes whole x = (replay_ok input output ended x).0
+
+-- no finding of a task is want of memory
+
+truncated_found : (before : ℕ) (rest : List ℕ) (f : Option Finding) → f ≡ truncated before rest → IsOfInput (status_of f)
+truncated_found before [] f e = rw e tt
+truncated_found before (b ∷ rest) f e = rw e tt
+
+named_found : (fault : FaultName) (place : ℕ) (f : Option Finding) → f ≡ Some (Cut (named fault place)) → IsOfInput (status_of f)
+named_found name.Malformed place f e = rw e tt
+named_found name.NotText place f e = rw e tt
+named_found name.TooDeep place f e = rw e tt
+
+rest_found : (before : ℕ) (rest : List ℕ) (kind : RestKind) (f : Option Finding) → f ≡ rest_finding before rest kind → IsOfInput (status_of f)
+rest_found before rest waiting f e = truncated_found before rest f e
+rest_found before rest too_long f e = rw e tt
+rest_found before rest not_message f e = rw e tt
+rest_found before rest (faulty fault place) f e = named_found fault (before + place) f e
+
+stop_found : (limit k : ℕ) (lines : List (List ℕ)) (f : Option Finding) → StopsAt limit k lines f → IsOfInput (status_of f)
+stop_found limit k lines None x = tt
+stop_found limit k lines (Some (BadText line at)) x = tt
+stop_found limit k lines (Some (TooLong line)) x = tt
+stop_found limit k lines (Some (Cut fault)) x = absurd x.refused
+stop_found limit k lines (Some (Truncated at)) x = tt
+
+pub makes_found : (task : Task) (limit : ℕ) (input output : List ℕ) (s : Status) → Makes task limit input output s → IsOfInput s
+makes_found Show limit input output s x =
+    let p = show_finding limit input output s x in
+    subst IsOfInput (sym p.is) (rest_found (length p.holds.front) p.holds.rest p.holds.kind p.finding p.holds.finding_is)
+makes_found Pack limit input output s x =
+    let p = pack_finding limit input output s x in
+    subst IsOfInput (sym p.is) (stop_found limit (length p.holds.messages) p.holds.others p.finding p.holds.stops)
+makes_found Replay limit input output s x = subst IsOfInput (sym (replay_ok input output s x).0) tt
+
+-- what a task makes is done once it is written
+
+finding_done : (f : Option Finding) → IsDone (status_of f)
+finding_done None = tt
+finding_done (Some f) = tt
+
+pub makes_done : (task : Task) (limit : ℕ) (input output : List ℕ) (s : Status) → Makes task limit input output s → IsDone s
+makes_done Show limit input output s x = let p = show_finding limit input output s x in subst IsDone (sym p.is) (finding_done p.finding)
+makes_done Pack limit input output s x = let p = pack_finding limit input output s x in subst IsDone (sym p.is) (finding_done p.finding)
+makes_done Replay limit input output s x = subst IsDone (sym (replay_ok input output s x).0) tt
+
+-- the status of what `show` found
+pub show_made : (limit : ℕ) (input output : List ℕ) (f : Option Finding) (s : Status) → s ≡ status_of f → Shows limit input output f → ShowMakes limit input output s
+show_made limit input output None s is x = rw is x
+show_made limit input output (Some f) s is x = rw is x
+
+-- what is made of a whole input ends well
+
+pub made_whole : (task named : Task) (limit : ℕ) (input output : List ℕ) (s : Status) → 0 < limit → AllBytes input → task ≡ named → Makes named limit input output s
+    → IsWholeInput task limit input → s ≡ status.Ok
+made_whole task named limit input output s some bytes is makes whole = whole_inputs_end_well named limit input output s some bytes (subst (λ (t : Task). IsWholeInput t limit input) is whole) makes
+
+-- a whole input is made something of, unless memory is wanted
+pub whole_made : (task : Task) (limit : ℕ) (input : List ℕ) (u : Unmade) → IsUnmade task input u → IsWholeInput task limit input → u ≡ unmade.OutOfMemory
+whole_made task limit input unmade.OutOfMemory x whole = refl
+whole_made Show limit input unmade.TooLarge x whole = absurd x
+whole_made Pack limit input unmade.TooLarge x whole = absurd x
+whole_made Replay limit input unmade.TooLarge x whole = let few = whole.1.few in absurd (omega (arith, x, few))
+whole_made Show limit input (unmade.BadScript line) x whole = absurd x.0
+whole_made Pack limit input (unmade.BadScript line) x whole = absurd x.0
+whole_made Replay limit input (unmade.BadScript line) x whole = absurd (x.0.1 whole.0 whole.1.script)

@@ -1,0 +1,10 @@
+pub mod Ending
+pub mod Finish
+pub mod Laws
+pub mod Limits
+pub mod Pack
+pub mod Replay
+pub mod Show
+pub mod Step
+pub mod Task
+pub mod Words

@@ -1,0 +1,161 @@
+-- What the program is asked for, and what comes of it.
+use Rattle.std.specs.Prelude.{◌≡◌, ◌<◌, ◌⊎◌, if◌then◌else◌, ℕ, List, [], ◌∷◌, Option, None, Some, IfSome, codes, bytes_eq, length, ⊤}
+use Rattle.std.specs.Io.KnownBytes.{Appends}
+use Rattle.grasp_io.specs.Known.{AppendsFront}
+use Rattle.grasp_script.specs.Script.{lines_of, IsBadLine, IsNoScript}
+use Rattle.grasp_tasks.specs.Pack.{Packs}
+use Rattle.grasp_tasks.specs.Replay.{Replays}
+use Rattle.grasp_tasks.specs.Show.{Shows}
+use Rattle.grasp_wire.specs.declared.fault.CutFault.TheVariants as cut
+use Rattle.grasp_tasks.specs.declared.exit.Finding.TheVariants as finding
+use Rattle.grasp_tasks.specs.declared.exit.Status.{Status}
+use Rattle.grasp_tasks.specs.declared.exit.Status.TheVariants as status
+use Rattle.grasp_tasks.specs.declared.made.Unmade.{Unmade}
+use Rattle.grasp_tasks.specs.declared.made.Unmade.TheVariants as unmade
+use Rattle.grasp_tasks.specs.Limits.{input_limit, line_limit}
+use Rattle.grasp_tasks.specs.declared.task.Task.{Task}
+use Rattle.grasp_tasks.specs.declared.task.Task.TheVariants.{Show, Pack, Replay}
+
+-- what one word asks for
+abbrev pub task_named : List ℕ → Option Task
+task_named word =
+    if bytes_eq word (codes "show") then Some Show else if bytes_eq word (codes "pack") then Some Pack else if bytes_eq word (codes "replay") then Some Replay else None
+
+-- what the words ask for: one word does
+abbrev pub task_of : List (List ℕ) → Option Task
+task_of [] = None
+task_of (word ∷ []) = task_named word
+task_of (word ∷ other ∷ words) = None
+
+-- what `show` makes of an input: all of it, or up to a finding
+abbrev pub ShowMakes : ℕ → List ℕ → List ℕ → Status → Type 0
+ShowMakes limit input output status.Ok = Shows limit input output None
+ShowMakes limit input output (status.Finding finding) = Shows limit input output (Some finding)
+ShowMakes limit input output status.Usage = ⊥
+ShowMakes limit input output (status.BadScript line) = ⊥
+ShowMakes limit input output status.ReadFault = ⊥
+ShowMakes limit input output status.WriteFault = ⊥
+ShowMakes limit input output status.OutOfMemory = ⊥
+ShowMakes limit input output status.TooLarge = ⊥
+
+-- what `pack` makes of an input: all of it, or up to a finding
+abbrev pub PackMakes : ℕ → List ℕ → List ℕ → Status → Type 0
+PackMakes limit input output status.Ok = Packs limit input output None
+PackMakes limit input output (status.Finding finding) = Packs limit input output (Some finding)
+PackMakes limit input output status.Usage = ⊥
+PackMakes limit input output (status.BadScript line) = ⊥
+PackMakes limit input output status.ReadFault = ⊥
+PackMakes limit input output status.WriteFault = ⊥
+PackMakes limit input output status.OutOfMemory = ⊥
+PackMakes limit input output status.TooLarge = ⊥
+
+-- what `replay` makes of an input: all of it
+abbrev pub ReplayMakes : List ℕ → List ℕ → Status → Type 0
+ReplayMakes input output status.Ok = Replays input output
+ReplayMakes input output (status.Finding finding) = ⊥
+ReplayMakes input output status.Usage = ⊥
+ReplayMakes input output (status.BadScript line) = ⊥
+ReplayMakes input output status.ReadFault = ⊥
+ReplayMakes input output status.WriteFault = ⊥
+ReplayMakes input output status.OutOfMemory = ⊥
+ReplayMakes input output status.TooLarge = ⊥
+
+-- what the task makes of an input: the output, and the status with which the program ends once it is written
+abbrev pub Makes : Task → ℕ → List ℕ → List ℕ → Status → Type 0
+Makes Show limit input output ended = ShowMakes limit input output ended
+Makes Pack limit input output ended = PackMakes limit input output ended
+Makes Replay limit input output ended = ReplayMakes input output ended
+
+-- the input is to be run as a script, and has more lines than one may have
+abbrev pub HasTooManyLines : Task → List ℕ → Type 0
+HasTooManyLines Show input = ⊥
+HasTooManyLines Pack input = ⊥
+HasTooManyLines Replay input = line_limit < length (lines_of input)
+
+-- the input has too many bytes, or too many lines
+abbrev pub IsTooLarge : Task → List ℕ → Type 0
+IsTooLarge task input = (input_limit < length input) ⊎ HasTooManyLines task input
+
+-- the input is to be run as a script, and is none: this line is bad
+abbrev pub IsBadScript : Task → List ℕ → ℕ → Type 0
+IsBadScript Show input line = ⊥
+IsBadScript Pack input line = ⊥
+IsBadScript Replay input line = IsBadLine input line × IsNoScript input
+
+-- why the task makes nothing of the input
+abbrev pub IsUnmade : Task → List ℕ → Unmade → Type 0
+IsUnmade task input unmade.TooLarge = HasTooManyLines task input
+IsUnmade task input (unmade.BadScript line) = IsBadScript task input line × ¬ HasTooManyLines task input
+IsUnmade task input unmade.OutOfMemory = ⊤
+
+-- some input, which is what was left to read where that is told, was read; what the task makes of it was written after
+-- what was written before, and nothing else, where that is told
+pub record Tells (task : Task) (limit : ℕ) (left before after : Option (List ℕ)) (ended : Status) : Type 0 where
+  pub input : List ℕ
+  pub told : IfSome left (λ all. input ≡ all)
+  pub output : List ℕ
+  pub makes : Makes task limit input output ended
+  pub written : Appends before after output
+
+-- the same, but only a beginning of the output was written
+pub record BeginsToTell (task : Task) (limit : ℕ) (left before after : Option (List ℕ)) : Type 0 where
+  pub input : List ℕ
+  pub told : IfSome left (λ all. input ≡ all)
+  pub output : List ℕ
+  pub ended : Status
+  pub makes : Makes task limit input output ended
+  pub written : AppendsFront before after output
+
+-- what was left, where it is told, was read to its end
+abbrev pub IsReadToEnd : Option (List ℕ) → Option (List ℕ) → Type 0
+IsReadToEnd None after = ⊤
+IsReadToEnd (Some input) after = after ≡ Some []
+
+-- a finding isn't want of memory
+abbrev pub IsOfInput : Status → Type 0
+IsOfInput (status.Finding (finding.Cut cut.OutOfMemory)) = ⊥
+IsOfInput (status.Finding (finding.Cut fault)) = ⊤
+IsOfInput (status.Finding (finding.Truncated at)) = ⊤
+IsOfInput (status.Finding (finding.BadText line at)) = ⊤
+IsOfInput (status.Finding (finding.TooLong line)) = ⊤
+IsOfInput status.Ok = ⊤
+IsOfInput status.Usage = ⊤
+IsOfInput (status.BadScript line) = ⊤
+IsOfInput status.ReadFault = ⊤
+IsOfInput status.WriteFault = ⊤
+IsOfInput status.OutOfMemory = ⊤
+IsOfInput status.TooLarge = ⊤
+
+-- all was read, and all that the task makes of it was written
+abbrev pub IsDone : Status → Type 0
+IsDone status.Ok = ⊤
+IsDone (status.Finding finding) = ⊤
+IsDone status.Usage = ⊥
+IsDone (status.BadScript line) = ⊥
+IsDone status.ReadFault = ⊥
+IsDone status.WriteFault = ⊥
+IsDone status.OutOfMemory = ⊥
+IsDone status.TooLarge = ⊥
+
+-- How the task ends on an input within the program's limits while nothing outside fails: with what it makes of the
+-- input, at the bad line of what is no script, or by want of memory.
+abbrev pub IsOutcome : Task → ℕ → List ℕ → Status → Type 0
+IsOutcome task limit input status.Ok = (output : List ℕ) × Makes task limit input output status.Ok
+IsOutcome task limit input (status.Finding finding) = (output : List ℕ) × Makes task limit input output (status.Finding finding)
+IsOutcome task limit input (status.BadScript line) = IsBadScript task input line
+IsOutcome task limit input status.OutOfMemory = ⊤
+IsOutcome task limit input status.Usage = ⊥
+IsOutcome task limit input status.ReadFault = ⊥
+IsOutcome task limit input status.WriteFault = ⊥
+IsOutcome task limit input status.TooLarge = ⊥
+
+-- it ended well, or wanted memory
+abbrev pub IsOkOrMemory : Status → Type 0
+IsOkOrMemory status.Ok = ⊤
+IsOkOrMemory status.OutOfMemory = ⊤
+IsOkOrMemory (status.Finding finding) = ⊥
+IsOkOrMemory status.Usage = ⊥
+IsOkOrMemory (status.BadScript line) = ⊥
+IsOkOrMemory status.ReadFault = ⊥
+IsOkOrMemory status.WriteFault = ⊥
+IsOkOrMemory status.TooLarge = ⊥

@@ -1,0 +1,24 @@
+//! The tasks of the tool for GRASP (RFC 8990): `show` writes a line for each message of a stream, `pack` a message for
+//! each line, and `replay` what each event of a script of two nodes comes to. One call, `replay_main`, does all of it over
+//! any source and sink.
+#![tactic(auto)]
+
+mod ending;
+mod exit;
+mod laws;
+mod lines;
+mod made;
+mod pack;
+mod program;
+mod replay;
+mod show;
+mod task;
+#[cfg(test)]
+mod tests;
+mod words;
+
+pub use ending::{finish, print_text};
+pub use exit::{Finding, Status, fault_line};
+pub use laws::tasks_are_functions;
+pub use program::replay_main;
+pub use words::{Text, text_for};

@@ -1,0 +1,134 @@
+// The program's one call.
+ghost use Rattle.std.specs.Prelude.{◌≡◌, ◌≢◌, ◌≤◌, ◌⊎◌, ℕ, [], Some, None, map, length, string_bytes, IfOk, IfErr, IfSome, IsSome};
+ghost use Rattle.grasp_io.specs.Faults.{Rose};
+ghost use Rattle.grasp_tasks.specs.Ending.{IsAfterInput};
+ghost use Rattle.grasp_tasks.specs.Laws.{IsWholeInput};
+ghost use Rattle.grasp_tasks.specs.Limits.{input_limit, message_limit};
+ghost use Rattle.grasp_tasks.specs.Task.{task_of, Makes, Tells, BeginsToTell, IsReadToEnd, IsDone, IsOfInput, HasTooManyLines, IsTooLarge, IsBadScript, IsUnmade, IsOutcome, IsOkOrMemory};
+ghost use Rattle.grasp_tasks.specs.declared.task.Task.{Task};
+
+use crate::exit::Status;
+use crate::made::{Made, Unmade};
+use crate::pack::pack;
+use crate::replay::replay_script;
+use crate::show::show;
+use crate::task::{Task, task_of};
+use grasp_io::{ReadError, Sink, Source, read_all, write_all};
+use std::alloc::Global;
+
+/// The most bytes that the input may have.
+const INPUT_LIMIT: u64 = 16_777_216;
+
+/// The most bytes that a message may have.
+const MESSAGE_LIMIT: u32 = 2048;
+
+/// Does what the words ask for, and says how it ended.
+///
+/// `show` reads the source to its end and writes a line for each message of the stream that it gives. `pack` reads lines
+/// and writes the shortest encoding of the message of each. Where the input is wrong at some place, the status is the
+/// finding, and all that comes before that place was written. `replay` reads a script, runs it in a world of two nodes,
+/// and writes the reports of its events. Where the input is no script, the status is `BadScript`, and nothing was
+/// written. `OutOfMemory` may come wherever memory is wanted; then nothing was written.
+pub fn replay_main<S: Source, K: Sink>(
+    alloc: Global,
+    words: &[String],
+    source: &mut S,
+    sink: &mut K,
+) -> Status
+    // The words come first: where they are no task, nothing is touched.
+    ensures usage { task_of (map string_bytes words.now) ≡ None → result ≡ Status.Usage }
+    ensures no_usage { IsSome (task_of (map string_bytes words.now)) → result ≢ Status.Usage }
+    ensures unread { result ≡ Status.Usage → source.new ≡ source.old }
+
+    // Then the input is read to its end, at most 16,777,216 bytes. Then its lines are counted: for `replay` they are at
+    // most 200,000.
+    ensures read_fault { result ≡ Status.ReadFault → Rose (S.faults source.old) (S.faults source.new) }
+    ensures too_large { (task : Task) → task_of (map string_bytes words.now) ≡ Some task → result ≡ Status.TooLarge
+        → IfSome (S.left source.old) (λ input. IsTooLarge task input) }
+    ensures small { (task : Task) → task_of (map string_bytes words.now) ≡ Some task → IsAfterInput result
+        → IfSome (S.left source.old) (λ input. ¬ IsTooLarge task input) }
+    ensures read_to_end { IsAfterInput result → IsReadToEnd (S.left source.old) (S.left source.new) }
+    ensures read_all_lines { result ≡ Status.TooLarge
+        → IfSome (S.left source.old) (λ input. length input ≤ input_limit → S.left source.new ≡ Some []) }
+
+    // Then a script is read: where the input is none, its bad line is told.
+    ensures bad_script { (task : Task) (line : ℕ) → task_of (map string_bytes words.now) ≡ Some task → result ≡ Status.BadScript line
+        → IfSome (S.left source.old) (λ input. IsBadScript task input line) }
+
+    // Then what the task makes of the input is written: all of it, up to the finding.
+    ensures done { (task : Task) → task_of (map string_bytes words.now) ≡ Some task → IsDone result
+        → Tells task message_limit (S.left source.old) (K.written sink.old) (K.written sink.new) result }
+    ensures of_input { IsOfInput result }
+    ensures write_fault { result ≡ Status.WriteFault → Rose (K.faults sink.old) (K.faults sink.new) }
+    ensures begun { (task : Task) → task_of (map string_bytes words.now) ≡ Some task → result ≡ Status.WriteFault
+        → BeginsToTell task message_limit (S.left source.old) (K.written sink.old) (K.written sink.new) }
+    ensures unwritten { ¬ IsDone result → result ≢ Status.WriteFault → sink.new ≡ sink.old }
+
+    // Where nothing outside fails, the input alone decides, unless memory is wanted.
+    ensures complete { (task : Task) → task_of (map string_bytes words.now) ≡ Some task
+        → ¬ Rose (S.faults source.old) (S.faults source.new) → ¬ Rose (K.faults sink.old) (K.faults sink.new)
+        → IfSome (S.left source.old) (λ input. ¬ IsTooLarge task input → IsOutcome task message_limit input result) }
+    ensures complete_whole { (task : Task) → task_of (map string_bytes words.now) ≡ Some task
+        → ¬ Rose (S.faults source.old) (S.faults source.new) → ¬ Rose (K.faults sink.old) (K.faults sink.new)
+        → IfSome (S.left source.old) (λ input. ¬ IsTooLarge task input → IsWholeInput task message_limit input → IsOkOrMemory result) }
+    ensures complete_large { (task : Task) → task_of (map string_bytes words.now) ≡ Some task → ¬ Rose (S.faults source.old) (S.faults source.new)
+        → IfSome (S.left source.old) (λ input. IsTooLarge task input → (result ≡ Status.TooLarge) ⊎ (result ≡ Status.OutOfMemory)) }
+{
+    match task_of(words) {
+        Some(task) => run(alloc, task, source, sink),
+        None => Status::Usage,
+    }
+}
+
+/// Reads the source to its end, and writes what the task makes of it.
+fn run<S: Source, K: Sink>(alloc: Global, task: Task, source: &mut S, sink: &mut K) -> Status
+    ensures no_usage { result ≢ Status.Usage }
+    ensures read_fault { result ≡ Status.ReadFault → Rose (S.faults source.old) (S.faults source.new) }
+    ensures too_large { result ≡ Status.TooLarge → IfSome (S.left source.old) (λ input. IsTooLarge task input) }
+    ensures small { IsAfterInput result → IfSome (S.left source.old) (λ input. ¬ IsTooLarge task input) }
+    ensures read_to_end { IsAfterInput result → IsReadToEnd (S.left source.old) (S.left source.new) }
+    ensures read_all_lines { result ≡ Status.TooLarge
+        → IfSome (S.left source.old) (λ input. length input ≤ input_limit → S.left source.new ≡ Some []) }
+    ensures bad_script { (line : ℕ) → result ≡ Status.BadScript line → IfSome (S.left source.old) (λ input. IsBadScript task input line) }
+    ensures done { IsDone result → Tells task message_limit (S.left source.old) (K.written sink.old) (K.written sink.new) result }
+    ensures of_input { IsOfInput result }
+    ensures write_fault { result ≡ Status.WriteFault → Rose (K.faults sink.old) (K.faults sink.new) }
+    ensures begun { result ≡ Status.WriteFault → BeginsToTell task message_limit (S.left source.old) (K.written sink.old) (K.written sink.new) }
+    ensures unwritten { ¬ IsDone result → result ≢ Status.WriteFault → sink.new ≡ sink.old }
+    ensures whole { IsDone result → IfSome (S.left source.old) (λ input. IsWholeInput task message_limit input → result ≡ Status.Ok) }
+    ensures good { (line : ℕ) → result ≡ Status.BadScript line → IfSome (S.left source.old) (λ input. ¬ IsWholeInput task message_limit input) }
+{
+    let input = match read_all(alloc, source, INPUT_LIMIT) {
+        Ok(input) => input,
+        Err(ReadError::Fault) => return Status::ReadFault,
+        Err(ReadError::TooLarge) => return Status::TooLarge,
+        Err(ReadError::OutOfMemory) => return Status::OutOfMemory,
+    };
+    let made = match make(alloc, task, &input) {
+        Ok(made) => made,
+        Err(Unmade::TooLarge) => return Status::TooLarge,
+        Err(Unmade::BadScript { line }) => return Status::BadScript { line },
+        Err(Unmade::OutOfMemory) => return Status::OutOfMemory,
+    };
+    match write_all(sink, &made.output) {
+        Ok(()) => made.status,
+        Err(_) => Status::WriteFault,
+    }
+}
+
+/// What the task makes of the input.
+fn make(alloc: Global, task: Task, input: &[u8]) -> Result<Made, Unmade>
+    ensures made { IfOk result (λ made. Makes task message_limit input.now made.output.items made.status) }
+    ensures done { IfOk result (λ made. IsDone made.status) }
+    ensures of_input { IfOk result (λ made. IsOfInput made.status) }
+    ensures whole { IfOk result (λ made. IsWholeInput task message_limit input.now → made.status ≡ Status.Ok) }
+    ensures few { IfOk result (λ made. ¬ HasTooManyLines task input.now) }
+    ensures unmade { IfErr result (λ unmade. IsUnmade task input.now unmade) }
+    ensures good { IfErr result (λ unmade. IsWholeInput task message_limit input.now → unmade ≡ Unmade.OutOfMemory) }
+{
+    match task {
+        Task::Show => Ok(show(alloc, input, MESSAGE_LIMIT)?),
+        Task::Pack => Ok(pack(alloc, input, MESSAGE_LIMIT)?),
+        Task::Replay => replay_script(alloc, input),
+    }
+}

@@ -1,0 +1,38 @@
+// What the program is asked for.
+ghost use Rattle.std.specs.Prelude.{◌≡◌, map, string_bytes};
+ghost use Rattle.grasp_tasks.specs.Task.{task_of, task_named};
+
+/// A form of the program's call.
+#[derive(Clone, Copy, Debug, PartialEq, Eq)]
+pub enum Task {
+    /// Write a line for each message of a stream.
+    Show,
+    /// Write the message of each line.
+    Pack,
+    /// Run a script, and write what each of its events comes to.
+    Replay,
+}
+
+/// What the words after the program's name ask for.
+pub fn task_of(words: &[String]) -> Option<Task>
+    ensures { result ≡ task_of (map string_bytes words.now) }
+{
+    match words {
+        [word] => task_named(word.as_str()),
+        _ => None,
+    }
+}
+
+fn task_named(word: &str) -> Option<Task>
+    ensures { result ≡ task_named word.now }
+{
+    if word == "show" {
+        Some(Task::Show)
+    } else if word == "pack" {
+        Some(Task::Pack)
+    } else if word == "replay" {
+        Some(Task::Replay)
+    } else {
+        None
+    }
+}

@@ -1,0 +1,4 @@
+use Rattle.grasp_wire.proofs.one.decode_one.Given as goal
+
+abbrev pub ghosts-first_in : goal.ghosts-first_in
+ghosts-first_in a = record { name = a.blank.name; parts = a.blank.parts }

@@ -1,5 +1,0 @@
-use Rattle.grasp_world.proofs.Wholes.{whole_fronts, given_whole}
-use Rattle.grasp_world.proofs.laws.cutters_give_whole.Goals as goal
-
-pub returns : goal.returns
-returns c = record { divide = whole_fronts; give = given_whole }
