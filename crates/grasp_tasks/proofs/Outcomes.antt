@@ -6,6 +6,7 @@ use Rattle.grasp_tasks.specs.Task.{Makes, Tells, IsTooLarge, IsBadScript, IsDone
 use Rattle.grasp_tasks.specs.declared.exit.Status.{Status}
 use Rattle.grasp_tasks.specs.declared.exit.Status.TheVariants as status
 use Rattle.grasp_tasks.specs.declared.task.Task.{Task}
+use Rattle.grasp_tasks.proofs.Tasks.{no_bad_line}
 
 -- R and K: the source and the sink failed
 pub record Ends (R K : Type 0) (task : Task) (limit : ℕ) (input before after : Option (List ℕ)) (s : Status) : Type 0 where
@@ -45,14 +46,14 @@ ends_too_large R K task limit (Some input) before after status.OutOfMemory h r =
 ends_too_large R K task limit (Some input) before after status.TooLarge h r = λ large. inl refl
 
 pub ends_whole : (R K : Type 0) (task : Task) (limit : ℕ) (input before after : Option (List ℕ)) (s : Status) → Ends R K task limit input before after s
-    → (IsDone s → IfSome input (λ i. IsWholeInput task limit i → s ≡ status.Ok)) → ((line : ℕ) → s ≡ status.BadScript line → IfSome input (λ i. ¬ IsWholeInput task limit i)) → ¬ R → ¬ K
+    → (IsDone s → IfSome input (λ i. IsWholeInput task limit i → s ≡ status.Ok)) → ¬ R → ¬ K
     → IfSome input (λ i. ¬ IsTooLarge task i → IsWholeInput task limit i → IsOkOrMemory s)
-ends_whole R K task limit None before after s h well good r k = tt
-ends_whole R K task limit (Some input) before after status.Ok h well good r k = λ small whole. tt
-ends_whole R K task limit (Some input) before after (status.Finding f) h well good r k = λ small whole. subst IsOkOrMemory (sym (well tt whole)) tt
-ends_whole R K task limit (Some input) before after status.Usage h well good r k = λ small whole. absurd (h.no_usage refl)
-ends_whole R K task limit (Some input) before after (status.BadScript line) h well good r k = λ small whole. absurd (good line refl whole)
-ends_whole R K task limit (Some input) before after status.ReadFault h well good r k = λ small whole. absurd (r (h.read_fault refl))
-ends_whole R K task limit (Some input) before after status.WriteFault h well good r k = λ small whole. absurd (k (h.write_fault refl))
-ends_whole R K task limit (Some input) before after status.OutOfMemory h well good r k = λ small whole. tt
-ends_whole R K task limit (Some input) before after status.TooLarge h well good r k = λ small whole. absurd (small (h.too_large refl))
+ends_whole R K task limit None before after s h well r k = tt
+ends_whole R K task limit (Some input) before after status.Ok h well r k = λ small whole. tt
+ends_whole R K task limit (Some input) before after (status.Finding f) h well r k = λ small whole. subst IsOkOrMemory (sym (well tt whole)) tt
+ends_whole R K task limit (Some input) before after status.Usage h well r k = λ small whole. absurd (h.no_usage refl)
+ends_whole R K task limit (Some input) before after (status.BadScript line) h well r k = λ small whole. absurd (no_bad_line task limit input line (h.bad_script line refl) whole)
+ends_whole R K task limit (Some input) before after status.ReadFault h well r k = λ small whole. absurd (r (h.read_fault refl))
+ends_whole R K task limit (Some input) before after status.WriteFault h well r k = λ small whole. absurd (k (h.write_fault refl))
+ends_whole R K task limit (Some input) before after status.OutOfMemory h well r k = λ small whole. tt
+ends_whole R K task limit (Some input) before after status.TooLarge h well r k = λ small whole. absurd (small (h.too_large refl))

@@ -1,5 +1,5 @@
 -- What the tasks make of one input, and of whole inputs.
-use Rattle.std.proofs.Common.{◌≡◌, ◌<◌, ◌+◌, ℕ, List, [], ◌∷◌, ◌++◌, Option, None, Some, length, map, refl, sym, ap, ◌∙◌, append-nil, append_assoc, length-append, arith, subst, ◌⊎◌, inl, inr}
+use Rattle.std.proofs.Common.{◌≡◌, ◌<◌, ◌+◌, ℕ, List, [], ◌∷◌, ◌++◌, Option, None, Some, Result, Ok, Err, IfOk, length, map, refl, sym, ap, ◌∙◌, append-nil, append_assoc, length-append, arith, subst, ◌⊎◌, inl, inr}
 use Rattle.std.specs.List.{All}
 use Rattle.std.proofs.lemmas.List.Elements.{All-head, All-tail}
 use Rattle.grasp_cbor.specs.Bytes.{AllBytes}
@@ -28,15 +28,15 @@ use Rattle.grasp_tasks.specs.Pack.{CanPack, IsRefused, StopsAt, Packs}
 use Rattle.grasp_tasks.specs.Ending.{status_of}
 use Rattle.grasp_tasks.specs.Replay.{reports_from, Replays}
 use Rattle.grasp_tasks.specs.Show.{Shows, shown, truncated, rest_finding}
-use Rattle.grasp_tasks.specs.Task.{ShowMakes, PackMakes, ReplayMakes, Makes, IsOfInput, IsDone, IsUnmade}
+use Rattle.grasp_tasks.specs.Task.{ShowMakes, PackMakes, ReplayMakes, Makes, IsOfInput, IsDone, IsBadScript}
+use Rattle.grasp_tasks.specs.Written.{Writes}
 use Rattle.grasp_tasks.specs.declared.exit.Finding.{Finding}
 use Rattle.grasp_tasks.specs.declared.exit.Finding.TheVariants.{Cut, Truncated, BadText, TooLong}
 use Rattle.grasp_tasks.specs.declared.exit.Status.{Status}
 use Rattle.grasp_tasks.specs.declared.exit.Status.TheVariants as status
-use Rattle.grasp_tasks.specs.declared.made.Unmade.{Unmade}
-use Rattle.grasp_tasks.specs.declared.made.Unmade.TheVariants as unmade
 use Rattle.grasp_tasks.specs.declared.task.Task.{Task}
 use Rattle.grasp_tasks.specs.declared.task.Task.TheVariants.{Show, Pack, Replay}
+use Rattle.grasp_tasks.specs.declared.unfinished.Unfinished.{Unfinished}
 
 -- a stream divides in one way
 
@@ -292,18 +292,26 @@ pub show_made : (limit : ℕ) (input output : List ℕ) (f : Option Finding) (s 
 show_made limit input output None s is x = rw is x
 show_made limit input output (Some f) s is x = rw is x
 
+-- the status of what `pack` found
+pub pack_made : (limit : ℕ) (input output : List ℕ) (f : Option Finding) → Packs limit input output f → PackMakes limit input output (status_of f)
+pack_made limit input output None x = x
+pack_made limit input output (Some f) x = x
+
 -- what is made of a whole input ends well
 
 pub made_whole : (task named : Task) (limit : ℕ) (input output : List ℕ) (s : Status) → 0 < limit → AllBytes input → task ≡ named → Makes named limit input output s
     → IsWholeInput task limit input → s ≡ status.Ok
 made_whole task named limit input output s some bytes is makes whole = whole_inputs_end_well named limit input output s some bytes (subst (λ (t : Task). IsWholeInput t limit input) is whole) makes
 
--- a whole input is made something of, unless memory is wanted
-pub whole_made : (task : Task) (limit : ℕ) (input : List ℕ) (u : Unmade) → IsUnmade task input u → IsWholeInput task limit input → u ≡ unmade.OutOfMemory
-whole_made task limit input unmade.OutOfMemory x whole = refl
-whole_made Show limit input unmade.TooLarge x whole = absurd x
-whole_made Pack limit input unmade.TooLarge x whole = absurd x
-whole_made Replay limit input unmade.TooLarge x whole = let few = whole.1.few in absurd (omega (arith, x, few))
-whole_made Show limit input (unmade.BadScript line) x whole = absurd x.0
-whole_made Pack limit input (unmade.BadScript line) x whole = absurd x.0
-whole_made Replay limit input (unmade.BadScript line) x whole = absurd (x.0.1 whole.0 whole.1.script)
+-- likewise where all of it was written
+pub written_whole : (P : List ℕ → Status → Type 0) (task named : Task) (limit : ℕ) (input : List ℕ) (before after : Option (List ℕ)) (r : Result Status Unfinished) → 0 < limit → AllBytes input
+    → task ≡ named → ((output : List ℕ) (s : Status) → P output s → Makes named limit input output s) → IfOk r (λ s. Writes P before after s)
+    → IfOk r (λ s. IsWholeInput task limit input → s ≡ status.Ok)
+written_whole P task named limit input before after (Ok s) some bytes is makes w = made_whole task named limit input w.output s some bytes is (makes w.output s w.makes)
+written_whole P task named limit input before after (Err e) some bytes is makes w = tt
+
+-- no line of a whole input is bad
+pub no_bad_line : (task : Task) (limit : ℕ) (input : List ℕ) (line : ℕ) → IsBadScript task input line → ¬ IsWholeInput task limit input
+no_bad_line Show limit input line bad whole = bad
+no_bad_line Pack limit input line bad whole = bad
+no_bad_line Replay limit input line bad whole = bad.1 whole.0 whole.1.script

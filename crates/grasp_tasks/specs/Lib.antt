@@ -8,3 +8,4 @@ pub mod Show
 pub mod Step
 pub mod Task
 pub mod Words
+pub mod Written

@@ -10,11 +10,11 @@ use Rattle.grasp_wire.specs.declared.fault.CutFault.TheVariants as cut
 use Rattle.grasp_tasks.specs.declared.exit.Finding.TheVariants as finding
 use Rattle.grasp_tasks.specs.declared.exit.Status.{Status}
 use Rattle.grasp_tasks.specs.declared.exit.Status.TheVariants as status
-use Rattle.grasp_tasks.specs.declared.made.Unmade.{Unmade}
-use Rattle.grasp_tasks.specs.declared.made.Unmade.TheVariants as unmade
 use Rattle.grasp_tasks.specs.Limits.{input_limit, line_limit}
 use Rattle.grasp_tasks.specs.declared.task.Task.{Task}
 use Rattle.grasp_tasks.specs.declared.task.Task.TheVariants.{Show, Pack, Replay}
+use Rattle.grasp_tasks.specs.declared.unfinished.Unfinished.{Unfinished}
+use Rattle.grasp_tasks.specs.declared.unfinished.Unfinished.TheVariants as unfinished
 
 -- what one word asks for
 abbrev pub task_named : List ℕ → Option Task
@@ -82,11 +82,12 @@ IsBadScript Show input line = ⊥
 IsBadScript Pack input line = ⊥
 IsBadScript Replay input line = IsBadLine input line × IsNoScript input
 
--- why the task makes nothing of the input
-abbrev pub IsUnmade : Task → List ℕ → Unmade → Type 0
-IsUnmade task input unmade.TooLarge = HasTooManyLines task input
-IsUnmade task input (unmade.BadScript line) = IsBadScript task input line × ¬ HasTooManyLines task input
-IsUnmade task input unmade.OutOfMemory = ⊤
+-- why the output that the task makes of the input isn't written whole
+abbrev pub IsUnfinished : Task → List ℕ → Unfinished → Type 0
+IsUnfinished task input unfinished.TooLarge = HasTooManyLines task input
+IsUnfinished task input (unfinished.BadScript line) = IsBadScript task input line × ¬ HasTooManyLines task input
+IsUnfinished task input unfinished.OutOfMemory = ⊤
+IsUnfinished task input unfinished.WriteFault = ¬ HasTooManyLines task input
 
 -- some input, which is what was left to read where that is told, was read; what the task makes of it was written after
 -- what was written before, and nothing else, where that is told

@@ -7,7 +7,6 @@ mod ending;
 mod exit;
 mod laws;
 mod lines;
-mod made;
 mod pack;
 mod program;
 mod replay;
@@ -15,6 +14,7 @@ mod show;
 mod task;
 #[cfg(test)]
 mod tests;
+mod unfinished;
 mod words;
 
 pub use ending::{finish, print_text};

@@ -1,38 +1,49 @@
 // `pack`: the messages of lines.
-ghost use Rattle.std.specs.Prelude.{IfOk};
+ghost use Rattle.std.specs.Prelude.{◌≤◌, IfOk, IfErr, OnErr, IsErrOf};
+ghost use Rattle.grasp_io.specs.Faults.{Rose};
 ghost use Rattle.grasp_tasks.specs.Pack.{PacksLine};
 ghost use Rattle.grasp_tasks.specs.Task.{PackMakes};
+ghost use Rattle.grasp_tasks.specs.Written.{Writes, Begins, IsStop};
 
 use crate::exit::{Finding, Status};
 use crate::lines::split_line;
-use crate::made::Made;
+use crate::unfinished::Unfinished;
 use grasp_cbor::OutOfMemory;
+use grasp_io::{Sink, WriteBuffer};
 use grasp_text::{TextFault, message_of};
 use grasp_wire::{EncodeFault, encode};
 use std::alloc::Global;
 
-/// Makes the shortest encodings of the messages whose lines the input is. Each has at most `limit` bytes.
-pub fn pack(alloc: Global, input: &[u8], limit: u32) -> Result<Made, OutOfMemory>
-    ensures { IfOk result (λ made. PackMakes limit input.now made.output.items made.status) }
+/// Writes the shortest encodings of the messages whose lines the input is. Each has at most `limit` bytes. After an
+/// `Err` a beginning of the output is written.
+pub fn pack<K: Sink>(
+    alloc: Global,
+    input: &[u8],
+    limit: u32,
+    sink: &mut K,
+) -> Result<Status, Unfinished>
+    ensures done { IfOk result (λ ended. Writes (PackMakes limit input.now) (K.written sink.old) (K.written sink.new) ended) }
+    ensures begun { OnErr result (Begins (PackMakes limit input.now) (K.written sink.old) (K.written sink.new)) }
+    ensures stop { IfErr result IsStop }
+    ensures fault { IsErrOf result Unfinished.WriteFault → Rose (K.faults sink.old) (K.faults sink.new) }
 {
-    let mut output = Vec::new(alloc);
+    let mut buffer = WriteBuffer::new();
+    let mut bytes = Vec::new(alloc);
     let mut rest = input;
     let mut line = 0;
     while !rest.is_empty() {
         let (text, after) = split_line(rest);
         line += 1;
-        if let Some(finding) = pack_line(alloc, &mut output, text, line, limit)? {
-            return Ok(Made {
-                output,
-                status: Status::Finding(finding),
-            });
+        bytes.clear();
+        if let Some(finding) = pack_line(alloc, &mut bytes, text, line, limit)? {
+            buffer.flush(sink)?;
+            return Ok(Status::Finding(finding));
         }
+        buffer.put(sink, &bytes)?;
         rest = after;
     }
-    Ok(Made {
-        output,
-        status: Status::Ok,
-    })
+    buffer.flush(sink)?;
+    Ok(Status::Ok)
 }
 
 /// Appends the message of this line, which has this number, or tells why it can't.

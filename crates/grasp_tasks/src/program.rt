@@ -1,19 +1,20 @@
 // The program's one call.
-ghost use Rattle.std.specs.Prelude.{◌≡◌, ◌≢◌, ◌≤◌, ◌⊎◌, ℕ, [], Some, None, map, length, string_bytes, IfOk, IfErr, IfSome, IsSome};
+ghost use Rattle.std.specs.Prelude.{◌≡◌, ◌≢◌, ◌≤◌, ◌⊎◌, ℕ, [], Some, None, map, length, string_bytes, IfOk, IfErr, IfSome, IsSome, IsErrOf};
 ghost use Rattle.grasp_io.specs.Faults.{Rose};
 ghost use Rattle.grasp_tasks.specs.Ending.{IsAfterInput};
 ghost use Rattle.grasp_tasks.specs.Laws.{IsWholeInput};
 ghost use Rattle.grasp_tasks.specs.Limits.{input_limit, message_limit};
-ghost use Rattle.grasp_tasks.specs.Task.{task_of, Makes, Tells, BeginsToTell, IsReadToEnd, IsDone, IsOfInput, HasTooManyLines, IsTooLarge, IsBadScript, IsUnmade, IsOutcome, IsOkOrMemory};
+ghost use Rattle.grasp_tasks.specs.Task.{task_of, Makes, Tells, BeginsToTell, IsReadToEnd, IsDone, IsOfInput, HasTooManyLines, IsTooLarge, IsBadScript, IsUnfinished, IsOutcome, IsOkOrMemory};
+ghost use Rattle.grasp_tasks.specs.Written.{Writes, Begins};
 ghost use Rattle.grasp_tasks.specs.declared.task.Task.{Task};
 
 use crate::exit::Status;
-use crate::made::{Made, Unmade};
 use crate::pack::pack;
-use crate::replay::replay_script;
+use crate::replay::replay;
 use crate::show::show;
 use crate::task::{Task, task_of};
-use grasp_io::{ReadError, Sink, Source, read_all, write_all};
+use crate::unfinished::Unfinished;
+use grasp_io::{ReadError, Sink, Source, read_all};
 use std::alloc::Global;
 
 /// The most bytes that the input may have.
@@ -28,7 +29,8 @@ const MESSAGE_LIMIT: u32 = 2048;
 /// and writes the shortest encoding of the message of each. Where the input is wrong at some place, the status is the
 /// finding, and all that comes before that place was written. `replay` reads a script, runs it in a world of two nodes,
 /// and writes the reports of its events. Where the input is no script, the status is `BadScript`, and nothing was
-/// written. `OutOfMemory` may come wherever memory is wanted; then nothing was written.
+/// written. `OutOfMemory` may come wherever memory is wanted. `show` and `pack` write while they go, so that a beginning
+/// of the output may be written then; of `replay` nothing is.
 pub fn replay_main<S: Source, K: Sink>(
     alloc: Global,
     words: &[String],
@@ -62,7 +64,10 @@ pub fn replay_main<S: Source, K: Sink>(
     ensures write_fault { result ≡ Status.WriteFault → Rose (K.faults sink.old) (K.faults sink.new) }
     ensures begun { (task : Task) → task_of (map string_bytes words.now) ≡ Some task → result ≡ Status.WriteFault
         → BeginsToTell task message_limit (S.left source.old) (K.written sink.old) (K.written sink.new) }
-    ensures unwritten { ¬ IsDone result → result ≢ Status.WriteFault → sink.new ≡ sink.old }
+    ensures begun_for_memory { (task : Task) → task_of (map string_bytes words.now) ≡ Some task → result ≡ Status.OutOfMemory
+        → (sink.new ≡ sink.old) ⊎ BeginsToTell task message_limit (S.left source.old) (K.written sink.old) (K.written sink.new) }
+    ensures unwritten { ¬ IsDone result → result ≢ Status.WriteFault → result ≢ Status.OutOfMemory → sink.new ≡ sink.old }
+    ensures unwritten_replay { task_of (map string_bytes words.now) ≡ Some Task.Replay → result ≡ Status.OutOfMemory → sink.new ≡ sink.old }
 
     // Where nothing outside fails, the input alone decides, unless memory is wanted.
     ensures complete { (task : Task) → task_of (map string_bytes words.now) ≡ Some task
@@ -94,9 +99,11 @@ fn run<S: Source, K: Sink>(alloc: Global, task: Task, source: &mut S, sink: &mut
     ensures of_input { IsOfInput result }
     ensures write_fault { result ≡ Status.WriteFault → Rose (K.faults sink.old) (K.faults sink.new) }
     ensures begun { result ≡ Status.WriteFault → BeginsToTell task message_limit (S.left source.old) (K.written sink.old) (K.written sink.new) }
-    ensures unwritten { ¬ IsDone result → result ≢ Status.WriteFault → sink.new ≡ sink.old }
+    ensures begun_for_memory { result ≡ Status.OutOfMemory
+        → (sink.new ≡ sink.old) ⊎ BeginsToTell task message_limit (S.left source.old) (K.written sink.old) (K.written sink.new) }
+    ensures unwritten { ¬ IsDone result → result ≢ Status.WriteFault → result ≢ Status.OutOfMemory → sink.new ≡ sink.old }
+    ensures unwritten_replay { task ≡ Task.Replay → result ≡ Status.OutOfMemory → sink.new ≡ sink.old }
     ensures whole { IsDone result → IfSome (S.left source.old) (λ input. IsWholeInput task message_limit input → result ≡ Status.Ok) }
-    ensures good { (line : ℕ) → result ≡ Status.BadScript line → IfSome (S.left source.old) (λ input. ¬ IsWholeInput task message_limit input) }
 {
     let input = match read_all(alloc, source, INPUT_LIMIT) {
         Ok(input) => input,
@@ -104,31 +111,39 @@ fn run<S: Source, K: Sink>(alloc: Global, task: Task, source: &mut S, sink: &mut
         Err(ReadError::TooLarge) => return Status::TooLarge,
         Err(ReadError::OutOfMemory) => return Status::OutOfMemory,
     };
-    let made = match make(alloc, task, &input) {
-        Ok(made) => made,
-        Err(Unmade::TooLarge) => return Status::TooLarge,
-        Err(Unmade::BadScript { line }) => return Status::BadScript { line },
-        Err(Unmade::OutOfMemory) => return Status::OutOfMemory,
-    };
-    match write_all(sink, &made.output) {
-        Ok(()) => made.status,
-        Err(_) => Status::WriteFault,
+    match write_made(alloc, task, &input, sink) {
+        Ok(status) => status,
+        Err(Unfinished::TooLarge) => Status::TooLarge,
+        Err(Unfinished::BadScript { line }) => Status::BadScript { line },
+        Err(Unfinished::OutOfMemory) => Status::OutOfMemory,
+        Err(Unfinished::WriteFault) => Status::WriteFault,
     }
 }
 
-/// What the task makes of the input.
-fn make(alloc: Global, task: Task, input: &[u8]) -> Result<Made, Unmade>
-    ensures made { IfOk result (λ made. Makes task message_limit input.now made.output.items made.status) }
-    ensures done { IfOk result (λ made. IsDone made.status) }
-    ensures of_input { IfOk result (λ made. IsOfInput made.status) }
-    ensures whole { IfOk result (λ made. IsWholeInput task message_limit input.now → made.status ≡ Status.Ok) }
-    ensures few { IfOk result (λ made. ¬ HasTooManyLines task input.now) }
-    ensures unmade { IfErr result (λ unmade. IsUnmade task input.now unmade) }
-    ensures good { IfErr result (λ unmade. IsWholeInput task message_limit input.now → unmade ≡ Unmade.OutOfMemory) }
+/// Writes what the task makes of the input.
+fn write_made<K: Sink>(
+    alloc: Global,
+    task: Task,
+    input: &[u8],
+    sink: &mut K,
+) -> Result<Status, Unfinished>
+    ensures done { IfOk result (λ ended. Writes (Makes task message_limit input.now) (K.written sink.old) (K.written sink.new) ended) }
+    ensures ended { IfOk result IsDone }
+    ensures of_input { IfOk result IsOfInput }
+    ensures whole { IfOk result (λ ended. IsWholeInput task message_limit input.now → ended ≡ Status.Ok) }
+    ensures few { IfOk result (λ _. ¬ HasTooManyLines task input.now) }
+    ensures begun { IsErrOf result Unfinished.WriteFault
+        → Begins (Makes task message_limit input.now) (K.written sink.old) (K.written sink.new) }
+    ensures begun_for_memory { IsErrOf result Unfinished.OutOfMemory
+        → (sink.new ≡ sink.old) ⊎ Begins (Makes task message_limit input.now) (K.written sink.old) (K.written sink.new) }
+    ensures unwritten { IfErr result (λ unfinished. unfinished ≢ Unfinished.WriteFault → unfinished ≢ Unfinished.OutOfMemory → sink.new ≡ sink.old) }
+    ensures unwritten_replay { task ≡ Task.Replay → IsErrOf result Unfinished.OutOfMemory → sink.new ≡ sink.old }
+    ensures unfinished { IfErr result (λ unfinished. IsUnfinished task input.now unfinished) }
+    ensures fault { IsErrOf result Unfinished.WriteFault → Rose (K.faults sink.old) (K.faults sink.new) }
 {
     match task {
-        Task::Show => Ok(show(alloc, input, MESSAGE_LIMIT)?),
-        Task::Pack => Ok(pack(alloc, input, MESSAGE_LIMIT)?),
-        Task::Replay => replay_script(alloc, input),
+        Task::Show => show(alloc, input, MESSAGE_LIMIT, sink),
+        Task::Pack => pack(alloc, input, MESSAGE_LIMIT, sink),
+        Task::Replay => replay(alloc, input, sink),
     }
 }

@@ -1,23 +1,29 @@
 // `show`: the lines of the messages of a stream.
-ghost use Rattle.std.specs.Prelude.{◌≡◌, ◌<◌, ◌==◌, if◌then◌else◌, ◌∷◌, ◌++◌, [], Some, None, option_map, IfOk, OnOk};
+ghost use Rattle.std.specs.Prelude.{◌≡◌, ◌<◌, ◌≤◌, ◌==◌, if◌then◌else◌, ◌∷◌, ◌++◌, ℕ, List, [], Option, Ok, Some, None, option_map, IfOk, IfErr, OnOk, OnErr, IsErrOf};
+ghost use Rattle.grasp_io.specs.Faults.{Rose};
+ghost use Rattle.grasp_io.specs.Known.{AppendsFront, Passes};
 ghost use Rattle.grasp_text.specs.Line.{line_of};
-ghost use Rattle.grasp_wire.specs.Cutter.{Past, lasting};
-ghost use Rattle.grasp_wire.specs.Stands.{Stands, cut_limit};
-ghost use Rattle.grasp_tasks.specs.Step.{Steps};
+ghost use Rattle.grasp_wire.specs.Cutter.{lasting};
+ghost use Rattle.grasp_wire.specs.Stands.{waiting_count};
+ghost use Rattle.grasp_tasks.specs.Step.{HasShown, Steps, ShowsReady};
 ghost use Rattle.grasp_tasks.specs.Task.{ShowMakes};
+ghost use Rattle.grasp_tasks.specs.Written.{Writes, Begins, IsStop};
 ghost use Rattle.grasp_tasks.specs.declared.exit.Finding.TheVariants.{Cut, Truncated};
 
 use crate::exit::{Finding, Status, status_of};
-use crate::made::Made;
-use grasp_cbor::OutOfMemory;
+use crate::unfinished::Unfinished;
+use grasp_io::{Sink, WriteBuffer};
 use grasp_text::line_of;
 use grasp_types::Message;
 use grasp_wire::{CutFault, Cutter};
 use std::alloc::Global;
 
+/// The most bytes of the stream that are fed at once.
+const PIECE: usize = 4096;
+
 /// What the next step of `show` came to.
 enum Step {
-    /// A message's line was appended.
+    /// A message's line was put into the buffer.
     Line,
     /// No message is left, and what is left waits for more.
     End,
@@ -25,61 +31,101 @@ enum Step {
     Fault(Finding),
 }
 
-/// Makes the lines of the messages of the stream, of which each has at most `limit` bytes.
-pub fn show(alloc: Global, input: &[u8], limit: u32) -> Result<Made, OutOfMemory>
+/// Writes the lines of the messages of the stream, of which each has at most `limit` bytes. After an `Err` a beginning
+/// of the output is written.
+pub fn show<K: Sink>(
+    alloc: Global,
+    input: &[u8],
+    limit: u32,
+    sink: &mut K,
+) -> Result<Status, Unfinished>
     requires { 0 < limit }
-    ensures { IfOk result (λ made. ShowMakes limit input.now made.output.items made.status) }
+    ensures done { IfOk result (λ ended. Writes (ShowMakes limit input.now) (K.written sink.old) (K.written sink.new) ended) }
+    ensures begun { OnErr result (Begins (ShowMakes limit input.now) (K.written sink.old) (K.written sink.new)) }
+    ensures stop { IfErr result IsStop }
+    ensures fault { IsErrOf result Unfinished.WriteFault → Rose (K.faults sink.old) (K.faults sink.new) }
 {
     let mut cutter = Cutter::new(alloc, limit);
-    cutter.feed(input)?;
-    let mut output = Vec::new(alloc);
-    for _shown in 0..input.len() + 1 {
-        match show_next(alloc, &mut cutter, &mut output)? {
-            Step::Line => {}
-            Step::End => {
-                let finding = truncated(cutter.waiting(), input.len() as u64);
-                return Ok(Made {
-                    output,
-                    status: status_of(finding),
-                });
-            }
-            Step::Fault(finding) => {
-                return Ok(Made {
-                    output,
-                    status: Status::Finding(finding),
-                });
-            }
+    let mut buffer = WriteBuffer::new();
+    let mut rest = input;
+    while !rest.is_empty() {
+        let (piece, after) = rest.split_at(rest.len().min(PIECE));
+        cutter.feed(piece)?;
+        if let Some(finding) = show_ready(alloc, &mut cutter, &mut buffer, sink)? {
+            buffer.flush(sink)?;
+            return Ok(Status::Finding(finding));
         }
+        rest = after;
     }
-    unreachable!()
+    buffer.flush(sink)?;
+    Ok(status_of(truncated(cutter.waiting(), input.len() as u64)))
 }
 
-/// Appends the line of the next message.
-fn show_next(alloc: Global, cutter: &mut Cutter, text: &mut Vec<u8>) -> Result<Step, OutOfMemory>
-    ensures step { (past : Past) → Stands cutter.old past → past.fault ≡ None
-        → Steps (cut_limit cutter.old) past cutter.new text.old.items text.new.items result }
-    ensures limit { cut_limit cutter.new ≡ cut_limit cutter.old }
+/// Writes the lines of the messages that the cutter has whole. Returns the finding where what is left has a fault.
+fn show_ready<K: Sink>(
+    alloc: Global,
+    cutter: &mut Cutter,
+    buffer: &mut WriteBuffer,
+    sink: &mut K,
+) -> Result<Option<Finding>, Unfinished>
+    ensures shown { (limit : ℕ) (fed : List ℕ) (start : Option (List ℕ)) → HasShown limit fed start (K.written sink.old) buffer.old cutter.old
+        → ShowsReady limit fed start (K.written sink.new) buffer.new cutter.new result }
+    ensures stop { IfErr result IsStop }
+    ensures fault { IsErrOf result Unfinished.WriteFault → Rose (K.faults sink.old) (K.faults sink.new) }
+    ensures never_falls { K.faults sink.old ≤ K.faults sink.new }
+{
+    loop {
+        match show_next(alloc, cutter, buffer, sink)? {
+            Step::Line => {}
+            Step::End => return Ok(None),
+            Step::Fault(finding) => return Ok(Some(finding)),
+        }
+    }
+}
+
+/// Writes the line of the next message.
+fn show_next<K: Sink>(
+    alloc: Global,
+    cutter: &mut Cutter,
+    buffer: &mut WriteBuffer,
+    sink: &mut K,
+) -> Result<Step, Unfinished>
+    ensures step { (limit : ℕ) (fed : List ℕ) (start : Option (List ℕ)) → HasShown limit fed start (K.written sink.old) buffer.old cutter.old
+        → Steps limit fed start (K.written sink.new) buffer.new cutter.new result }
+    ensures less { result ≡ Ok Step.Line → waiting_count cutter.new < waiting_count cutter.old }
+    ensures stop { IfErr result IsStop }
+    ensures fault { IsErrOf result Unfinished.WriteFault → Rose (K.faults sink.old) (K.faults sink.new) }
+    ensures never_falls { K.faults sink.old ≤ K.faults sink.new }
 {
     match cutter.next() {
         Ok(Some(message)) => {
-            push_line(alloc, text, &message)?;
+            write_line(alloc, &message, buffer, sink)?;
             Ok(Step::Line)
         }
         Ok(None) => Ok(Step::End),
         Err(fault) => match finding_of(fault) {
             Some(finding) => Ok(Step::Fault(finding)),
-            None => Err(OutOfMemory),
+            None => Err(Unfinished::OutOfMemory),
         },
     }
 }
 
-/// Appends the message's line and a line feed.
-fn push_line(alloc: Global, text: &mut Vec<u8>, message: &Message) -> Result<(), OutOfMemory>
-    ensures { OnOk result (text.new.items ≡ text.old.items ++ line_of message.now ++ 10 ∷ []) }
+/// Writes the message's line and a line feed.
+fn write_line<K: Sink>(
+    alloc: Global,
+    message: &Message,
+    buffer: &mut WriteBuffer,
+    sink: &mut K,
+) -> Result<(), Unfinished>
+    ensures passed { OnOk result (Passes (K.written sink.old) (K.written sink.new) buffer.new (buffer.old ++ (line_of message.now ++ 10 ∷ []))) }
+    ensures front { AppendsFront (K.written sink.old) (K.written sink.new) (buffer.old ++ (line_of message.now ++ 10 ∷ [])) }
+    ensures stop { IfErr result IsStop }
+    ensures fault { IsErrOf result Unfinished.WriteFault → Rose (K.faults sink.old) (K.faults sink.new) }
+    ensures never_falls { K.faults sink.old ≤ K.faults sink.new }
 {
     let line = line_of(alloc, message)?;
-    text.extend_from_slice(line.bytes())?;
-    text.push(b'\n')?;
+    buffer.put(sink, line.bytes())?;
+    buffer.put(sink, b"\n")?;
     Ok(())
 }
 

@@ -35,4 +35,4 @@ returns-in-Some-clause-complete_large g c = λ task e.
 pub returns-in-Some-clause-complete_whole : goal.returns-in-Some-clause-complete_whole
 returns-in-Some-clause-complete_whole g c = λ task e.
     let same : c.in-Some.task ≡ task = cc (c.in-Some.ensures, e) in
-    rw (← same) (ends_whole _ _ c.in-Some.task 2048 _ _ _ c.run.result (ends g c) c.run.ensures.whole c.run.ensures.good)
+    rw (← same) (ends_whole _ _ c.in-Some.task 2048 _ _ _ c.run.result (ends g c) c.run.ensures.whole)

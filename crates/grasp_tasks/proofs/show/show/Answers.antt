@@ -1,20 +1,37 @@
-use Rattle.std.proofs.Common.{◌∙◌, arith}
-use Rattle.grasp_tasks.proofs.Showing.{none_shown, more_shown, all_shown, shown_to_fault, no_more_than_bytes}
-use Rattle.grasp_tasks.proofs.Tasks.{show_made}
-use Rattle.grasp_wire.specs.Cutter.{no_past}
+use Rattle.std.proofs.Common.{rules, arith}
+use Rattle.grasp_cbor.proofs.HeadBytes.{AllBytes-from}
+use Rattle.grasp_tasks.proofs.Showing.{begin_showing, feed_piece, go_on_showing, begun_feeding, begun_showing, begun_at_end, begun_at_fault, written_at_fault, written_at_end, on_err}
 use Rattle.grasp_tasks.proofs.show.show.Goals as goal
 
-pub loop-shown-init : goal.loop-shown-init
-loop-shown-init c = rw c.new-output.ensures.items (none_shown c.args.limit c.args.input.now c.feed.new.self (c.in_ok-feed.ensures.ok no_past c.new-cutter.ensures.stands) (c.feed.ensures.limit ∙ c.new-cutter.ensures.limit))
+pub loop-rest-init : goal.loop-rest-init
+loop-rest-init g c = (begin_showing _ _ _ _ _ c.requires c.new-buffer.ensures c.new-cutter.ensures.stands c.new-cutter.ensures.limit, omega arith)
 
-pub loop-shown-preserved : goal.loop-shown-preserved
-loop-shown-preserved c = more_shown c.args.limit c.args.input.now c.loop-shown.output.items c.loop-shown.cutter c.show_next.new.cutter c.loop-shown._shown _ c.loop-shown.invariant (rw c.in-Line.is at c.in_ok-show_next.ensures.step) c.show_next.ensures.limit
+pub returns-in_err-feed-clause-begun : goal.returns-in_err-feed-clause-begun
+returns-in_err-feed-clause-begun g c =
+    on_err _ _ (begun_feeding _ _ _ _ _ _ _ (omega (arith, c.ranges.limit.fits)) (AllBytes-from c.args.input.now (λ i. omega (arith, c.type_inv.input i))) c.loop-rest.invariant.0)
 
-pub returns-in-End : goal.returns-in-End
-returns-in-End c = show_made c.args.limit c.args.input.now _ _ c.status_of.result c.status_of.ensures (all_shown c.args.limit c.args.input.now c.loop-shown.output.items _ c.loop-shown.cutter c.show_next.new.cutter c.loop-shown._shown c.waiting.result _ c.loop-shown.invariant (rw c.in-End.is at c.in_ok-show_next.ensures.step) c.show_next.ensures.limit c.waiting.ensures.counts c.truncated-finding.ensures)
+pub returns-in_err-finding-clause-begun : goal.returns-in_err-finding-clause-begun
+returns-in_err-finding-clause-begun g c =
+    on_err _ _ (begun_showing _ _ _ _ _ _ _ _ (omega (arith, c.ranges.limit.fits)) (AllBytes-from c.args.input.now (λ i. omega (arith, c.type_inv.input i))) (feed_piece _ _ _ c.split_at.result.0.now _ _ _ _ _ _ c.loop-rest.invariant.0 c.split_at.ensures.by_index.0 c.in_ok-feed.ensures.ok c.feed.ensures.limit) (λ l x s h. c.in_err-finding.ensures.shown l x s h))
 
-pub returns-in-Fault : goal.returns-in-Fault
-returns-in-Fault c = shown_to_fault c.args.limit c.args.input.now c.loop-shown.output.items _ c.loop-shown.cutter c.loop-shown._shown c.in-Fault.finding c.loop-shown.invariant (rw c.in-Fault.is at c.in_ok-show_next.ensures.step)
+pub returns-in_err-flush-clause-begun : goal.returns-in_err-flush-clause-begun
+returns-in_err-flush-clause-begun g c =
+    on_err _ _ (begun_at_fault _ _ _ _ _ _ _ _ _ _ c.in-Some.finding (AllBytes-from c.args.input.now (λ i. omega (arith, c.type_inv.input i))) (feed_piece _ _ _ c.split_at.result.0.now _ _ _ _ _ _ c.loop-rest.invariant.0 c.split_at.ensures.by_index.0 c.in_ok-feed.ensures.ok c.feed.ensures.limit) (λ l x s h. rw c.in-Some.is at (c.in_ok-finding.ensures.shown l x s h)) c.flush.ensures.front)
 
-pub unreachable-requires : goal.unreachable-requires
-unreachable-requires c = absurd (omega (arith, c.loop-shown-test.false, no_more_than_bytes _ _ _ _ _ c.loop-shown.invariant))
+pub returns-in-Some-clause-done : goal.returns-in-Some-clause-done
+returns-in-Some-clause-done g c =
+    written_at_fault _ _ _ _ _ _ _ _ _ _ c.in-Some.finding (AllBytes-from c.args.input.now (λ i. omega (arith, c.type_inv.input i))) (feed_piece _ _ _ c.split_at.result.0.now _ _ _ _ _ _ c.loop-rest.invariant.0 c.split_at.ensures.by_index.0 c.in_ok-feed.ensures.ok c.feed.ensures.limit) (λ l x s h. rw c.in-Some.is at (c.in_ok-finding.ensures.shown l x s h)) c.in_ok-flush.ensures.written
+
+pub loop-rest-preserved : goal.loop-rest-preserved
+loop-rest-preserved g c = (
+  go_on_showing _ _ _ _ _ _ _ _ _ _ (feed_piece _ _ _ c.split_at.result.0.now _ _ _ _ _ _ c.loop-rest.invariant.0 c.split_at.ensures.by_index.0 c.in_ok-feed.ensures.ok c.feed.ensures.limit) (λ l x s h. rw c.in_default.is at (c.in_ok-finding.ensures.shown l x s h)),
+  omega (arith, c.loop-rest.invariant.1, c.show_ready.ensures.never_falls),
+)
+
+pub returns-in_err-flush-2-clause-begun : goal.returns-in_err-flush-2-clause-begun
+returns-in_err-flush-2-clause-begun g c =
+    on_err _ _ (begun_at_end _ _ _ _ _ _ _ _ (omega (arith, c.ranges.limit.fits)) (AllBytes-from c.args.input.now (λ i. omega (arith, c.type_inv.input i))) c.loop-rest.invariant.0 c.flush-2.ensures.front)
+
+pub returns-clause-done : goal.returns-clause-done
+returns-clause-done g c =
+    written_at_end _ _ _ _ _ _ _ _ c.waiting.result _ _ c.loop-rest.invariant.0 (search rules) c.in_ok-flush-2.ensures.written c.waiting.ensures.counts c.truncated.ensures c.status_of.ensures
