@@ -1,5 +1,5 @@
 -- Forms that the answers of calls have.
-use Rattle.std.specs.Prelude.{◌≡◌, ℕ, Bool, Result, Ok, Err}
+use Rattle.std.specs.Prelude.{◌≡◌, Result, Ok, Err}
 use Rattle.grasp_types.specs.declared.refusal.ApiRefused.{ApiRefused}
 use Rattle.grasp_types.specs.declared.reply.ApiAnswer.{ApiAnswer}
 use Rattle.grasp_types.specs.declared.reply.ApiAnswer.TheVariants.{Done}

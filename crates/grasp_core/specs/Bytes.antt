@@ -1,5 +1,5 @@
 -- What a piece of a stream adds, and how it is heard.
-use Rattle.std.specs.Prelude.{◌≡◌, ℕ, ◌+◌, Bool, true, false, nat_le, List, [], ◌∷◌, ◌++◌, length, Option, None, Some, if◌then◌else◌}
+use Rattle.std.specs.Prelude.{◌≡◌, ℕ, ◌+◌, true, nat_le, List, [], ◌∷◌, ◌++◌, length, Option, None, Some, if◌then◌else◌}
 use Rattle.grasp_session.specs.Sessions.{after_mark}
 use Rattle.grasp_session.specs.Transcript.{Closed, Starved}
 use Rattle.grasp_types.specs.declared.message.Message.{Message}

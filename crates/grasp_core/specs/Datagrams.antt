@@ -1,5 +1,5 @@
 -- A datagram from a neighbour: a discovery or a flood (RFC 8990, sections 2.5.4 and 2.5.6.2).
-use Rattle.std.specs.Prelude.{◌≡◌, ℕ, ◌-◌, ◌≤◌, Bool, true, false, not, ◌&&◌, ◌||◌, nat_le, List, [], ◌∷◌, Option, None, Some, if◌then◌else◌}
+use Rattle.std.specs.Prelude.{ℕ, ◌-◌, Bool, false, not, ◌&&◌, ◌||◌, nat_le, List, [], ◌∷◌, Option, None, Some, if◌then◌else◌}
 use Rattle.grasp_asa.specs.Answers.{flags_registered}
 use Rattle.grasp_discovery.specs.Discoveries as discovery
 use Rattle.grasp_discovery.specs.Topic.{topic_of, kind_of}

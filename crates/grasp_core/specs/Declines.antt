@@ -1,5 +1,5 @@
 -- The declines of the sessions that no agent has taken, once their objective isn't listened for any more.
-use Rattle.std.specs.Prelude.{ℕ, zero, suc, Bool, ◌&&◌, List, [], ◌∷◌, ◌++◌, Option, None, Some, codes, is_ok, if◌then◌else◌}
+use Rattle.std.specs.Prelude.{ℕ, zero, suc, Bool, ◌&&◌, List, [], ◌∷◌, Option, None, Some, codes, is_ok, if◌then◌else◌}
 use Rattle.grasp_session.specs.Transcript.{SayEnd}
 use Rattle.grasp_session.specs.Sessions.{Sessions, SessionState, session_at, check_reply, after_say, after_remove, untaken_above_reply}
 use Rattle.grasp_session.specs.Transcript.{message_of}

@@ -1,5 +1,5 @@
 -- What a drain gives.
-use Rattle.std.specs.Prelude.{◌≡◌, ℕ, ◌-◌, List, [], ◌∷◌, ◌++◌, length, map, take, drop, fold}
+use Rattle.std.specs.Prelude.{ℕ, ◌-◌, List, [], ◌∷◌, ◌++◌, length, map, take, drop, fold}
 use Rattle.grasp_types.specs.declared.traffic.Output.{Output}
 use Rattle.grasp_types.specs.declared.traffic.Output.TheVariants.{Close}
 use Rattle.grasp_core.specs.Node.{NodeState}

@@ -1,5 +1,5 @@
 -- The calls on searches and floods (RFC 8991, sections 2.3.4 and 2.3.6): what they answer, and the node after them.
-use Rattle.std.specs.Prelude.{◌≡◌, ℕ, Bool, true, false, List, [], ◌∷◌, length, Option, None, Some, Result, Ok, Err}
+use Rattle.std.specs.Prelude.{ℕ, Bool, true, false, List, [], ◌∷◌, length, None, Some, Result}
 use Rattle.grasp_cbor.specs.DataItem.{DataItem}
 use Rattle.grasp_discovery.specs.Discoveries.{find_answer, after_find, with_search, search_from}
 use Rattle.grasp_discovery.specs.Topic.{topic_of}

@@ -1,5 +1,5 @@
 -- What a node does with one message that comes on an open stream.
-use Rattle.std.specs.Prelude.{◌≡◌, ℕ, Bool, true, false, not, ◌&&◌, ◌||◌, List, [], Option, None, Some, Result, Ok, Err, slice_get, if◌then◌else◌}
+use Rattle.std.specs.Prelude.{ℕ, Bool, true, false, not, ◌&&◌, ◌||◌, List, Option, None, Some, Result, Ok, Err, slice_get, if◌then◌else◌}
 use Rattle.grasp_asa.specs.Answers.{listener_of, flags_registered, value_offered}
 use Rattle.grasp_asa.specs.Registrations.{Registrations}
 use Rattle.grasp_cbor.specs.DataItem.{DataItem}
@@ -72,7 +72,8 @@ hear_later n stream m = hear_later_by n stream m (receive_reply n.sessions strea
 
 -- ---- the first message other than a noop of a stream without a session
 
--- negotiation is registered, and the flags ask for it, and for a dry one only where that is registered too
+-- negotiation is registered; the flags ask for it and not for synchronization too, and for a dry one only where that is
+-- registered too
 abbrev pub may_ask : ℕ → Option ℕ → Bool
 may_ask flags None = false
 may_ask flags (Some registered) = has_neg registered && has_neg flags && not (has_synch flags) && (not (has_dry flags) || has_dry registered)

@@ -1,5 +1,5 @@
 -- The moves of a node: each changes one part of it. What a node does in a step is a list of these.
-use Rattle.std.specs.Prelude.{ℕ, ◌+◌, ◌≡◌, Bool, ◌&&◌, not, max, List, [], ◌∷◌, ◌++◌, length, Option, None, Some, if◌then◌else◌}
+use Rattle.std.specs.Prelude.{ℕ, ◌+◌, Bool, ◌&&◌, not, max, List, [], ◌∷◌, ◌++◌, length, Option, None, Some, if◌then◌else◌}
 use Rattle.grasp_asa.specs.Registrations.{Registrations}
 use Rattle.grasp_discovery.specs.Discoveries.{Discoveries}
 use Rattle.grasp_flood.specs.Floods.{Floods}
@@ -9,7 +9,8 @@ use Rattle.grasp_types.specs.declared.address.Locator.{Locator}
 use Rattle.grasp_types.specs.declared.message.Message.{Message}
 use Rattle.grasp_wire.specs.Cutter.{Past}
 use Rattle.grasp_core.specs.Node.{NodeState}
-use Rattle.grasp_core.specs.Queue.{Queued, send, dial, fits, has_room, along, Way}
+use Rattle.grasp_core.specs.Queue.{Queued, send, dial, fits, has_room, along}
+use Rattle.grasp_core.specs.declared.ways.Way.{Way}
 use Rattle.grasp_core.specs.Streams.{closing, without, with_past, with_dialled, with_opened, next_stream, is_dialled_out}
 
 -- the reading becomes the larger one

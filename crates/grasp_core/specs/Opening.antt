@@ -1,5 +1,5 @@
 -- A stream that a peer opens.
-use Rattle.std.specs.Prelude.{◌≡◌, ℕ, ◌%◌, ◌==◌, Bool, true, false, ◌||◌, is_some, if◌then◌else◌}
+use Rattle.std.specs.Prelude.{◌≡◌, ℕ, ◌%◌, ◌==◌, Bool, false, ◌||◌, is_some, if◌then◌else◌}
 use Rattle.grasp_session.specs.Sessions.{state_reply}
 use Rattle.grasp_types.specs.declared.address.Address.{Address}
 use Rattle.grasp_types.specs.declared.reply.Reply.{Reply}

@@ -1,5 +1,5 @@
 -- Which plans a node is opened with.
-use Rattle.std.specs.Prelude.{ℕ, Bool, ◌||◌, not, nat_lt, List, length}
+use Rattle.std.specs.Prelude.{Bool, ◌||◌, not, nat_lt, List, length}
 use Rattle.std.specs.List.{list_any}
 use Rattle.grasp_types.specs.Address.{is_dialable}
 use Rattle.grasp_types.specs.declared.links.Neighbour.{Neighbour}

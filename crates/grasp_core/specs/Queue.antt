@@ -7,6 +7,7 @@ use Rattle.grasp_types.specs.declared.links.Neighbour.{Neighbour}
 use Rattle.grasp_types.specs.declared.message.Message.{Message}
 use Rattle.grasp_types.specs.declared.traffic.Output.{Output}
 use Rattle.grasp_types.specs.declared.traffic.Output.TheVariants as output
+use Rattle.grasp_core.specs.declared.ways.Way.{Way}
 
 -- a message for a neighbour on a link, a stream to be opened, or a message for a stream
 pub data Queued : Type 0 where
@@ -35,11 +36,6 @@ most_queued = 256
 -- there is room for so many outputs more
 abbrev pub has_room : List Queued → ℕ → Bool
 has_room queue count = nat_le (length queue + count) most_queued
-
--- a neighbour of this node, by the number of its link and its number there
-pub record Way : Type 0 where
-  pub link : ℕ
-  pub to : ℕ
 
 -- the ways to the neighbours of one link, of which the first has this number
 abbrev pub ways_on : ℕ → ℕ → List Neighbour → List Way

@@ -110,9 +110,8 @@ Acts n (input.Bytes stream bytes) x r after = TakesBytes n stream bytes x r afte
 Acts n (input.Closed stream) x r after = (r ≡ reply.Taken) × (after ≡ after_closed n stream)
 Acts n (input.Drain max) x r after = Drains n max r after
 
--- A step: the beginning at this reading, and then what the input does. It determines the reply and the node after, but
--- for want of memory.
-pub record NodeStep (n : NodeState) (now : ℕ) (i : Input) (r : Reply) (after : NodeState) : Type 0 where
-  pub coming : Coming
-  pub is_coming : IsComing (begin n now) i coming
-  pub acts : Acts (begin n now) i coming r after
+-- A step with what comes with its input: the beginning at this reading, and then what the input does. It determines the
+-- reply and the node after, but for want of memory.
+pub record NodeStep (n : NodeState) (now : ℕ) (i : Input) (x : Coming) (r : Reply) (after : NodeState) : Type 0 where
+  pub is_coming : IsComing (begin n now) i x
+  pub acts : Acts (begin n now) i x r after

@@ -1,5 +1,5 @@
 -- The tests of the refusals at a node, by their numbers.
-use Rattle.std.specs.Prelude.{ℕ, ◌||◌, ◌&&◌, ◌==◌, Bool, true, false, not, nat_le, is_none, List, length, find, Option, None, Some, option_map, Result, Ok, Err}
+use Rattle.std.specs.Prelude.{ℕ, ◌||◌, ◌&&◌, ◌==◌, Bool, true, false, not, nat_le, is_none, List, length, find, Option, None, Some, option_map, Result, Err}
 use Rattle.grasp_asa.specs.Registrations.{is_registered, is_agent_name, is_taken, is_of, is_both_or_neither, is_dry_alone}
 use Rattle.grasp_discovery.specs.Discoveries as discovery
 use Rattle.grasp_flood.specs.Floods.{has_key}

@@ -1,9 +1,11 @@
 //! What a node is opened with.
 
-use grasp_types::{Address, LinkLists, Locator};
+ghost use Rattle.std.proofs.Common.{rules};
+
+use grasp_types::{Address, LinkLists, Locator, Plain};
 
 /// A node's addresses, its neighbours, the seed of its random numbers, and the most bytes that its messages may have.
-#[derive(Drop)]
+#[derive(Clone, Debug, Drop)]
 pub struct NodePlan {
     /// The address by which the node is known as an initiator.
     pub address: Address,
@@ -15,4 +17,8 @@ pub struct NodePlan {
     pub seed: [u8; 32],
     /// The most bytes of a message, from 2048 to 65535.
     pub limit: u32,
+}
+
+impl Plain for NodePlan {
+    ghost clones_are_same = { Prim.search rules };
 }
