@@ -30,6 +30,3 @@ pub use prefix_agent::PrefixAgent;
 pub use reader::Reader;
 pub use threads::agents_may_cross;
 pub use want::{WantEnd, WantFault};
-
-#[cfg(test)]
-mod agent_tests;

@@ -5,8 +5,6 @@
 mod entry;
 mod law;
 mod registry;
-#[cfg(test)]
-mod tests;
 mod threads;
 
 pub use law::{

@@ -16,8 +16,6 @@ mod room;
 mod scalars;
 mod steps;
 mod strings;
-#[cfg(test)]
-mod tests;
 mod threads;
 mod tree;
 mod utf8;

@@ -12,8 +12,6 @@ mod entries;
 mod laws;
 mod memory;
 mod search;
-#[cfg(test)]
-mod tests;
 mod threads;
 mod topic;
 

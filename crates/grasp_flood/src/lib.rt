@@ -9,8 +9,6 @@ mod heard;
 mod kept;
 mod keys;
 mod laws;
-#[cfg(test)]
-mod tests;
 mod threads;
 
 pub use cache::FloodCache;

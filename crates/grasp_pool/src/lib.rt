@@ -19,6 +19,3 @@ pub use laws::{
 };
 pub use pool::Pool;
 pub use roots::RootPrefix;
-
-#[cfg(test)]
-mod tests;

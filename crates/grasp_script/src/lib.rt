@@ -12,8 +12,6 @@ mod names;
 mod report;
 mod script;
 mod split;
-#[cfg(test)]
-mod tests;
 
 pub use event::{each_event_has_one_line, event_of, lines_have_one_event};
 pub use fault::ScriptFault;

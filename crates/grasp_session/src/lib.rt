@@ -14,6 +14,3 @@ pub use answer::{Act, Received, SessionRefused};
 pub use begin::Begin;
 pub use table::Table;
 pub use threads::table_may_cross;
-
-#[cfg(test)]
-mod tests;

@@ -12,8 +12,6 @@ mod program;
 mod replay;
 mod show;
 mod task;
-#[cfg(test)]
-mod tests;
 mod unfinished;
 mod words;
 

@@ -11,8 +11,6 @@ mod names;
 mod numbers;
 mod parts;
 mod prefixes;
-#[cfg(test)]
-mod tests;
 mod texts;
 mod values;
 mod words;

@@ -20,8 +20,6 @@ mod reading;
 mod refusal;
 mod reply;
 mod session;
-#[cfg(test)]
-mod tests;
 mod threads;
 mod traffic;
 mod value;
@@ -32,7 +30,7 @@ pub use flood::{FloodPart, FloodParts, FloodRead, FloodReads};
 pub use laws::equal_is_same;
 pub use links::{LinkLists, Neighbour, Neighbours};
 pub use list::List;
-pub use message::{Answer, Message, Verdict};
+pub use message::{Answer, Message, Verdict, messages_nest_sixteen_deep, one_message_an_item};
 pub use non_empty::NonEmpty;
 pub use objective::{Flags, Objective};
 pub use origin::Origin;

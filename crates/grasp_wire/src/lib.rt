@@ -9,8 +9,6 @@ mod message;
 mod one;
 mod read_on;
 mod reading;
-#[cfg(test)]
-mod tests;
 mod threads;
 mod writing;
 

@@ -15,11 +15,8 @@ mod world;
 
 pub use event::{End, Event};
 pub use laws::{
-    cuts_are_final, every_run_is_safe, one_request_is_made, outcomes_are_told_once,
-    polls_tell_outcomes, readings_never_fall, requests_are_taken_once,
+    cuts_are_final, every_run_is_legal, every_run_is_safe, one_request_is_made,
+    outcomes_are_told_once, polls_tell_outcomes, readings_never_fall, requests_are_taken_once,
 };
 pub use report::Report;
 pub use world::World;
-
-#[cfg(test)]
-mod tests;

@@ -1,5 +1,5 @@
-use super::*;
 use grasp_cbor::Chars;
+use grasp_text::*;
 use grasp_types::Address;
 use std::alloc::Global;
 use std::test::Fail;

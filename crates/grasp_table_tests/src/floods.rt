@@ -1,7 +1,7 @@
 //! Each call once with ample memory.
 
-use crate::{FloodCache, Heard};
 use grasp_cbor::{Chars, Item};
+use grasp_flood::{FloodCache, Heard};
 use grasp_types::{Address, Flags, FloodPart, FloodParts, Objective, Value};
 use std::alloc::Global;
 use std::test::Fail;

@@ -1,6 +1,6 @@
 ghost use Rattle.std.specs.Prelude.{◌≡◌, ◌<◌};
 
-use crate::{
+use grasp_cbor::{
     Chars, FloatBits, Item, ItemFault, ItemReader, Items, Octets, OutOfMemory, Pairs, ReadItem,
     SimpleValue, Steps, Taken, build_whole, read_item, room_after, room_after_head,
     room_after_string, write_array_head, write_byte_string, write_item, write_null,

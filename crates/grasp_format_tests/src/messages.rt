@@ -3,12 +3,12 @@
 ghost use Rattle.std.specs.Prelude.{◌≡◌, ◌+◌, ◌<◌, IfSome};
 ghost use Rattle.grasp_wire.specs.Stands.{fed_count};
 
-use crate::{
+use grasp_cbor::{Chars, Item, OutOfMemory, Steps};
+use grasp_types::{Address, Answer, Flags, FloodPart, Message, Objective, Value, Verdict};
+use grasp_wire::{
     CutFault, Cutter, OneFault, decode_one, encode, encoded, end_fits, fits, flood_fits,
     invalid_fits, step_fits,
 };
-use grasp_cbor::{Chars, Item, OutOfMemory, Steps};
-use grasp_types::{Address, Answer, Flags, FloodPart, Message, Objective, Value, Verdict};
 use std::alloc::Global;
 use std::marker::Brand;
 use std::sync::ledger::{Blank, Ledger};

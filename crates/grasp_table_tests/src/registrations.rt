@@ -1,6 +1,6 @@
 //! Each call once with ample memory.
 
-use crate::Registry;
+use grasp_asa::Registry;
 use grasp_cbor::{Chars, Item};
 use grasp_types::{ApiRefused, Flags, Value};
 use std::alloc::Global;

@@ -1,7 +1,7 @@
 //! Each call once with ample memory.
 
-use crate::{Answered, Cause, Discovery, Find, Heard};
 use grasp_cbor::Chars;
+use grasp_discovery::{Answered, Cause, Discovery, Find, Heard};
 use grasp_types::{Address, Flags, Kind, Locator, Locators, Objective, Proto};
 use std::alloc::Global;
 use std::test::Fail;

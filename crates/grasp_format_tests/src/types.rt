@@ -1,7 +1,7 @@
 //! Ranges at their edges, copies and comparisons.
 
-use crate::*;
 use grasp_cbor::{Chars, Item, Items, Octets};
+use grasp_types::*;
 use std::alloc::Global;
 use std::fmt::Debug;
 use std::process::Abort;

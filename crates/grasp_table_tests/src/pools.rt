@@ -1,8 +1,6 @@
 //! Worked pools.
 
-use crate::fault::{GainFault, PoolFault};
-use crate::pool::Pool;
-use crate::roots::RootPrefix;
+use grasp_pool::{GainFault, Pool, PoolFault, RootPrefix};
 use grasp_types::Prefix;
 use std::test::Fail;
 

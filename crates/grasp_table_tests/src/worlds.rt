@@ -1,7 +1,7 @@
 //! A world, whatever the memory. What events come to is run by the worked rows of scripts.
 
-use crate::*;
 use grasp_types::Plain;
+use grasp_world::*;
 use std::test::Fail;
 
 #[test]

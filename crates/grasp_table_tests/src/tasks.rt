@@ -1,6 +1,6 @@
 // One call of the program over streams in memory, whatever the memory. The worked rows are run by grasp_rows.
-use crate::{Status, finish, print_text, replay_main, text_for};
 use grasp_io::{MemSink, MemSource};
+use grasp_tasks::{Status, finish, print_text, replay_main, text_for};
 use std::test::Fail;
 
 #[test]

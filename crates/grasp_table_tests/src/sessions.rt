@@ -1,7 +1,7 @@
 //! Two ends that negotiate, at the level of their tables.
 
-use crate::*;
 use grasp_cbor::{Chars, Item};
+use grasp_session::*;
 use grasp_types::{By, Flags, Handle, Kind, Message, Objective, Outcome, Progress, Value, Verdict};
 use std::alloc::Global;
 use std::test::Fail;

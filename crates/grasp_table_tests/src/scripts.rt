@@ -1,4 +1,4 @@
-use super::*;
+use grasp_script::*;
 use grasp_world::Report;
 
 /// Whether a script has a line of this text at this place.

@@ -1,6 +1,6 @@
 //! Agents that are driven by replies made by hand.
 
-use crate::{Agent, Beacon, PrefixAgent, Reader, WantEnd, WantFault};
+use grasp_agent::{Agent, Beacon, PrefixAgent, Reader, WantEnd, WantFault};
 use grasp_cbor::{Chars, Item, Items, Octets};
 use grasp_pool::RootPrefix;
 use grasp_types::{
