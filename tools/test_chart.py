@@ -1,0 +1,414 @@
+#!/usr/bin/env python3
+"""Checks tools/chart.py: the arrows of runs whose reports are known, the refusals, and the picture in docs.
+
+usage: python3 tools/test_chart.py
+
+The runs are written out here as reports, some of them of worlds with more nodes and calls than grasp_replay has so far.
+In their lines @K stands for the address of node K, {DIGITS} for 20010db80000, four digits and sixteen zeros, and PM for
+'PrefixManager.
+"""
+import contextlib
+import io
+import pathlib
+import re
+import subprocess
+import sys
+import unittest
+import xml.etree.ElementTree as tree
+
+HERE = pathlib.Path(__file__).resolve().parent
+sys.dont_write_bytecode = True
+sys.path.insert(0, str(HERE))
+import chart  # noqa: E402
+
+GROUP = "{http://www.w3.org/2000/svg}g"
+TWO = "nodes 2\nlink 1 2\nstart\n"
+AGENTS = """api 1 0 asa 'a = asa 2
+api 1 2 objective 'x 2 = done
+api 1 2 listen 'x = notyet
+api 2 0 asa 'b = asa 2
+api 2 2 objective 'x 2 = done
+"""
+POOLS = "nodes 2\nroot 1 {0000}/48\nlink 1 2\nstart\n"
+
+LOST_ACCEPTANCE = POOLS + """want 2 56 64 1 = ok
+agent 2 request PM x811838 6 60000 wet 1 = started 1
+arrive 1 = taken
+bytes 1 far 9999 = taken
+agent 1 listen PM = incoming 1 @2 obj PM 3 6 x811838
+agent 1 poll 1 = turn obj PM 3 6 x811838
+agent 1 step 1 x82183850{0000} = done
+bytes 1 near 9999 = taken
+agent 2 listen PM = notyet
+agent 2 poll 1 = turn obj PM 3 5 x82183850{0000}
+agent 2 accept 1 = done
+cut 1 far = taken
+agent 1 listen PM = notyet
+agent 1 poll 1 = ended broken
+state 1 = held {0100}/56 {0200}/55 {0400}/54 {0800}/53 {1000}/52 {2000}/51 {4000}/50 {8000}/49 reserved doubt {0000}/56
+state 2 = held {0000}/56 reserved doubt
+want 2 56 64 1 = busy 56 64
+agent 2 listen PM = notyet
+agent 2 poll 1 = ended agreed mine obj PM 3 5 x82183850{0000}
+want 2 56 64 1 = ok
+agent 2 request PM x811838 6 60000 wet 1 = started 2
+arrive 2 = taken
+bytes 2 far 9999 = taken
+agent 1 listen PM = incoming 2 @2 obj PM 3 6 x811838
+agent 1 poll 2 = turn obj PM 3 6 x811838
+agent 1 step 2 x82183850{0100} = done
+"""
+COUNTER_OFFER = POOLS + """want 2 58 60 1 = ok
+agent 2 request PM x81183a 6 60000 wet 1 = started 1
+arrive 1 = taken
+bytes 1 far 9999 = taken
+agent 1 listen PM = incoming 1 @2 obj PM 3 6 x81183a
+agent 1 poll 1 = turn obj PM 3 6 x81183a
+agent 1 step 1 x82183850{0000} = done
+bytes 1 near 9999 = taken
+agent 2 listen PM = notyet
+agent 2 poll 1 = turn obj PM 3 5 x82183850{0000}
+agent 2 step 1 x81183a = done
+bytes 1 far 9999 = taken
+agent 1 listen PM = notyet
+agent 1 poll 1 = turn obj PM 3 4 x81183a
+agent 1 step 1 x82183a50{0000} = done
+bytes 1 near 9999 = taken
+agent 2 listen PM = notyet
+agent 2 poll 1 = turn obj PM 3 3 x82183a50{0000}
+agent 2 accept 1 = done
+bytes 1 far 9999 = taken
+agent 1 listen PM = notyet
+agent 1 poll 1 = ended agreed theirs obj PM 3 3 x82183a50{0000}
+state 1 = held {0040}/58 {0080}/57 {0100}/56 {0200}/55 {0400}/54 {0800}/53 {1000}/52 {2000}/51 {4000}/50 {8000}/49 reserved doubt
+state 2 = held {0000}/58 reserved doubt
+"""
+LAST_LOOP = AGENTS + """api 2 2 request 'x x01 1 60000 wet 1 = started 1
+arrive 1 = taken
+bytes 1 far 9999 = taken
+api 1 2 listen 'x = incoming 1 @2 obj 'x 2 1 x01
+api 1 2 step 1 x02 = refused 14 LoopsSpent
+api 1 2 accept 1 = done
+bytes 1 near 9999 = taken
+api 2 2 poll 1 = ended agreed theirs obj 'x 2 1 x01
+api 1 2 poll 1 = ended agreed mine obj 'x 2 1 x01
+"""
+WAITS = AGENTS + """api 2 2 request 'x x01 6 1000 wet 1 = started 1
+arrive 1 = taken
+bytes 1 far 9999 = taken
+api 1 2 listen 'x = incoming 1 @2 obj 'x 2 6 x01
+api 1 2 wait 1 5000 = done
+api 1 2 wait 1 1 = done
+api 1 2 wait 1 1 = done
+api 1 2 wait 1 1 = done
+api 1 2 wait 1 1 = refused 15 WaitsSpent
+bytes 1 near 9999 = taken
+clock 2 4999 = 4999
+api 2 2 poll 1 = notyet
+clock 2 5000 = 5000
+api 2 2 poll 1 = ended timedout 5000 5000
+api 2 2 poll 1 = refused 12 NoSession
+"""
+REFUSING = AGENTS + """api 2 2 request 'x x01 6 1000 wet 1 = started 1
+arrive 1 = taken
+bytes 1 far 9999 = taken
+api 1 2 listen 'x = incoming 1 @2 obj 'x 2 6 x01
+api 1 2 invalid 1 x07 = done
+bytes 1 near 9999 = taken
+api 2 2 poll 1 = ended invalid theirs
+api 1 2 unlisten 'x = done
+api 2 2 request 'x x01 6 1000 wet 1 = started 2
+arrive 2 = taken
+bytes 2 far 9999 = taken
+bytes 2 near 9999 = taken
+api 2 2 poll 2 = ended declined theirs 'unlistened
+api 1 2 unobjective 'x = done
+api 1 2 unasa = done
+api 1 2 unasa = refused 1 NoAsa
+"""
+FLOOD = "nodes 3\nlink 1 2\nlink 2 3\nstart\n" + """api 1 0 asa 'a = asa 2
+api 1 2 objective 'f 5 = done
+hold api 1 2 flood 'f x07 1000 6 = done
+datagram 1 = nothing
+drain 1 256 = sent 1
+datagram 1 = taken
+datagram 2 = taken
+clock 3 400 = 400
+datagram 2 = taken
+api 3 0 asa 'c = asa 2
+clock 3 1399 = 1399
+api 3 2 floods 'f = floods @1 obj 'f 5 5 x07 none
+clock 3 1400 = 1400
+api 3 2 floods 'f = floods
+api 1 2 flood 'f x08 0 6 = done
+datagram 3 = taken
+datagram 4 = taken
+clock 3 1099511627776 = 1099511627776
+api 3 2 floods 'f = floods @1 obj 'f 5 5 x08 none
+api 3 2 expire 'f 1 = done
+api 3 2 expire 'f 1 = refused 16 NoFlood
+"""
+RING = "nodes 3\nlink 1 2\nlink 2 3\nlink 3 1\nstart\n" + """api 1 0 asa 'a = asa 2
+api 1 2 discover 'x neg 3 1000 = searching
+datagram 1 = taken
+datagram 2 = taken
+datagram 3 = taken
+datagram 4 = taken
+datagram 5 = nothing
+api 1 2 discover 'x neg 3 1000 = notyet
+clock 1 1000 = 1000
+api 1 2 discover 'x neg 3 1000 = nothing
+"""
+FINDING = TWO + """api 1 0 asa 'a = asa 2
+api 1 2 discover PM neg 6 1000 = searching
+datagram 1 = taken
+arrive 1 = taken
+bytes 1 far 9999 = taken
+api 1 2 discover PM neg 6 1000 = found v6 @2 tcp 7017
+"""
+SYNCHRONIZING = TWO + """api 1 0 asa 'a = asa 2
+api 1 2 objective 's 5 = done
+api 1 2 offer 's x0a = done
+api 2 0 asa 'b = asa 2
+api 2 2 objective 's 5 = done
+api 2 2 synchronize 's 6 1000 1 = started 1
+arrive 1 = taken
+bytes 1 far 9999 = taken
+bytes 1 near 9999 = taken
+api 2 2 poll 1 = ended synchronized obj 's 5 6 x0a
+api 1 2 unoffer 's = done
+"""
+# A discovery that a node between answers by sending the response on, and a later one that it answers of what it kept.
+RELAYED = "nodes 3\nlink 1 2\nlink 2 3\nstart\n" + """api 1 0 asa 'a = asa 2
+api 3 0 asa 'c = asa 2
+api 3 2 objective 'y 3 = done
+api 1 2 discover 'y neg 6 1000 = searching
+datagram 1 = taken
+datagram 2 = taken
+arrive 1 = taken
+bytes 1 far 20 = taken
+bytes 1 far 9999 = taken
+arrive 2 = taken
+bytes 2 far 9999 = taken
+api 1 2 discover 'y neg 6 1000 = found v6 @3 tcp 7017
+"""
+AGREEMENT = AGENTS + """api 2 2 request 'x x0a 4 60000 wet 1 = started 1
+arrive 1 = taken
+bytes 1 far 100 = taken
+api 1 2 listen 'x = incoming 1 @2 obj 'x 2 4 x0a
+api 1 2 wait 1 5000 = done
+api 1 2 step 1 x05 = done
+bytes 1 near 100 = taken
+api 2 2 poll 1 = turn obj 'x 2 3 x05
+api 2 2 accept 1 = done
+bytes 1 far 100 = taken
+api 1 2 poll 1 = ended agreed theirs obj 'x 2 3 x05
+api 2 2 poll 1 = ended agreed mine obj 'x 2 3 x05
+"""
+
+
+def written_out(reports):
+    """The reports with their addresses, prefixes and names."""
+    text = re.sub(r"@([0-9])", lambda found: "fd" + "0" * 28 + f"0{found.group(1)}", reports)
+    text = re.sub(r"\{([0-9a-f]{4})\}", lambda found: "20010db80000" + found.group(1) + "0" * 16, text)
+    return re.sub(r"\bPM\b", "'PrefixManager", text).encode()
+
+
+def groups_of(reports, script=None):
+    svg = chart.chart(written_out(reports), script)
+    return [group for group in tree.fromstring(svg).iter(GROUP)]
+
+
+def arrows_of(reports, script=None):
+    """Each arrow: its kind, the nodes from and to, and its words after the first part."""
+    found = []
+    for group in groups_of(reports, script):
+        if "data-from" in group.attrib:
+            kind = group.attrib["class"].split(" ")[0]
+            words = group.attrib["data-words"]
+            found.append((kind, int(group.attrib["data-from"]), int(group.attrib["data-to"]), words))
+    return found
+
+
+def of_kind(reports, kind):
+    return [group.attrib for group in groups_of(reports) if group.attrib["class"].split(" ")[0] == kind]
+
+
+class Arrows(unittest.TestCase):
+    def expect(self, reports, wanted):
+        """Each wanted arrow is kind, from, to and words that are to be in it; there are no others."""
+        found = arrows_of(reports)
+        self.assertEqual([arrow[:3] for arrow in found], [arrow[:3] for arrow in wanted])
+        for arrow, want in zip(found, wanted):
+            for words in want[3:]:
+                self.assertIn(words, arrow[3])
+
+    def test_lost_acceptance(self):
+        self.expect(LOST_ACCEPTANCE, [
+            ("arrival", 2, 1, "stream 1"), ("bytes", 2, 1, "stream 1, 9999", "request-neg obj 'PrefixManager 3 6 x811838"),
+            ("bytes", 1, 2, "negotiate obj 'PrefixManager 3 5 x82183850"), ("arrival", 2, 1, "stream 2"),
+            ("bytes", 2, 1, "stream 2, 9999", "request-neg obj 'PrefixManager 3 6 x811838")])
+        self.assertEqual([cut["data-node"] for cut in of_kind(LOST_ACCEPTANCE, "cut")], ["1"])
+        self.assertEqual([state["data-node"] for state in of_kind(LOST_ACCEPTANCE, "state")], ["1", "2"])
+        self.assertEqual(len(of_kind(LOST_ACCEPTANCE, "want")), 3)
+        self.assertIn("stream 1, to 1: end accept", chart.chart(written_out(LOST_ACCEPTANCE)))
+
+    def test_counter_offer(self):
+        self.expect(COUNTER_OFFER, [
+            ("arrival", 2, 1, "stream 1"), ("bytes", 2, 1, "request-neg obj 'PrefixManager 3 6 x81183a"),
+            ("bytes", 1, 2, "negotiate obj 'PrefixManager 3 5 x82183850"),
+            ("bytes", 2, 1, "negotiate obj 'PrefixManager 3 4 x81183a"),
+            ("bytes", 1, 2, "negotiate obj 'PrefixManager 3 3 x82183a50"), ("bytes", 2, 1, "end accept")])
+        self.assertNotIn("Sent and not delivered", chart.chart(written_out(COUNTER_OFFER)))
+
+    def test_last_loop_allows_no_step(self):
+        wanted = [("arrival", 2, 1, "stream 1"), ("bytes", 2, 1, "request-neg obj 'x 2 1 x01"), ("bytes", 1, 2, "end accept")]
+        self.expect(LAST_LOOP, wanted)
+        self.expect(TWO + LAST_LOOP, wanted)
+        self.assertEqual(arrows_of(LAST_LOOP), arrows_of(LAST_LOOP, TWO.encode()))
+        refused = [group for group in groups_of(LAST_LOOP) if "faint" in group.attrib["class"]]
+        self.assertEqual([group.attrib["data-words"] for group in refused], ["asa 2: step 1 x02 | = refused 14 LoopsSpent"])
+
+    def test_waits_and_timeout(self):
+        self.expect(WAITS, [
+            ("arrival", 2, 1, "stream 1"), ("bytes", 2, 1, "request-neg obj 'x 2 6 x01"),
+            ("bytes", 1, 2, "wait 5000 | wait 1 | wait 1 | wait 1")])
+        self.assertEqual([clock["data-words"] for clock in of_kind(WAITS, "clock")], ["node 2: 4999 ms", "node 2: 5000 ms"])
+
+    def test_listener_refuses(self):
+        self.expect(REFUSING, [
+            ("arrival", 2, 1, "stream 1"), ("bytes", 2, 1, "request-neg"), ("bytes", 1, 2, "invalid x07"),
+            ("arrival", 2, 1, "stream 2"), ("bytes", 2, 1, "request-neg", "sends on stream 2"),
+            ("bytes", 1, 2, "end decline 'unlistened")])
+
+    def test_flood_through_a_relay(self):
+        self.expect(FLOOD, [
+            ("datagram", 1, 2, "datagram 1: flood @1 1000 obj 'f 5 6 x07 none", "sends datagram 2"),
+            ("datagram", 2, 3, "datagram 2: flood @1 1000 obj 'f 5 5 x07 none"), ("datagram", 2, 3, "datagram 2 again"),
+            ("datagram", 1, 2, "datagram 3: flood @1 0 obj 'f 5 6 x08 none", "sends datagram 4"),
+            ("datagram", 2, 3, "datagram 4: flood @1 0 obj 'f 5 5 x08 none")])
+        self.assertEqual([drain["data-words"] for drain in of_kind(FLOOD, "drain")], ["drain 256 = sent 1 | sends datagram 1"])
+        self.assertEqual(len(of_kind(FLOOD, "clock")), 4)
+        self.assertEqual(len(of_kind(FLOOD, "nothing")), 1)
+
+    def test_discovery_round_a_ring(self):
+        self.expect(RING, [
+            ("datagram", 1, 2, "datagram 1: discovery @1 obj 'x 3 3 -", "sends datagram 3"),
+            ("datagram", 1, 3, "datagram 2: discovery @1 obj 'x 3 3 -", "sends datagram 4"),
+            ("datagram", 2, 3, "datagram 3: discovery @1 obj 'x 3 2 -"),
+            ("datagram", 3, 2, "datagram 4: discovery @1 obj 'x 3 2 -")])
+
+    def test_discovery_finds(self):
+        self.expect(FINDING, [
+            ("datagram", 1, 2, "datagram 1: discovery @1 obj 'PrefixManager 3 6 -", "dials stream 1"),
+            ("arrival", 2, 1, "stream 1"), ("bytes", 2, 1, "response @1 60000 locators v6 @2 tcp 7017")])
+
+    def test_synchronization(self):
+        self.expect(SYNCHRONIZING, [
+            ("arrival", 2, 1, "stream 1"), ("bytes", 2, 1, "request-syn obj 's 5 6 -", "sends on stream 1"),
+            ("bytes", 1, 2, "synch obj 's 5 6 x0a")])
+
+    def test_response_is_sent_on(self):
+        self.expect(RELAYED, [
+            ("datagram", 1, 2, "sends datagram 2"), ("datagram", 2, 3, "dials stream 1"), ("arrival", 3, 2),
+            ("bytes", 3, 2, "a part of a message"), ("bytes", 3, 2, "response @1", "dials stream 2"), ("arrival", 2, 1),
+            ("bytes", 2, 1, "response @1 60000 locators v6 @3 tcp 7017")])
+
+    def test_divert(self):
+        second = """api 2 0 asa 'b = asa 2
+api 2 2 discover 'y neg 6 1000 = found v6 @3 tcp 7017
+api 1 2 discover 'z neg 6 1000 = searching
+datagram 3 = taken
+datagram 4 = taken
+"""
+        self.assertEqual(arrows_of(RELAYED + second)[-2:], [
+            ("datagram", 1, 2, "datagram 3: discovery @1 obj 'z 3 6 - | sends datagram 4"),
+            ("datagram", 2, 3, "datagram 4: discovery @1 obj 'z 3 5 -")])
+        line = "nodes 4\nlink 1 2\nlink 2 3\nlink 4 2\nstart\n" + RELAYED.split("start\n")[1]
+        third = "api 4 0 asa 'd = asa 2\napi 4 2 discover 'y neg 6 1000 = searching\ndatagram 4 = taken\narrive 3 = taken\n"
+        found = arrows_of(line + third + "bytes 3 far 9999 = taken\n")
+        self.assertEqual(found[-2][:3], ("arrival", 2, 4))
+        self.assertIn("divert v6 @3 tcp 7017", found[-1][3].replace(" |  ", ""))
+
+    def test_what_is_not_told(self):
+        without = FLOOD.split("start\n")[1]
+        self.assertEqual(arrows_of(without), [])
+        self.assertEqual(len(of_kind(without, "untold")), 5)
+        self.assertEqual(len(of_kind(AGENTS + "arrive 7 = taken\nbytes 7 far 1 = taken\ncut 7 near = taken\n", "untold")), 3)
+
+
+class Pictures(unittest.TestCase):
+    def test_every_line_has_its_mark(self):
+        for reports in (LOST_ACCEPTANCE, COUNTER_OFFER, LAST_LOOP, WAITS, FLOOD, RING, FINDING, SYNCHRONIZING, RELAYED):
+            lines = [line for line in written_out(reports).decode().splitlines() if " = " in line]
+            titles = [group.find("{http://www.w3.org/2000/svg}title").text for group in groups_of(reports)]
+            self.assertEqual(titles, lines)
+
+    def test_same_input_same_picture(self):
+        self.assertEqual(chart.chart(written_out(FLOOD)), chart.chart(written_out(FLOOD)))
+
+    def test_title(self):
+        self.assertIn(">a &lt;b&gt; &amp; c</text>", chart.chart(written_out(LAST_LOOP), None, "a <b> & c"))
+
+    def test_picture_in_docs(self):
+        drawn = chart.chart(written_out(AGREEMENT), None, "examples/agreement.script")
+        self.assertEqual((HERE.parent / "docs" / "agreement.svg").read_text(), drawn)
+
+    def test_agreement_is_of_the_example(self):
+        script = (HERE.parent / "examples" / "agreement.script").read_text().split("start\n")[1].splitlines()
+        self.assertEqual([line.split(" = ")[0] for line in AGREEMENT.splitlines()], script)
+
+
+class Refusals(unittest.TestCase):
+    def refuses(self, octets, words, script=None):
+        with self.assertRaises(chart.Refused) as raised:
+            chart.chart(octets, script)
+        self.assertEqual(str(raised.exception), words)
+
+    def test_lines(self):
+        front = AGENTS.encode()
+        self.refuses(b"", "no report in line 1")
+        self.refuses(front + b"arrive 1\n", "no answer in line 6")
+        self.refuses(front + b"\n", "no answer in line 6")
+        self.refuses(front + b"arrive 1 = take\n", "bad answer in line 6")
+        self.refuses(front + b"arrive 1 = taken \n", "bad answer in line 6")
+        self.refuses(front + b"arrive 01 = taken\n", "bad event in line 6")
+        self.refuses(front + b"arrives 1 = taken\n", "unknown event in line 6")
+        self.refuses(front + b"hold clock 1 7 = 7\n", "unknown event in line 6")
+        self.refuses(front + b"api 1 2 steps 1 x02 = done\n", "unknown call in line 6")
+        self.refuses(front + b"api 1 2 step 1 x2 = done\n", "bad event in line 6")
+        self.refuses(front + b"api 1 2 step 1 x02 = refused 13 LoopsSpent\n", "bad answer in line 6")
+        self.refuses(front + b"api 65 2 step 1 x02 = done\n", "bad event in line 6")
+        self.refuses(front + b"arrive 18446744073709551616 = nothing\n", "too large a number in line 6")
+        self.refuses(front + "arrive 1 = täken\n".encode(), "not plain text in line 6")
+        self.refuses(front + b"arrive 1 = taken\r\n", "not plain text in line 6")
+
+    def test_headers(self):
+        self.refuses(b"nodes 2\nlink 1 2\n", "header without start in line 3")
+        self.refuses(b"nodes 2\nlink 1 3\nstart\n", "bad header in line 2")
+        self.refuses(b"nodes 2\nlink 1 1\nstart\n", "bad header in line 2")
+        self.refuses(b"nodes 65\nstart\n", "bad header in line 1")
+        self.refuses(b"nodes 2\nlink 1 2\nstart\napi 3 0 asa 'a = asa 2\n", "unknown node in line 4")
+        self.refuses(AGENTS.encode(), "bad header in line 1 of the script", b"start\n")
+        self.refuses(AGENTS.encode(), "header without start in line 2 of the script", b"nodes 2\n")
+
+    def run_tool(self, *words, given=b""):
+        done = subprocess.run([sys.executable, str(HERE / "chart.py"), *words], input=given, capture_output=True)
+        return done.returncode, done.stdout.decode(), done.stderr.decode()
+
+    def test_command_line(self):
+        self.assertEqual(self.run_tool("--version"), (0, chart.VERSION + "\n", ""))
+        status, text, errors = self.run_tool("--help")
+        self.assertEqual((status, errors), (0, ""))
+        self.assertIn("usage: chart.py", text)
+        self.assertEqual(self.run_tool("--scale", "3")[:2], (2, ""))
+        self.assertEqual(self.run_tool("a", "b")[:2], (2, ""))
+        self.assertEqual(self.run_tool(given=b"arrive 1 = token\n"), (1, "", "bad answer in line 1\n"))
+        self.assertEqual(self.run_tool("/no/such/file")[:2], (1, ""))
+        status, text, errors = self.run_tool("--title", "T", "-", given=written_out(WAITS))
+        self.assertEqual((status, errors), (0, ""))
+        self.assertEqual(text, chart.chart(written_out(WAITS), None, "T"))
+
+
+if __name__ == "__main__":
+    unittest.main()
