@@ -7,8 +7,6 @@ The runs are written out here as reports, some of them of worlds with more nodes
 In their lines @K stands for the address of node K, {DIGITS} for 20010db80000, four digits and sixteen zeros, and PM for
 'PrefixManager.
 """
-import contextlib
-import io
 import pathlib
 import re
 import subprocess
