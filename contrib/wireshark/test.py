@@ -97,7 +97,8 @@ class Capture:
     def write(self, path):
         out = [struct.pack("<IHHiIII", 0xA1B2C3D4, 2, 4, 0, 0, 262144, 1)]
         for number, frame in enumerate(self.frames):
-            out.append(struct.pack("<IIII", 1700000000 + number // 100, number % 100 * 10000, len(frame), len(frame)) + frame)
+            seconds, micros = 1700000000 + number // 100, number % 100 * 10000
+            out.append(struct.pack("<IIII", seconds, micros, len(frame), len(frame)) + frame)
         path.write_bytes(b"".join(out))
 
 
@@ -112,7 +113,6 @@ LONGEST = "831863015907f9" + "00" * 2041
 TOO_LONG = "831863015907fa" + "00" * 2042
 V6 = "841867" + "50fd000000000000000000000000000002" + "06191b69"
 FQDN = "84186966612e746573741107"
-URI = "84186a68783a2f2f612f6273f6f6".replace("6273", "62")
 RESPONSE_LINE = "response 1 7f000001 60000 locators v4 7f000001 tcp 7017"
 FLOOD_LINE = "flood 1 fd000000000000000000000000000001 1000 obj 'a 5 1 x07 none"
 REQUEST_LINE = "request-neg 1 obj 'PrefixManager 3 6 x811838"
@@ -163,9 +163,12 @@ DATAGRAMS = [
         "grasp.diagnostic": "[" * 13 + "]" * 13}),
     ("longest_message", LONGEST, ("invalid 1 x5907f9" + "0" * 4082)[:512] + "..", {
         "grasp.line": "invalid 1 x5907f9" + "0" * 4082}),
-    ("shortest_value", "83186301" + "9f1800" + "1b0000000000000001" + "3bffffffffffffffff" + "bf01f4ff" + "c11a5f5e1000" + "fb3ff8000000000000" + "f93c00" + "f8ff" + "5f4101420203ff" + "7f616161" + "62ff" + "ff",
-     "invalid 1 x8a" + "00" + "01" + "3bffffffffffffffff" + "a101f4" + "c11a5f5e1000" + "fb3ff8000000000000" + "f93c00" + "f8ff" + "43010203" + "626162", {
-         "grasp.diagnostic": "[0, 1, -1-0xffffffffffffffff, {1: false}, 1(1600000000), 1.5, 1.0, simple(255), h'010203', \"ab\"]"}),
+    ("shortest_value", "83186301" + "9f1800" + "1b0000000000000001" + "3bffffffffffffffff" + "bf01f4ff" + "c11a5f5e1000"
+     + "fb3ff8000000000000" + "f93c00" + "f8ff" + "5f4101420203ff" + "7f616161" + "62ff" + "ff",
+     "invalid 1 x8a" + "00" + "01" + "3bffffffffffffffff" + "a101f4" + "c11a5f5e1000"
+     + "fb3ff8000000000000" + "f93c00" + "f8ff" + "43010203" + "626162", {
+         "grasp.diagnostic": "[0, 1, -1-0xffffffffffffffff, {1: false}, 1(1600000000), 1.5, 1.0, simple(255), h'010203', "
+                             '"ab"]'}),
     ("indefinite_noop", "9f00ff", "noop", {}),
     ("indefinite_wait", "9f0701191388ff", "wait 1 5000", {}),
     ("indefinite_reason", "8306019f18667f616e616fffff", "end 1 decline 'no", {"grasp.decline.reason": "no"}),
@@ -181,6 +184,7 @@ DATAGRAMS = [
     ("break_after_a_tag", "9fc1ff", "malformed at 2", {}),
     ("not_text", "83060182186661c3", "not text at 7", {}),
     ("not_text_surrogate", "83060182186663eda080", "not text at 8", {}),
+    ("not_text_third_byte", "83060182186663e28241", "not text at 9", {}),
     ("character_cut_between_chunks", "7f61c361a9ff", "not text at 2", {}),
     ("too_deep", "81" * 17, "too deep at 16", {"grasp.fault.at": "16"}),
     ("truncated", "8307011913", "truncated at 5", {"grasp.fault": "truncated at 5"}),
@@ -189,6 +193,8 @@ DATAGRAMS = [
         "grasp.fault.at": "0", "grasp.diagnostic": '[3, 1, ["PrefixManager", 16, 6, [56]]]'}),
     ("detail_too_deep", "83186301" + "81" * 13 + "80", "not a message at 0", {}),
     ("too_long", TOO_LONG, "too long at 0", {"grasp.fault": "too long at 0"}),
+    ("open_at_the_limit", TOO_LONG[:4096], "too long at 0", {}),
+    ("open_before_the_limit", TOO_LONG[:4094], "truncated at 2047", {}),
     ("unknown_type", "820a01", "not a message at 0", {}),
     ("float_as_session", "8307fa3f800000" + "05", "not a message at 0", {}),
     ("flood_without_parts", "84090144" + "7f00000100", "not a message at 0", {}),
@@ -206,7 +212,7 @@ def hexes(*parts):
     return bytes.fromhex("".join(parts))
 
 
-# Each stream: a name, its segments, and for each segment its info column, or None where it only carries a part of a message.
+# Each stream: a name, its segments, and for each segment its info column, or None where it only has a part of a message.
 STREAMS = [
     ("one_message", [hexes(WAIT)], ["wait 1 5000"]),
     ("three_in_a_segment", [hexes(WAIT, NOOP, ACCEPT)], ["wait 1 5000 | noop | end 4660 accept"]),
@@ -218,6 +224,7 @@ STREAMS = [
     ("longest_message", split(hexes(LONGEST, NOOP), 1000, 2000), [None, None, (
         "invalid 1 x5907f9" + "0" * 4082)[:512] + ".. | noop"]),
     ("too_long", split(hexes(TOO_LONG), 1000, 2000, 2047), [None, None, None, "too long at 0"]),
+    ("open_at_the_limit", split(hexes(TOO_LONG[:4096]), 2047), [None, "too long at 0"]),
     ("fault_after_a_message", [hexes(WAIT, "83071c"), hexes(NOOP)], ["wait 1 5000 | malformed at 2", "after a fault"]),
     ("fault_over_segments", split(hexes("83071c00", NOOP), 2, 4), [None, "malformed at 2", "after a fault"]),
     ("fault_of_a_text_over_segments", split(hexes("83060182186663eda0"), 8), [None, "not text at 8"]),
@@ -240,7 +247,7 @@ FILTERS = [
     ("grasp.trailing && udp", ["trailing"]),
     ("grasp.malformed && udp", ["reserved_head", "simple_below_32", "break_alone", "half_a_pair", "chunk_of_another_major",
                                 "break_in_a_definite_array", "break_after_a_tag"]),
-    ("grasp.not_text && udp", ["not_text", "not_text_surrogate", "character_cut_between_chunks"]),
+    ("grasp.not_text && udp", ["not_text", "not_text_surrogate", "not_text_third_byte", "character_cut_between_chunks"]),
     ("grasp.fault.at == 7", ["not_text"]),
     ('_ws.expert.message == "truncated at 5"', ["truncated"]),
 ]
@@ -271,7 +278,7 @@ class Tshark:
     def call(self, *words):
         command = ["tshark", "-n", "-r", str(self.path), "-X", f"lua_script:{HERE / 'grasp.lua'}",
                    "-o", "ip.check_checksum:TRUE", "-o", "udp.check_checksum:TRUE", "-o", "tcp.check_checksum:TRUE", *words]
-        return subprocess.run(command, capture_output=True, text=True)
+        return subprocess.run(command, capture_output=True, encoding="utf-8", errors="replace")
 
     def rows(self, fields, *words):
         """For each packet the values of these fields."""
@@ -345,6 +352,13 @@ def check_ports(checks, capture, tshark):
     checks.same("decode as", found, ["wait 1 5000", "wait 1 5000"])
 
 
+def check_limit(checks, capture, tshark):
+    """A larger limit makes a message of what is too long by default."""
+    rows = tshark.rows(["grasp.line"], "-Y", "grasp && udp", "-o", "grasp.limit:2049")
+    found = [row[0] for number, row in rows.items() if capture.carried[number - 1][0] == "udp too_long"]
+    checks.same("larger limit", found, ["invalid 1 x5907fa" + "0" * 4084])
+
+
 def main():
     if len(sys.argv) not in (1, 3) or len(sys.argv) == 3 and sys.argv[1] != "--keep":
         print(__doc__)
@@ -364,6 +378,7 @@ def main():
         check_tree(checks, tshark)
         check_filters(checks, capture, tshark)
         check_ports(checks, capture, tshark)
+        check_limit(checks, capture, tshark)
     print(f"{len(DATAGRAMS)} datagrams, {len(STREAMS)} streams: {checks.made} checks, {checks.wrong} wrong")
     return 1 if checks.wrong else 0
 
