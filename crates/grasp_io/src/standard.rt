@@ -66,7 +66,7 @@ impl<W: Write> Sink for StdSink<W> {
 }
 
 // One read. A read that a signal interrupted is made again.
-fn read_some<R: Read>(reader: &mut R, into: &mut [u8]) -> Result<usize, Failed>
+pub(crate) fn read_some<R: Read>(reader: &mut R, into: &mut [u8]) -> Result<usize, Failed>
     ensures { IfOk result (λ n. n ≤ length into.new) }
 {
     for _ in 0..u64::MAX {
