@@ -1,0 +1,9 @@
+pub mod Collected
+pub mod EndpointWords
+pub mod FirstBad
+pub mod GoodRoots
+pub mod KnownKeys
+pub mod OneConfig
+pub mod Ranges
+pub mod RootsDecided
+pub mod SomeConfig

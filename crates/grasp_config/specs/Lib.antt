@@ -1,0 +1,9 @@
+pub mod Parts
+pub mod Table
+pub mod Words
+pub mod Keys
+pub mod Config
+pub mod Faults
+pub mod Answered
+pub mod Groups
+pub mod Laws
