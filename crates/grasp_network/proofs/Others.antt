@@ -1,69 +1,45 @@
--- An event changes no node but the one that makes its step.
-use Rattle.std.proofs.Common.{◌≡◌, ◌≢◌, refl, sym, ap, ◌∙◌, subst, arith, ℕ, zero, suc, ◌+◌, ◌-◌, ◌≤◌, ◌==◌, Bool, true, false, cond, List, [], ◌∷◌, slice_get, slice_set, take, Option, Some, None}
-use Rattle.grasp_agent.specs.Announcing.{reads_in}
-use Rattle.grasp_agent.specs.Replies.{answer_in, is_done, started_in, incoming_in}
-use Rattle.grasp_core.specs.Begin.{begin}
-use Rattle.grasp_core.specs.Draining.{closes, after_drain}
-use Rattle.grasp_types.specs.declared.call.Call.{Call}
-use Rattle.grasp_types.specs.declared.flood.FloodRead.{FloodRead}
-use Rattle.grasp_types.specs.declared.objective.Objective.{Objective}
-use Rattle.grasp_types.specs.declared.reply.Reply.{Reply}
-use Rattle.grasp_types.specs.declared.session.Handle.{Handle}
-use Rattle.grasp_network.proofs.Sent.{sending_keeps_nodes}
-use Rattle.grasp_network.specs.Deliveries.{with_answer, answered_by}
-use Rattle.grasp_network.specs.Notes.{Flooding, with_handle, with_handles, with_flooding, with_flood_call, with_reads, flooding_in, noted}
-use Rattle.grasp_network.specs.Visits.{Visit, Choice}
-use Rattle.grasp_network.specs.World.{Seat, SentDatagram, WorldState, seat_at, with_seat}
-use Rattle.std.specs.List.{list_any}
-use Rattle.grasp_agent.specs.Calls.{next_call}
+-- An event changes no node but the one that makes its step, and there are as many nodes as before.
+use Rattle.std.proofs.Common.{◌≡◌, ◌≢◌, refl, sym, ap, ◌∙◌, subst, arith, ℕ, zero, suc, ◌+◌, ◌-◌, ◌≤◌, ◌==◌, Bool, true, false, List, [], ◌∷◌, length, slice_get, slice_set, take, Option, Some, None}
+use Rattle.std.proofs.lemmas.List.{length-set}
 use Rattle.grasp_agent.specs.Replies.{after_reply}
 use Rattle.grasp_agent.specs.States.{AgentState}
+use Rattle.grasp_core.specs.Begin.{begin}
+use Rattle.grasp_core.specs.Draining.{closes, after_drain}
 use Rattle.grasp_core.specs.Node.{NodeState}
+use Rattle.grasp_types.specs.declared.reply.Reply.{Reply}
+use Rattle.grasp_network.proofs.Here.{visits_are_here}
 use Rattle.grasp_network.proofs.Links.{less_and_more}
-use Rattle.grasp_network.specs.Agents.{replied_to}
-use Rattle.grasp_network.specs.Deliveries.{sought_in, is_own_answer}
-use Rattle.grasp_network.specs.Events.{after_visit, after_by, after_event, drains, drained_behind}
+use Rattle.grasp_network.proofs.Sent.{sending_keeps_nodes}
+use Rattle.grasp_network.specs.AgentCalls.{after_agent_call}
+use Rattle.grasp_network.specs.Agents.{after_agent}
+use Rattle.grasp_network.specs.Arrivals.{arrived, after_arrival}
+use Rattle.grasp_network.specs.Clocks.{after_clock}
+use Rattle.grasp_network.specs.Cuts.{told, after_cut}
+use Rattle.grasp_network.specs.Deliveries.{after_delivery}
+use Rattle.grasp_network.specs.Events.{visit_of, after_visit, after_by, after_event, drains, drained_behind}
 use Rattle.grasp_network.specs.Laws.{OthersStay}
-use Rattle.grasp_network.specs.Sending.{gained, stepped, drained, drained_at, drained_from, event_drain}
-use Rattle.grasp_network.specs.Setting.{numbered}
+use Rattle.grasp_network.specs.Notes.{noted}
+use Rattle.grasp_network.specs.Pieces.{Reached, reached_side, side_named, delivered, after_piece}
+use Rattle.grasp_network.specs.Sending.{seat_with, stepped, drained, drained_at, drained_from, event_drain}
+use Rattle.grasp_network.specs.Setting.{Setting, numbered}
+use Rattle.grasp_network.specs.Talks.{TalkState, talk_numbered}
+use Rattle.grasp_network.specs.Visits.{Visit, Choice}
+use Rattle.grasp_network.specs.World.{Seat, WorldState, seat_at, with_seat}
 use Rattle.grasp_network.specs.declared.event.Event.{Event}
 use Rattle.grasp_network.specs.declared.event.Event.TheVariants as event
 
--- ---- what is remembered changes no node
+-- ---- as many nodes as before, and the same ones at every number but this
 
-pub handle_keeps : (w : WorldState) (node : ℕ) (s : Seat) (h : Option Handle) → (with_handle w node s h).seats ≡ w.seats
-handle_keeps w node s None = refl
-handle_keeps w node s (Some h) = refl
+pub record SameBut (node : ℕ) (w x : WorldState) : Type 0 where
+  pub count : length x.seats ≡ length w.seats
+  pub others : (n : ℕ) → n ≢ node → seat_at x n ≡ seat_at w n
 
-pub flooding_keeps : (w : WorldState) (node : ℕ) (s : Seat) (asa : ℕ) (f : Option Flooding) → (with_flooding w node s asa f).seats ≡ w.seats
-flooding_keeps w node s asa None = refl
-flooding_keeps w node s asa (Some f) = refl
+-- where the nodes are the same
+pub same_seats : (node : ℕ) (w x : WorldState) → x.seats ≡ w.seats → SameBut node w x
+same_seats node w x e = record { count = ap length e; others = λ n apart. ap (λ seats. numbered seats n) e }
 
-pub flooding_if_keeps : (w : WorldState) (node : ℕ) (s : Seat) (asa : ℕ) (f : Option Flooding) (b : Bool) → (cond b (with_flooding w node s asa f) w).seats ≡ w.seats
-flooding_if_keeps w node s asa f true = flooding_keeps w node s asa f
-flooding_if_keeps w node s asa f false = refl
-
-pub reads_keep : (w : WorldState) (r : Option (List FloodRead)) → (with_reads w r).seats ≡ w.seats
-reads_keep w None = refl
-reads_keep w (Some r) = refl
-
-pub noted_keeps : (w : WorldState) (node : ℕ) (s : Seat) (asa : ℕ) (call : Call) (r : Reply) → (noted w node s asa call r).seats ≡ w.seats
-unfolding noted
-noted_keeps w node s asa call r =
-    reads_keep (with_flood_call (with_handles w node s r) node s asa call r) (reads_in (answer_in r))
-    ∙ (flooding_if_keeps (with_handles w node s r) node s asa (flooding_in call) (is_done (answer_in r))
-    ∙ (handle_keeps (with_handle w node s (started_in (answer_in r))) node s (incoming_in (answer_in r))
-    ∙ handle_keeps w node s (started_in (answer_in r))))
-
-pub answer_keeps : (w : WorldState) (v : Visit) (o : Option Objective) → (with_answer w v o).seats ≡ w.seats
-answer_keeps w v None = refl
-answer_keeps w v (Some o) = refl
-
-pub answer_if_keeps : (w : WorldState) (v : Visit) (o : Option Objective) (b : Bool) → (cond b (with_answer w v o) w).seats ≡ w.seats
-answer_if_keeps w v o true = answer_keeps w v o
-answer_if_keeps w v o false = refl
-
--- ---- a node at one number changes none at another
+pub same_then : (node : ℕ) (w x y : WorldState) → SameBut node w x → SameBut node x y → SameBut node w y
+same_then node w x y a b = record { count = b.count ∙ a.count; others = λ n apart. b.others n apart ∙ a.others n apart }
 
 pub set_elsewhere : {A : Type 0} (xs : List A) (i j : ℕ) (x : A) → j ≢ i → slice_get (slice_set xs i x) j ≡ slice_get xs j
 set_elsewhere [] i j x apart = refl
@@ -72,75 +48,93 @@ set_elsewhere (y ∷ ys) zero (suc j) x apart = refl
 set_elsewhere (y ∷ ys) (suc i) zero x apart = refl
 set_elsewhere (y ∷ ys) (suc i) (suc j) x apart = set_elsewhere ys i j x (λ e. apart (ap suc e))
 
--- where the nodes are the same, each is
-pub same_seats : (w x : WorldState) (n : ℕ) → x.seats ≡ w.seats → seat_at x n ≡ seat_at w n
-same_seats w x n e = ap (λ seats. numbered seats n) e
-
-pub put_elsewhere : (w : WorldState) (node n : ℕ) (s : Seat) → 1 ≤ node → n ≢ node → seat_at (with_seat w node s) n ≡ seat_at w n
-put_elsewhere w node n s least apart = by_first (n == 0) refl where
-  by_first : (b : Bool) → (n == 0) ≡ b → seat_at (with_seat w node s) n ≡ seat_at w n
+pub put_elsewhere : (seats : List Seat) (node n : ℕ) (seat : Seat) → 1 ≤ node → n ≢ node → numbered (slice_set seats (node - 1) seat) n ≡ numbered seats n
+put_elsewhere seats node n seat least apart = by_first (n == 0) refl where
+  by_first : (b : Bool) → (n == 0) ≡ b → numbered (slice_set seats (node - 1) seat) n ≡ numbered seats n
   by_first true is = rw is refl
   by_first false is =
       rw is
-      (set_elsewhere w.seats (node - 1) (n - 1) s (λ e. apart (let a : (n - 1) + 1 ≡ n = less_and_more n is in let b : n - 1 ≡ node - 1 = e in let c : 1 ≤ node = least in omega arith)))
+      (set_elsewhere seats (node - 1) (n - 1) seat (λ e. apart (let a : (n - 1) + 1 ≡ n = less_and_more n is in let b : n - 1 ≡ node - 1 = e in let c : 1 ≤ node = least in omega arith)))
 
-pub stepped_elsewhere : (w : WorldState) (node n : ℕ) (s : Seat) (after : NodeState) → 1 ≤ node → n ≢ node → seat_at (stepped w node s after) n ≡ seat_at w n
-unfolding stepped
-stepped_elsewhere w node n s after least apart = put_elsewhere w node n (record s { core = after }) least apart
+-- where one node was put
+pub put_same : (node : ℕ) (w x : WorldState) (seat : Seat) → 1 ≤ node → x.seats ≡ slice_set w.seats (node - 1) seat → SameBut node w x
+put_same node w x seat least e = record {
+  count = ap length e ∙ length-set w.seats (node - 1) seat;
+  others = λ n apart. ap (λ seats. numbered seats n) e ∙ put_elsewhere w.seats node n seat least apart;
+}
 
-pub drained_by : (w : WorldState) (node n max : ℕ) (s : Option Seat) → 1 ≤ node → n ≢ node → seat_at (drained_at w node max s) n ≡ seat_at w n
-drained_by w node n max None least apart = refl
-drained_by w node n max (Some s) least apart = from (begin s.core s.core.reading) where
-  from : (m : NodeState) → seat_at (drained_from w node s m max) n ≡ seat_at w n
+-- ---- a drain
+
+pub drained_by : (s : Setting) (w : WorldState) (node max : ℕ) (o : Option Seat) → 1 ≤ node → SameBut node w (drained_at s w node max o)
+drained_by s w node max None least = same_seats node w w refl
+drained_by s w node max (Some seat) least = from (begin seat.core seat.core.reading) where
+  from : (m : NodeState) → SameBut node w (drained_from s w node seat m max)
   from m =
-      same_seats (with_seat w node (record s { core = after_drain m max })) (drained_from w node s m max) n
-      (sending_keeps_nodes (with_seat w node (record s { core = after_drain m max })) node s (take max m.queue) (closes m max))
-      ∙ put_elsewhere w node n (record s { core = after_drain m max }) least apart
+      put_same node w (drained_from s w node seat m max) (seat_with seat (after_drain m max) seat.agent) least
+      (sending_keeps_nodes s (with_seat w node (seat_with seat (after_drain m max) seat.agent)) node seat (take max m.queue) (closes m max))
 
-pub drained_elsewhere : (w : WorldState) (node n max : ℕ) → 1 ≤ node → n ≢ node → seat_at (drained w node max) n ≡ seat_at w n
+pub drained_same : (s : Setting) (w : WorldState) (node max : ℕ) → 1 ≤ node → SameBut node w (drained s w node max)
 unfolding drained
-drained_elsewhere w node n max least apart = drained_by w node n max (seat_at w node) least apart
+drained_same s w node max least = drained_by s w node max (seat_at w node) least
 
--- ---- each kind of event
+-- ---- a step
 
-pub replied_elsewhere : (w : WorldState) (node n : ℕ) (s : Seat) (c : Choice) (agent : AgentState) → 1 ≤ node → n ≢ node
-    → seat_at (replied_to w node s c agent) n ≡ seat_at w n
-replied_elsewhere w node n s c agent least apart =
-    same_seats put (replied_to w node s c agent) n (noted_keeps put node s s.agent.asa (next_call s.agent) c.reply)
-    ∙ put_elsewhere w node n (record s { core = c.after; agent = agent }) least apart
-  where
-    put : WorldState
-    put = with_seat w node (record s { core = c.after; agent = agent })
+pub arrived_keeps : (w : WorldState) (v : Visit) (number : ℕ) (r : Reply) (o : Option TalkState) → (arrived w v number r o).seats ≡ w.seats
+arrived_keeps w v number r None = refl
+arrived_keeps w v number r (Some t) = refl
 
-pub answered_keeps : (w : WorldState) (v : Visit) (c : Choice) (d : Option SentDatagram) → (answered_by w v c d).seats ≡ w.seats
-answered_keeps w v c None = refl
-answered_keeps w v c (Some d) = answer_if_keeps w v (sought_in d.message) (list_any is_own_answer (gained v.seat.core c.after))
+pub delivered_keeps : (w : WorldState) (count : ℕ) (o : Option Reached) → (delivered w count o).seats ≡ w.seats
+delivered_keeps w count None = refl
+delivered_keeps w count (Some x) = refl
 
-pub visit_elsewhere : (w : WorldState) (e : Event) (v : Visit) (c : Choice) (n : ℕ) → 1 ≤ v.node → n ≢ v.node → seat_at (after_visit w e v c) n ≡ seat_at w n
-visit_elsewhere w (event.Clock node millis) v c n least apart = stepped_elsewhere w v.node n v.seat c.after least apart
-visit_elsewhere w (event.Want node length longest peer) v c n least apart = refl
-visit_elsewhere w (event.Agent node hold) v c n least apart =
-    replied_elsewhere (stepped w v.node v.seat c.after) v.node n v.seat c (after_reply v.seat.agent c.reply) least apart
-    ∙ stepped_elsewhere w v.node n v.seat c.after least apart
-visit_elsewhere w (event.Api node asa call hold) v c n least apart =
-    same_seats (stepped w v.node v.seat c.after) (noted (stepped w v.node v.seat c.after) v.node v.seat asa call c.reply) n
-    (noted_keeps (stepped w v.node v.seat c.after) v.node v.seat asa call c.reply)
-    ∙ stepped_elsewhere w v.node n v.seat c.after least apart
-visit_elsewhere w (event.Datagram index hold) v c n least apart =
-    same_seats (stepped w v.node v.seat c.after) (answered_by (stepped w v.node v.seat c.after) v c (numbered w.datagrams index)) n
-    (answered_keeps (stepped w v.node v.seat c.after) v c (numbered w.datagrams index))
-    ∙ stepped_elsewhere w v.node n v.seat c.after least apart
-visit_elsewhere w (event.Arrive stream hold) v c n least apart = stepped_elsewhere w v.node n v.seat c.after least apart
-visit_elsewhere w (event.Bytes stream far count hold) v c n least apart = stepped_elsewhere w v.node n v.seat c.after least apart
-visit_elsewhere w (event.Cut stream far hold) v c n least apart = stepped_elsewhere w v.node n v.seat c.after least apart
-visit_elsewhere w (event.Drain node max) v c n least apart = drained_elsewhere w v.node n max least apart
+pub told_keeps : (w : WorldState) (o : Option Reached) → (told w o).seats ≡ w.seats
+told_keeps w None = refl
+told_keeps w (Some x) = refl
 
-pub behind_elsewhere : (b : Bool) (w : WorldState) (node n : ℕ) → 1 ≤ node → n ≢ node → seat_at (drained_behind b w node) n ≡ seat_at w n
-behind_elsewhere true w node n least apart = drained_elsewhere w node n event_drain least apart
-behind_elsewhere false w node n least apart = refl
+pub stepped_same : (w x : WorldState) (v : Visit) (core : NodeState) (agent : AgentState) → 1 ≤ v.node → x.seats ≡ w.seats → SameBut v.node w (stepped x v core agent)
+unfolding stepped
+stepped_same w x v core agent least e = put_same v.node w (stepped x v core agent) (seat_with v.seat core agent) least (ap (λ seats. slice_set seats (v.node - 1) (seat_with v.seat core agent)) e)
+
+pub noted_same : (w : WorldState) (v : Visit) (c : Choice) (agent : AgentState) → 1 ≤ v.node → SameBut v.node w (stepped w v c.after agent)
+noted_same w v c agent least = stepped_same w w v c.after agent least refl
+
+-- a network with the same nodes
+pub also : (node : ℕ) (w x y : WorldState) → y.seats ≡ x.seats → SameBut node w x → SameBut node w y
+also node w x y e a = same_then node w x y a (same_seats node x y e)
+
+pub visit_same : (s : Setting) (w : WorldState) (e : Event) (v : Visit) (c : Choice) → 1 ≤ v.node → SameBut v.node w (after_visit s w e v c)
+unfolding after_clock after_agent after_agent_call after_delivery after_arrival after_piece after_cut noted
+visit_same s w (event.Clock node millis) v c least = noted_same w v c v.seat.agent least
+visit_same s w (event.Want node length longest peer) v c least = same_seats v.node w w refl
+visit_same s w (event.Agent node hold) v c least =
+    also v.node w (stepped w v c.after (after_reply v.seat.agent c.reply)) (after_agent w v c) refl (noted_same w v c (after_reply v.seat.agent c.reply) least)
+visit_same s w (event.Api node asa call hold) v c least =
+    also v.node w (stepped w v c.after v.seat.agent) (after_agent_call w v asa call c) refl (noted_same w v c v.seat.agent least)
+visit_same s w (event.Datagram index hold) v c least =
+    also v.node w (stepped w v c.after v.seat.agent) (after_delivery w v index c) refl (noted_same w v c v.seat.agent least)
+visit_same s w (event.Arrive stream hold) v c least =
+    stepped_same w (arrived w v (s.arrives_as v.node stream) c.reply (talk_numbered w.talks stream)) v c.after v.seat.agent least
+    (arrived_keeps w v (s.arrives_as v.node stream) c.reply (talk_numbered w.talks stream))
+visit_same s w (event.Bytes stream far count hold) v c least =
+    stepped_same w (delivered w count (reached_side w stream (side_named far))) v c.after v.seat.agent least
+    (delivered_keeps w count (reached_side w stream (side_named far)))
+visit_same s w (event.Cut stream far hold) v c least =
+    stepped_same w (told w (reached_side w stream (side_named far))) v c.after v.seat.agent least
+    (told_keeps w (reached_side w stream (side_named far)))
+visit_same s w (event.Drain node max) v c least = drained_same s w v.node max least
+
+pub behind_same : (b : Bool) (s : Setting) (w : WorldState) (node : ℕ) → 1 ≤ node → SameBut node w (drained_behind b s w node)
+behind_same true s w node least = drained_same s w node event_drain least
+behind_same false s w node least = same_seats node w w refl
+
+pub event_same : (s : Setting) (w : WorldState) (e : Event) (c : Choice) (v : Visit) → visit_of s w e ≡ Some v → SameBut v.node w (after_event s w e c)
+unfolding after_event
+event_same s w e c v is = at_node (visits_are_here s w e v is).member.least where
+  at_node : 1 ≤ v.node → SameBut v.node w (after_event s w e c)
+  at_node least =
+      subst (λ o. SameBut v.node w (after_by s w e c o)) (sym is)
+      (same_then v.node w (after_visit s w e v c) (drained_behind (drains e) s (after_visit s w e v c) v.node)
+      (visit_same s w e v c least) (behind_same (drains e) s (after_visit s w e v c) v.node least))
 
 pub others_stay : OthersStay
-unfolding after_event
-others_stay w e c v n is least apart =
-    subst (λ o. seat_at (after_by w e c o) n ≡ seat_at w n) (sym is)
-    (behind_elsewhere (drains e) (after_visit w e v c) v.node n least apart ∙ visit_elsewhere w e v c n least apart)
+others_stay s w e c v n is apart = (event_same s w e c v is).others n apart

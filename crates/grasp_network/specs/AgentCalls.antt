@@ -10,5 +10,5 @@ use Rattle.grasp_network.specs.World.{WorldState}
 abbrev pub call_visit : WorldState → ℕ → ℕ → Call → Option Visit
 call_visit w node asa c = visit w node (input.Api asa c)
 
-abbrev pub after_agent_call : WorldState → Visit → ℕ → Call → Choice → WorldState
-after_agent_call w v asa call c = noted (stepped w v.node v.seat c.after) v.node v.seat asa call c.reply
+unfoldable pub after_agent_call : WorldState → Visit → ℕ → Call → Choice → WorldState
+after_agent_call w v asa call c = noted (stepped w v c.after v.seat.agent) v asa call c.reply

@@ -6,10 +6,10 @@ use Rattle.grasp_agent.specs.States.{AgentState}
 use Rattle.grasp_types.specs.declared.traffic.Input.{Input}
 use Rattle.grasp_types.specs.declared.traffic.Input.TheVariants as input
 use Rattle.grasp_network.specs.Notes.{noted}
-use Rattle.grasp_network.specs.Offers.{offers_after, with_offers}
+use Rattle.grasp_network.specs.Offers.{offers_after}
 use Rattle.grasp_network.specs.Sending.{stepped}
 use Rattle.grasp_network.specs.Visits.{Visit, Choice, visit_seat}
-use Rattle.grasp_network.specs.World.{Seat, WorldState, seat_at, with_seat}
+use Rattle.grasp_network.specs.World.{Seat, WorldState, seat_at}
 
 -- the agent makes its next call, as the agent that it is
 abbrev pub agent_input : AgentState → Input
@@ -17,17 +17,15 @@ agent_input a = input.Api a.asa (next_call a)
 
 abbrev pub agent_seat : ℕ → Option Seat → Option Visit
 agent_seat node None = None
-agent_seat node (Some s) = visit_seat node (agent_input s.agent) (Some s)
+agent_seat node (Some seat) = visit_seat node (agent_input seat.agent) (Some seat)
 
-abbrev pub agent_visit : WorldState → ℕ → Option Visit
+unfoldable pub agent_visit : WorldState → ℕ → Option Visit
 agent_visit w node = agent_seat node (seat_at w node)
 
--- the agent takes the reply
-abbrev pub replied_to : WorldState → ℕ → Seat → Choice → AgentState → WorldState
-replied_to w node s c agent =
-    with_offers
-    (noted (with_seat w node (record s { core = c.after; agent = agent })) node s s.agent.asa (next_call s.agent) c.reply)
-    (offers_after w node s c.after agent)
+-- the network after the step, which leaves this agent
+abbrev pub replied : WorldState → Visit → Choice → AgentState → WorldState
+replied w v c agent = record (noted (stepped w v c.after agent) v v.seat.agent.asa (next_call v.seat.agent) c.reply) { offers = offers_after w v c.after agent }
 
-abbrev pub after_agent : WorldState → Visit → Choice → WorldState
-after_agent w v c = replied_to (stepped w v.node v.seat c.after) v.node v.seat c (after_reply v.seat.agent c.reply)
+-- the agent takes the reply
+unfoldable pub after_agent : WorldState → Visit → Choice → WorldState
+after_agent w v c = replied w v c (after_reply v.seat.agent c.reply)

@@ -9,8 +9,9 @@ use Rattle.grasp_pool.specs.Holdings.{Holding}
 use Rattle.grasp_session.specs.Sessions.{stream_reply}
 use Rattle.grasp_types.specs.Prefix.{AddressBlock as Prefix}
 use Rattle.grasp_types.specs.declared.session.Handle.{Handle}
-use Rattle.grasp_network.specs.Talks.{TalkState, talk_of_end}
-use Rattle.grasp_network.specs.World.{Seat, Offered, WorldState, end_of}
+use Rattle.grasp_network.specs.Talks.{TalkState, place_of_end}
+use Rattle.grasp_network.specs.Visits.{Visit}
+use Rattle.grasp_network.specs.World.{Offered, WorldState, end_of}
 
 abbrev pub is_same_prefix : Prefix → Prefix → Bool
 is_same_prefix p q = p.address == q.address && p.length == q.length
@@ -27,30 +28,28 @@ is_kept node h o = not (o.node == node) || is_listed h o.prefix
 abbrev pub is_offer_of : ℕ → Prefix → Offered → Bool
 is_offer_of node p o = o.node == node && is_same_prefix p o.prefix
 
-abbrev pub talk_on : List TalkState → ℕ → Seat → Option ℕ → Option ℕ
-talk_on ts node s None = None
-talk_on ts node s (Some stream) = talk_of_end ts (end_of node s stream)
+abbrev pub talk_on : List TalkState → Visit → Option ℕ → Option ℕ
+talk_on ts v None = None
+talk_on ts v (Some stream) = place_of_end ts (end_of v.node v.seat stream)
 
--- the stream of a session of this node
-abbrev pub talk_of_handle : List TalkState → ℕ → Seat → NodeState → Handle → Option ℕ
-talk_of_handle ts node s n h = talk_on ts node s (stream_reply n.sessions h)
+-- the place of the stream of a session of this node
+abbrev pub talk_of_handle : List TalkState → Visit → NodeState → Handle → Option ℕ
+talk_of_handle ts v n h = talk_on ts v (stream_reply n.sessions h)
 
 -- this node has the prefix reserved for this stream, and for no other
 abbrev pub put_offer : List Offered → ℕ → Prefix → Option ℕ → List Offered
 put_offer offers node p talk = filter (λ o. not (is_offer_of node p o)) offers ++ record { node = node; prefix = p; talk = talk } ∷ []
 
 -- an agent that had no act and has one now has just decided it: an offer is reserved for the stream of its session
-abbrev pub with_decision : List Offered → List TalkState → ℕ → Seat → NodeState → Option Act → Option Act → List Offered
-with_decision offers ts node s n (Some old) new = offers
-with_decision offers ts node s n None None = offers
-with_decision offers ts node s n None (Some (act.Offer place h p)) = put_offer offers node p (talk_of_handle ts node s n h)
-with_decision offers ts node s n None (Some (act.Counter h length)) = offers
-with_decision offers ts node s n None (Some (act.Accept h p)) = offers
-with_decision offers ts node s n None (Some (act.Decline h reason)) = offers
+abbrev pub with_decision : List Offered → List TalkState → Visit → NodeState → Option Act → Option Act → List Offered
+with_decision offers ts v n (Some old) new = offers
+with_decision offers ts v n None None = offers
+with_decision offers ts v n None (Some (act.Offer place h p)) = put_offer offers v.node p (talk_of_handle ts v n h)
+with_decision offers ts v n None (Some (act.Counter h length)) = offers
+with_decision offers ts v n None (Some (act.Accept h p)) = offers
+with_decision offers ts v n None (Some (act.Decline h reason)) = offers
 
--- what isn't reserved or in doubt any more is forgotten, and what was just reserved joins
-unfoldable pub offers_after : WorldState → ℕ → Seat → NodeState → AgentState → List Offered
-offers_after w node s n agent = with_decision (filter (is_kept node agent.pool) w.offers) w.talks node s n s.agent.act agent.act
-
-abbrev pub with_offers : WorldState → List Offered → WorldState
-with_offers w offers = record w { offers = offers }
+-- after a step of the agent's node, with what node and agent are then: what isn't reserved or in doubt any more is forgotten, and
+-- what was just reserved joins
+unfoldable pub offers_after : WorldState → Visit → NodeState → AgentState → List Offered
+offers_after w v n agent = with_decision (filter (is_kept v.node agent.pool) w.offers) w.talks v n v.seat.agent.act agent.act

@@ -1,40 +1,52 @@
 -- Bytes of a stream that are delivered to one of its sides, in order.
-use Rattle.std.specs.Prelude.{ℕ, Bool, true, false, Option, None, Some, length, if◌then◌else◌}
+use Rattle.std.specs.Prelude.{ℕ, Bool, true, false, Option, None, Some}
 use Rattle.grasp_session.specs.Messages.{Side, Near, Far, other}
-use Rattle.grasp_types.specs.declared.traffic.Input.{Input}
 use Rattle.grasp_types.specs.declared.traffic.Input.TheVariants as input
-use Rattle.grasp_network.specs.Arrivals.{talk_at}
 use Rattle.grasp_network.specs.Sending.{stepped}
-use Rattle.grasp_network.specs.Talks.{StreamEnd, TalkState, end_at, side_at, is_reached, next_bytes, talk_numbered, change_talk, with_delivered}
+use Rattle.grasp_network.specs.Talks.{StreamEnd, TalkState, end_at, side_at, is_reached, next_bytes, talk_numbered, change_at_end, with_delivered}
 use Rattle.grasp_network.specs.Visits.{Visit, Choice, visit}
-use Rattle.grasp_network.specs.World.{WorldState, with_talks}
+use Rattle.grasp_network.specs.World.{WorldState}
 
 -- the side of an event
 abbrev pub side_named : Bool → Side
 side_named true = Far
 side_named false = Near
 
-abbrev pub visit_end : WorldState → Option StreamEnd → (StreamEnd → Input) → Option Visit
-visit_end w None i = None
-visit_end w (Some e) i = visit w e.node (i e)
+-- ---- the side of a stream that an event reaches
 
--- an input at a side of a stream; there is no step where the side isn't there, was turned away or was told that the stream is closed
-abbrev pub visit_side : WorldState → Side → Option TalkState → (TalkState → StreamEnd → Input) → Option Visit
-visit_side w side None i = None
-visit_side w side (Some t) i = if is_reached (side_at t side) then visit_end w (end_at t side) (i t) else None
+-- a side of a stream: the stream, and the end that the side has
+pub record Reached : Type 0 where
+  pub talk : TalkState
+  pub at : StreamEnd
 
-abbrev pub piece_input : Side → ℕ → TalkState → StreamEnd → Input
-piece_input side count t e = input.Bytes e.number (next_bytes t (other side) count)
+abbrev pub reached_at : TalkState → Bool → Option StreamEnd → Option Reached
+reached_at t true (Some e) = Some (record { talk = t; at = e })
+reached_at t true None = None
+reached_at t false e = None
+
+abbrev pub reached_in : Side → Option TalkState → Option Reached
+reached_in side None = None
+reached_in side (Some t) = reached_at t (is_reached (side_at t side)) (end_at t side)
+
+-- this side of the stream of this number; none where there is no such stream, where the side isn't there, and where it was turned away
+-- or was told that the stream is closed
+unfoldable pub reached_side : WorldState → ℕ → Side → Option Reached
+reached_side w k side = reached_in side (talk_numbered w.talks k)
+
+-- ---- a piece
+
+abbrev pub piece_at : WorldState → Side → ℕ → Option Reached → Option Visit
+piece_at w side count None = None
+piece_at w side count (Some x) = visit w x.at.node (input.Bytes x.at.number (next_bytes x.talk (other side) count))
 
 -- the next so many bytes that the other side sent, or all that are left, come in at this side
-abbrev pub piece_visit : WorldState → ℕ → Side → ℕ → Option Visit
-piece_visit w k side count = visit_side w side (talk_at w k) (piece_input side count)
+unfoldable pub piece_visit : WorldState → ℕ → Side → ℕ → Option Visit
+piece_visit w k side count = piece_at w side count (reached_side w k side)
 
 -- they are delivered
-abbrev pub delivered_on : Side → ℕ → TalkState → TalkState
-delivered_on side count t = with_delivered t (other side) (length (next_bytes t (other side) count))
+abbrev pub delivered : WorldState → ℕ → Option Reached → WorldState
+delivered w count None = w
+delivered w count (Some x) = record w { talks = change_at_end w.talks x.at (with_delivered count) }
 
-abbrev pub after_piece : WorldState → Visit → ℕ → Side → ℕ → Choice → WorldState
-after_piece w v k side count c = delivers (stepped w v.node v.seat c.after) where
-  delivers : WorldState → WorldState
-  delivers x = with_talks x (change_talk x.talks (talk_numbered w.talks k) (delivered_on side count))
+unfoldable pub after_piece : WorldState → Visit → ℕ → Side → ℕ → Choice → WorldState
+after_piece w v k side count c = stepped (delivered w count (reached_side w k side)) v c.after v.seat.agent

@@ -4,6 +4,7 @@ use Rattle.grasp_agent.specs.Calls.{next_call}
 use Rattle.grasp_network.specs.Clocks.{wanting_reply}
 use Rattle.grasp_network.specs.Drains.{sent_count}
 use Rattle.grasp_network.specs.Events.{visit_of}
+use Rattle.grasp_network.specs.Setting.{Setting}
 use Rattle.grasp_network.specs.Visits.{Visit, Choice}
 use Rattle.grasp_network.specs.World.{WorldState}
 use Rattle.grasp_network.specs.declared.event.Event.{Event}
@@ -32,5 +33,5 @@ abbrev pub report_by : WorldState → Event → Choice → Option Visit → Repo
 report_by w e c None = report_none w e
 report_by w e c (Some v) = report_visit e v c
 
-unfoldable pub report_of : WorldState → Event → Choice → Report
-report_of w e c = report_by w e c (visit_of w e)
+unfoldable pub report_of : Setting → WorldState → Event → Choice → Report
+report_of s w e c = report_by w e c (visit_of s w e)

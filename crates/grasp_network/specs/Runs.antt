@@ -11,7 +11,9 @@ use Rattle.grasp_types.specs.declared.reply.ApiAnswer.{ApiAnswer}
 use Rattle.grasp_types.specs.declared.reply.ApiAnswer.TheVariants as answer
 use Rattle.grasp_types.specs.declared.reply.Reply.TheVariants as reply
 use Rattle.grasp_network.specs.Events.{Occurs, after_event}
+use Rattle.grasp_network.specs.GoodSetting.{IsGoodSetting}
 use Rattle.grasp_network.specs.Reports.{report_of}
+use Rattle.grasp_network.specs.Sending.{seat_with}
 use Rattle.grasp_network.specs.Setting.{Member, Setting, script_setting}
 use Rattle.grasp_network.specs.Visits.{Choice}
 use Rattle.grasp_network.specs.World.{Seat, WorldState}
@@ -27,7 +29,7 @@ fresh_seat m = record { core = first_node m.plan; earlier = []; agent = first_ag
 
 -- the agent has made its next call, at reading 0, and this was answered
 unfoldable pub answered_seat : Seat → ApiAnswer → Seat
-answered_seat s a = record s { core = after_call (begin s.core 0) s.agent.asa (next_call s.agent) (Ok a); agent = after_reply s.agent (reply.Api a) }
+answered_seat seat a = seat_with seat (after_call (begin seat.core 0) seat.agent.asa (next_call seat.agent) (Ok a)) (after_reply seat.agent (reply.Api a))
 
 -- what the opening calls of an agent are answered: it is agent 1, its objective is registered, and nothing has come yet
 abbrev pub opening_answers : List ApiAnswer
@@ -40,13 +42,14 @@ first_seat m = fold answered_seat (fresh_seat m) opening_answers
 -- the nodes have their agents, and nothing was sent
 unfoldable pub first_world : Setting → WorldState
 first_world s = record {
-  setting = s;
   seats = map first_seat s.members;
   datagrams = [];
   talks = [];
   dials = 0;
+  byte_count = 0;
   flood_calls = [];
   floods_read = [];
+  searches = [];
   answers = [];
   handles = [];
   offers = [];
@@ -65,31 +68,32 @@ pub record Happening : Type 0 where
   pub choice : Choice
 
 -- the events may come out so, one after the other from this world on
-unfoldable pub IsRun : WorldState → List Happening → Type 0
-IsRun w [] = Unit {0}
-IsRun w (h ∷ hs) = Occurs w h.event h.choice × IsRun (after_event w h.event h.choice) hs
+unfoldable pub IsRun : Setting → WorldState → List Happening → Type 0
+IsRun s w [] = Unit {0}
+IsRun s w (h ∷ hs) = Occurs s w h.event h.choice × IsRun s (after_event s w h.event h.choice) hs
 
 -- the worlds of the run: this one, and the one after each event
-unfoldable pub worlds_from : WorldState → List Happening → List WorldState
-worlds_from w [] = w ∷ []
-worlds_from w (h ∷ hs) = w ∷ worlds_from (after_event w h.event h.choice) hs
+unfoldable pub worlds_from : Setting → WorldState → List Happening → List WorldState
+worlds_from s w [] = w ∷ []
+worlds_from s w (h ∷ hs) = w ∷ worlds_from s (after_event s w h.event h.choice) hs
 
 -- the last of them
-unfoldable pub world_after : WorldState → List Happening → WorldState
-world_after w [] = w
-world_after w (h ∷ hs) = world_after (after_event w h.event h.choice) hs
+unfoldable pub world_after : Setting → WorldState → List Happening → WorldState
+world_after s w [] = w
+world_after s w (h ∷ hs) = world_after s (after_event s w h.event h.choice) hs
 
 -- what is reported of each event
-unfoldable pub reports_from : WorldState → List Happening → List Report
-reports_from w [] = []
-reports_from w (h ∷ hs) = report_of w h.event h.choice ∷ reports_from (after_event w h.event h.choice) hs
+unfoldable pub reports_from : Setting → WorldState → List Happening → List Report
+reports_from s w [] = []
+reports_from s w (h ∷ hs) = report_of s w h.event h.choice ∷ reports_from s (after_event s w h.event h.choice) hs
 
 -- the events of the run
 abbrev pub events_of : List Happening → List Event
 events_of hs = map (λ h. h.event) hs
 
--- the world is one that events lead to from the first world of a setting
+-- the world is one that events lead to from the first world of a good setting
 pub record IsReached (s : Setting) (w : WorldState) : Type 0 where
+  pub good : IsGoodSetting s
   pub happenings : List Happening
-  pub run : IsRun (first_world s) happenings
-  pub last : w ≡ world_after (first_world s) happenings
+  pub run : IsRun s (first_world s) happenings
+  pub last : w ≡ world_after s (first_world s) happenings

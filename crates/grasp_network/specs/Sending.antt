@@ -1,13 +1,16 @@
 -- What a node makes and queues, and what is sent of it.
-use Rattle.std.specs.Prelude.{ℕ, ◌+◌, List, [], ◌∷◌, ◌++◌, Option, None, Some, fold, length, drop, take, slice_get}
+use Rattle.std.specs.Prelude.{ℕ, ◌+◌, ◌-◌, ◌*◌, List, [], ◌∷◌, ◌++◌, Option, None, Some, fold, length, drop, take, slice_set}
+use Rattle.grasp_agent.specs.States.{AgentState}
 use Rattle.grasp_core.specs.Begin.{begin}
 use Rattle.grasp_core.specs.Draining.{closes, after_drain}
 use Rattle.grasp_core.specs.Node.{NodeState}
-use Rattle.grasp_core.specs.Queue.{Queued, datagram, dial, send}
+use Rattle.grasp_core.specs.Queue.{Queued, datagram, dial, send, encoding}
 use Rattle.grasp_types.specs.declared.message.Message.{Message}
-use Rattle.grasp_network.specs.Setting.{line_of, others_on}
-use Rattle.grasp_network.specs.Talks.{TalkState, first_talk, talk_of_end, change_talk, change_at_end, with_said, with_sent, with_ended, with_number}
-use Rattle.grasp_network.specs.World.{Seat, WorldState, seat_at, with_seat, with_talks, end_of}
+use Rattle.grasp_network.specs.Routes.{Route, route_of}
+use Rattle.grasp_network.specs.Setting.{Setting}
+use Rattle.grasp_network.specs.Talks.{TalkState, StreamEnd, first_talk, change_at_end, count_at_end, with_said, with_sent, with_ended, with_number}
+use Rattle.grasp_network.specs.Visits.{Visit}
+use Rattle.grasp_network.specs.World.{Seat, WorldState, seat_at, with_seat, end_of}
 
 -- ---- what a step makes
 
@@ -17,66 +20,69 @@ gained before after = drop (length before.queue) after.queue
 
 -- a stream is there from the step on that queues its dial, and a message is said by the step that queues it
 abbrev pub having_made : ℕ → Seat → List TalkState → Queued → List TalkState
-having_made node s ts (datagram link to m) = ts
-having_made node s ts (dial stream to) = ts ++ first_talk (end_of node s stream) to ∷ []
-having_made node s ts (send stream m) = change_at_end ts (end_of node s stream) (λ t side. with_said t side m)
+having_made node seat ts (datagram link to m) = ts
+having_made node seat ts (dial stream to) = ts ++ first_talk (end_of node seat stream) to ∷ []
+having_made node seat ts (send stream m) = change_at_end ts (end_of node seat stream) (with_said m)
 
 unfoldable pub talks_made : ℕ → Seat → List TalkState → List Queued → List TalkState
-talks_made node s ts queued = fold (having_made node s) ts queued
+talks_made node seat ts queued = fold (having_made node seat) ts queued
 
--- the network after a step of this node: the node is this now, and what it has queued was made
-unfoldable pub stepped : WorldState → ℕ → Seat → NodeState → WorldState
-stepped w node s after = with_talks (with_seat w node (record s { core = after })) (talks_made node s w.talks (gained s.core after))
+-- the node and its agent in this life
+abbrev pub seat_with : Seat → NodeState → AgentState → Seat
+seat_with seat core agent = record { core = core; earlier = seat.earlier; agent = agent }
+
+-- the network after a step: the node and its agent are these now, and what the step has queued was made
+unfoldable pub stepped : WorldState → Visit → NodeState → AgentState → WorldState
+stepped w v core agent = record w {
+  seats = slice_set w.seats (v.node - 1) (seat_with v.seat core agent);
+  talks = talks_made v.node v.seat w.talks (gained v.seat.core core);
+}
 
 -- ---- what is sent
 
-abbrev pub posted_to : WorldState → ℕ → ℕ → Message → Option ℕ → WorldState
-posted_to w line sender m None = w
-posted_to w line sender m (Some receiver) = record w { datagrams = w.datagrams ++ record { line = line; sender = sender; receiver = receiver; message = m } ∷ [] }
-
-abbrev pub posted_on : WorldState → ℕ → ℕ → Message → ℕ → Option (List ℕ) → WorldState
-posted_on w line sender m to None = w
-posted_on w line sender m to (Some members) = posted_to w line sender m (slice_get (others_on sender members) to)
-
--- a datagram joins those that were sent; its receiver is the neighbour of this number on the sender's link of this number
-abbrev pub posted : WorldState → ℕ → ℕ → Message → Option ℕ → WorldState
-posted w sender to m None = w
-posted w sender to m (Some line) = posted_on w line sender m to (slice_get w.setting.lines line)
+-- a datagram joins those that were sent, where there is a way for it
+abbrev pub posted : WorldState → Message → Option Route → WorldState
+posted w m None = w
+posted w m (Some route) = record w { datagrams = w.datagrams ++ record { route = route; message = m } ∷ []; byte_count = w.byte_count + length (encoding m) }
 
 -- a dial gives its stream the next number
-abbrev pub dialled : WorldState → ℕ → Seat → ℕ → WorldState
-dialled w node s stream = record w {
-  talks = change_talk w.talks (talk_of_end w.talks (end_of node s stream)) (λ t. with_number t (w.dials + 1));
-  dials = w.dials + 1;
+abbrev pub dialled : WorldState → StreamEnd → WorldState
+dialled w e = record w { talks = change_at_end w.talks e (with_number (w.dials + 1)); dials = w.dials + 1 }
+
+-- a message joins what the side with this end sent
+abbrev pub sent_at : WorldState → StreamEnd → Message → WorldState
+sent_at w e m = record w {
+  talks = change_at_end w.talks e (with_sent m);
+  byte_count = w.byte_count + count_at_end w.talks e * length (encoding m);
 }
 
--- what is sent of the queue: a datagram joins the datagrams, a dial numbers its stream, and a message joins its direction
-abbrev pub having_sent : ℕ → Seat → WorldState → Queued → WorldState
-having_sent node s w (datagram link to m) = posted w node to m (line_of node w.setting.lines link)
-having_sent node s w (dial stream to) = dialled w node s stream
-having_sent node s w (send stream m) = with_talks w (change_at_end w.talks (end_of node s stream) (λ t side. with_sent t side m))
+-- what is sent of the queue
+abbrev pub having_sent : Setting → ℕ → Seat → WorldState → Queued → WorldState
+having_sent s node seat w (datagram link to m) = posted w m (route_of s node link to)
+having_sent s node seat w (dial stream to) = dialled w (end_of node seat stream)
+having_sent s node seat w (send stream m) = sent_at w (end_of node seat stream) m
 
 -- a closing ends the node's direction of the stream
 abbrev pub having_closed : ℕ → Seat → WorldState → ℕ → WorldState
-having_closed node s w stream = with_talks w (change_at_end w.talks (end_of node s stream) with_ended)
+having_closed node seat w stream = record w { talks = change_at_end w.talks (end_of node seat stream) with_ended }
 
 -- these outputs are sent in order, and then these closings
-unfoldable pub handed_over : WorldState → ℕ → Seat → List Queued → List ℕ → WorldState
-handed_over w node s queued streams = fold (having_closed node s) (fold (having_sent node s) w queued) streams
+unfoldable pub handed_over : Setting → WorldState → ℕ → Seat → List Queued → List ℕ → WorldState
+handed_over s w node seat queued streams = fold (having_closed node seat) (fold (having_sent s node seat) w queued) streams
 
 -- ---- drains
 
 -- the network after a drain of so many outputs of this node, whose step has begun
-abbrev pub drained_from : WorldState → ℕ → Seat → NodeState → ℕ → WorldState
-drained_from w node s n max = handed_over (with_seat w node (record s { core = after_drain n max })) node s (take max n.queue) (closes n max)
+abbrev pub drained_from : Setting → WorldState → ℕ → Seat → NodeState → ℕ → WorldState
+drained_from s w node seat n max = handed_over s (with_seat w node (seat_with seat (after_drain n max) seat.agent)) node seat (take max n.queue) (closes n max)
 
-abbrev pub drained_at : WorldState → ℕ → ℕ → Option Seat → WorldState
-drained_at w node max None = w
-drained_at w node max (Some s) = drained_from w node s (begin s.core s.core.reading) max
+abbrev pub drained_at : Setting → WorldState → ℕ → ℕ → Option Seat → WorldState
+drained_at s w node max None = w
+drained_at s w node max (Some seat) = drained_from s w node seat (begin seat.core seat.core.reading) max
 
 -- the network after a drain of so many outputs of a node, at the node's own reading
-unfoldable pub drained : WorldState → ℕ → ℕ → WorldState
-drained w node max = drained_at w node max (seat_at w node)
+unfoldable pub drained : Setting → WorldState → ℕ → ℕ → WorldState
+drained s w node max = drained_at s w node max (seat_at w node)
 
 -- how many outputs an event's own drain sends at most
 abbrev pub event_drain : ℕ

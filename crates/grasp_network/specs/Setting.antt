@@ -32,13 +32,13 @@ pub record Member : Type 0 where
   pub roots : List RootPrefix
 
 -- the members, numbered from 1; the members on each link; the locators that a want can name as its peer, numbered from 1; and, by the
--- number of a stream among all dials that were sent, the number that it has at the node where it arrives, and the address that
--- this node is told, which may depend on the address of the node that dialled
+-- number of a stream among all dials that were sent, the number that it has where it arrives, which may depend on the node there, and
+-- the address that this node is told, which may depend on that of the node that dialled
 pub record Setting : Type 0 where
   pub members : List Member
   pub lines : List (List ℕ)
   pub peers : List Locator
-  pub arrives_as : ℕ → ℕ
+  pub arrives_as : ℕ → ℕ → ℕ
   pub arrives_from : ℕ → Address → Address
 
 abbrev pub is_at : Locator → Member → Bool
@@ -111,9 +111,9 @@ script_roots roots k = map (λ r. r.root) (filter (λ r. r.node == k) roots)
 abbrev pub script_member : WorldPlan → ℕ → Member
 script_member p k = record { plan = script_node p k; roots = script_roots p.roots k }
 
--- the K-th stream that is dialled arrives with the number 2K - 1
-abbrev pub script_arrival : ℕ → ℕ
-script_arrival k = 2 * k - 1
+-- the K-th stream that is dialled arrives with the number 2K - 1, wherever it does
+abbrev pub script_arrival : ℕ → ℕ → ℕ
+script_arrival node k = 2 * k - 1
 
 -- a stream arrives with the address of the node that dialled
 abbrev pub script_opener : ℕ → Address → Address

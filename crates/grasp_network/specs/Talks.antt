@@ -1,7 +1,7 @@
 -- Streams between nodes: who dialled whom, what was said, and how far each direction was delivered.
-use Rattle.std.specs.Prelude.{ℕ, ◌+◌, ◌==◌, ◌&&◌, Bool, true, false, if◌then◌else◌, List, [], ◌∷◌, ◌++◌, Option, None, Some, position, slice_get, slice_set, take, drop}
+use Rattle.std.specs.Prelude.{ℕ, ◌+◌, ◌==◌, ◌&&◌, Bool, true, false, if◌then◌else◌, List, [], ◌∷◌, ◌++◌, length, map, Option, None, Some, is_some, find, position, count_by, take, drop}
 use Rattle.grasp_session.specs.Conversation.{Said, says}
-use Rattle.grasp_session.specs.Messages.{Side, Near, Far}
+use Rattle.grasp_session.specs.Messages.{Side, Near, Far, other}
 use Rattle.grasp_types.specs.declared.address.Locator.{Locator}
 use Rattle.grasp_types.specs.declared.message.Message.{Message}
 use Rattle.grasp_wire.specs.Laws.{encoded}
@@ -95,48 +95,47 @@ abbrev pub side_of_end : StreamEnd → TalkState → Option Side
 side_of_end e t = if is_same_end e t.near then Some Near else (if is_at_end e t.far then Some Far else None)
 
 abbrev pub has_end : StreamEnd → TalkState → Bool
-has_end e t = by_side (side_of_end e t) where
-  by_side : Option Side → Bool
-  by_side None = false
-  by_side (Some side) = true
+has_end e t = is_some (side_of_end e t)
 
--- ---- changes of one stream
+-- the next so many bytes that the side sent, or all that are left
+abbrev pub next_bytes : TalkState → Side → ℕ → List ℕ
+next_bytes t side count = take count (drop (sent_by t side).delivered (encoded (sent_by t side).sent))
+
+-- ---- changes of a stream by one of its sides
 
 abbrev pub with_direction : TalkState → Side → Direction → TalkState
 with_direction t Near d = record t { from_near = d }
 with_direction t Far d = record t { from_far = d }
 
-abbrev pub with_side : TalkState → Side → Arrival → TalkState
-with_side t Near a = record t { near_side = a }
-with_side t Far a = record t { far_side = a }
+-- it stands so now
+abbrev pub with_side : Arrival → TalkState → Side → TalkState
+with_side a t Near = record t { near_side = a }
+with_side a t Far = record t { far_side = a }
 
--- the side says a message
-abbrev pub with_said : TalkState → Side → Message → TalkState
-with_said t side m = record t { said = says side m ∷ t.said }
+-- it says a message
+abbrev pub with_said : Message → TalkState → Side → TalkState
+with_said m t side = record t { said = says side m ∷ t.said }
 
--- the side's message is sent
-abbrev pub with_sent : TalkState → Side → Message → TalkState
-with_sent t side m = with_direction t side (record (sent_by t side) { sent = (sent_by t side).sent ++ m ∷ [] })
+-- its message is sent
+abbrev pub with_sent : Message → TalkState → Side → TalkState
+with_sent m t side = with_direction t side (record (sent_by t side) { sent = (sent_by t side).sent ++ m ∷ [] })
 
--- the side ends its direction
+-- it ends its direction
 abbrev pub with_ended : TalkState → Side → TalkState
 with_ended t side = with_direction t side (record (sent_by t side) { ended = true })
 
--- so many bytes more of what the side sent are delivered
-abbrev pub with_delivered : TalkState → Side → ℕ → TalkState
-with_delivered t side count = with_direction t side (record (sent_by t side) { delivered = (sent_by t side).delivered + count })
+-- the next so many bytes that the other side sent are delivered to it, or all that are left
+abbrev pub with_delivered : ℕ → TalkState → Side → TalkState
+with_delivered count t side =
+    with_direction t (other side) (record (sent_by t (other side)) { delivered = (sent_by t (other side)).delivered + length (next_bytes t (other side) count) })
 
 -- the dial is sent, as that of this number
-abbrev pub with_number : TalkState → ℕ → TalkState
-with_number t k = record t { number = Some k }
+abbrev pub with_number : ℕ → TalkState → Side → TalkState
+with_number k t side = record t { number = Some k }
 
 -- the stream is opened at this end, which took it or turned it away
-abbrev pub with_far : TalkState → StreamEnd → Arrival → TalkState
-with_far t far a = record t { far = Some far; far_side = a }
-
--- the next so many bytes that the side sent, or all that are left
-abbrev pub next_bytes : TalkState → Side → ℕ → List ℕ
-next_bytes t side count = take count (drop (sent_by t side).delivered (encoded (sent_by t side).sent))
+abbrev pub with_far : StreamEnd → Arrival → TalkState → Side → TalkState
+with_far far a t side = record t { far = Some far; far_side = a }
 
 -- ---- streams of a network, in the order in which their dials were queued
 
@@ -144,30 +143,26 @@ abbrev pub is_number : ℕ → Option ℕ → Bool
 is_number k None = false
 is_number k (Some n) = n == k
 
--- the place of the stream with this number among the dials that were sent
-abbrev pub talk_numbered : List TalkState → ℕ → Option ℕ
-talk_numbered ts k = position (λ t. is_number k t.number) ts
+-- the stream of this number among the dials that were sent
+abbrev pub talk_numbered : List TalkState → ℕ → Option TalkState
+talk_numbered ts k = find (λ t. is_number k t.number) ts
 
 -- the place of the stream of this end
-abbrev pub talk_of_end : List TalkState → StreamEnd → Option ℕ
-talk_of_end ts e = position (has_end e) ts
+abbrev pub place_of_end : List TalkState → StreamEnd → Option ℕ
+place_of_end ts e = position (has_end e) ts
 
-abbrev pub put_talk : List TalkState → ℕ → Option TalkState → (TalkState → TalkState) → List TalkState
-put_talk ts i None f = ts
-put_talk ts i (Some t) f = slice_set ts i (f t)
+-- how many streams have this end: one, or none that a node knows of
+abbrev pub count_at_end : List TalkState → StreamEnd → ℕ
+count_at_end ts e = count_by (has_end e) ts
 
--- the streams, of which that at this place is changed
-abbrev pub change_talk : List TalkState → Option ℕ → (TalkState → TalkState) → List TalkState
-change_talk ts None f = ts
-change_talk ts (Some i) f = put_talk ts i (slice_get ts i) f
+abbrev pub changed_by : (TalkState → Side → TalkState) → TalkState → Option Side → TalkState
+changed_by f t None = t
+changed_by f t (Some side) = f t side
 
--- a change of a stream by the side that has this end
+-- a stream is changed by the side that has this end, where it has it
 abbrev pub at_end : StreamEnd → (TalkState → Side → TalkState) → TalkState → TalkState
-at_end e f t = by_side (side_of_end e t) where
-  by_side : Option Side → TalkState
-  by_side None = t
-  by_side (Some side) = f t side
+at_end e f t = changed_by f t (side_of_end e t)
 
--- the stream of this end is changed by the side that has it
+-- the streams, of which that of this end is changed
 abbrev pub change_at_end : List TalkState → StreamEnd → (TalkState → Side → TalkState) → List TalkState
-change_at_end ts e f = change_talk ts (talk_of_end ts e) (at_end e f)
+change_at_end ts e f = map (at_end e f) ts

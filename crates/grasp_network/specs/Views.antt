@@ -12,7 +12,7 @@ use Rattle.grasp_network.specs.World.{Seat, WorldState, life_of, seat_at}
 
 -- a node in one of its lives: the present one, or an earlier one as it was at its end
 abbrev pub core_in : Seat → ℕ → Option NodeState
-core_in s life = if life == life_of s then Some s.core else slice_get s.earlier life
+core_in seat life = if life == life_of seat then Some seat.core else slice_get seat.earlier life
 
 -- all sessions that a node has made, those that are live first
 abbrev pub all_sessions : Sessions → List SessionState
@@ -24,7 +24,7 @@ session_on stream (Some n) = find (λ x. x.stream == stream) (all_sessions n.ses
 
 abbrev pub session_in : StreamEnd → Option Seat → Option SessionState
 session_in e None = None
-session_in e (Some s) = session_on e.number (core_in s e.life)
+session_in e (Some seat) = session_on e.number (core_in seat e.life)
 
 -- the session that was made on the stream of this end
 abbrev pub session_of_end : WorldState → Option StreamEnd → Option SessionState

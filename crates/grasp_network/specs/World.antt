@@ -1,4 +1,4 @@
--- A network: its nodes with their agents, and all that was ever sent between them.
+-- A network: its nodes with their agents, and all that was ever sent between them. What it is made of, its setting, stands beside it.
 use Rattle.std.specs.Prelude.{ℕ, ◌+◌, ◌-◌, ◌==◌, ◌&&◌, Bool, List, Option, None, Some, find, length, sum_by, slice_set, nat_lt}
 use Rattle.grasp_agent.specs.States.{AgentState}
 use Rattle.grasp_cbor.specs.DataItem.{DataItem}
@@ -10,7 +10,8 @@ use Rattle.grasp_types.specs.declared.message.Message.{Message}
 use Rattle.grasp_types.specs.declared.objective.Objective.{Objective}
 use Rattle.grasp_types.specs.declared.session.Handle.{Handle}
 use Rattle.grasp_wire.specs.Laws.{encoded}
-use Rattle.grasp_network.specs.Setting.{Setting, numbered}
+use Rattle.grasp_network.specs.Routes.{Route}
+use Rattle.grasp_network.specs.Setting.{numbered}
 use Rattle.grasp_network.specs.Talks.{StreamEnd, TalkState}
 
 -- a node: what it is in its present life, what it was at the end of each earlier one, oldest first, and its agent. Nothing begins a life anew yet
@@ -21,13 +22,11 @@ pub record Seat : Type 0 where
 
 -- the number of a node's present life, from 0
 abbrev pub life_of : Seat → ℕ
-life_of s = length s.earlier
+life_of seat = length seat.earlier
 
--- a datagram that was sent: the place of its link among the links of the network, from 0, who sent it to whom, and its message
+-- a datagram that was sent: where it goes, and its message
 pub record SentDatagram : Type 0 where
-  pub line : ℕ
-  pub sender : ℕ
-  pub receiver : ℕ
+  pub route : Route
   pub message : Message
 
 -- a flood that an agent began: its node, the objective's name, value and registered flags, and the loop count
@@ -37,6 +36,12 @@ pub record FloodCall : Type 0 where
   pub value : DataItem
   pub flags : ℕ
   pub loops : ℕ
+
+-- a search that an agent began: its node, in which of its lives, and under which session number
+pub record SearchCall : Type 0 where
+  pub node : ℕ
+  pub life : ℕ
+  pub session : ℕ
 
 -- a discovery that a node answered with its own locator: what was looked for, and the flags that it had registered
 pub record DiscoveryAnswer : Type 0 where
@@ -57,18 +62,19 @@ pub record Offered : Type 0 where
   pub prefix : Prefix
   pub talk : Option ℕ
 
--- the setting; the nodes, numbered from 1; the datagrams, numbered from 1 in the order of their sending; the streams, in the order in
--- which their dials were queued; how many dials were sent; the floods that were begun, and those that were read; the discoveries
--- that were answered; the handles that were given; what is reserved or in doubt for which stream; and the offers that were
--- settled, of which there are none yet
+-- the nodes, numbered from 1; the datagrams, numbered from 1 in the order of their sending; the streams, in the order in which their
+-- dials were queued; how many dials were sent; how many bytes of datagrams and streams; the floods that were begun, and those that
+-- were read; the searches that were begun; the discoveries that were answered; the handles that were given; what is reserved or
+-- in doubt for which stream; and the offers that were settled, of which there are none yet
 pub record WorldState : Type 0 where
-  pub setting : Setting
   pub seats : List Seat
   pub datagrams : List SentDatagram
   pub talks : List TalkState
   pub dials : ℕ
+  pub byte_count : ℕ
   pub flood_calls : List FloodCall
   pub floods_read : List FloodRead
+  pub searches : List SearchCall
   pub answers : List DiscoveryAnswer
   pub handles : List GivenHandle
   pub offers : List Offered
@@ -80,14 +86,11 @@ abbrev pub seat_at : WorldState → ℕ → Option Seat
 seat_at w node = numbered w.seats node
 
 abbrev pub with_seat : WorldState → ℕ → Seat → WorldState
-with_seat w node s = record w { seats = slice_set w.seats (node - 1) s }
-
-abbrev pub with_talks : WorldState → List TalkState → WorldState
-with_talks w ts = record w { talks = ts }
+with_seat w node seat = record w { seats = slice_set w.seats (node - 1) seat }
 
 -- the stream of this number at a node in its present life
 abbrev pub end_of : ℕ → Seat → ℕ → StreamEnd
-end_of node s stream = record { node = node; life = life_of s; number = stream }
+end_of node seat stream = record { node = node; life = life_of seat; number = stream }
 
 -- ---- handles
 
@@ -101,7 +104,7 @@ place_in (Some g) = g.handle.place
 
 abbrev pub place_at : WorldState → ℕ → ℕ → Option Seat → ℕ
 place_at w node number None = 0
-place_at w node number (Some s) = place_in (find (is_given node (life_of s) number) w.handles)
+place_at w node number (Some seat) = place_in (find (is_given node (life_of seat) number) w.handles)
 
 -- the place of the handle with this number that a node gave in its present life, and 0 where it gave none
 abbrev pub handle_place : WorldState → ℕ → ℕ → ℕ
@@ -115,7 +118,7 @@ datagram_bytes d = length (encoding d.message)
 abbrev pub talk_bytes : TalkState → ℕ
 talk_bytes t = length (encoded t.from_near.sent) + length (encoded t.from_far.sent)
 
--- the bytes of all datagrams and streams that were sent
+-- the bytes of all datagrams and streams that were sent; a law says that the network's count is this
 unfoldable pub bytes_sent : WorldState → ℕ
 bytes_sent w = sum_by datagram_bytes w.datagrams + sum_by talk_bytes w.talks
 
@@ -125,4 +128,4 @@ most_bytes = 268435456
 
 -- more was sent than may be
 abbrev pub is_too_much : WorldState → Bool
-is_too_much w = nat_lt most_bytes (bytes_sent w)
+is_too_much w = nat_lt most_bytes w.byte_count
