@@ -1,0 +1,17 @@
+pub mod ActLaws
+pub mod ActLines
+pub mod CallLaws
+pub mod Fields
+pub mod GoodPlans
+pub mod HeaderLaws
+pub mod LineLaws
+pub mod LinesRead
+pub mod Lists
+pub mod Members
+pub mod Openings
+pub mod Pushed
+pub mod ScriptLaws
+pub mod SoFar
+pub mod Splitting
+pub mod WholeWords
+pub mod WordReaders

@@ -1,0 +1,9 @@
+pub mod Acts
+pub mod Answers
+pub mod Calls
+pub mod Grammar
+pub mod Headers
+pub mod Laws
+pub mod Reads
+pub mod Reports
+pub mod Scripts

@@ -1,0 +1,38 @@
+//! Scripts of whole networks, and reports, as text.
+//!
+//! A script is lines. Its header says which nodes there are, what they hold and how they are linked; each line behind it
+//! is an event, or shows a node's state. A report is an event's line, ` = `, and what the event came to.
+#![tactic(auto)]
+
+mod acts;
+mod called;
+mod calls;
+mod fault;
+mod fits;
+mod header;
+mod laws;
+mod line;
+mod names;
+mod nodes;
+mod opening;
+mod places;
+mod replies;
+mod reports;
+mod script;
+mod split;
+mod states;
+mod unspaced;
+
+pub use acts::read_line;
+pub use calls::{call_text, push_call};
+pub use fault::ScriptFault;
+pub use header::HeaderLine;
+pub use laws::{
+    each_act_has_one_line, lines_mean_one_thing, scripts_have_no_bad_line, texts_have_one_bad_line,
+    texts_have_one_script,
+};
+pub use line::{Line, LineAct, Lines};
+pub use replies::push_reply;
+pub use reports::{answer_text, push_report};
+pub use script::{Script, parse_script};
+pub use states::{push_state, state_text};

@@ -1,0 +1,106 @@
+//! Writing reports.
+
+ghost use Rattle.std.specs.Prelude.{◌≡◌, ◌++◌, ◌∷◌, [], OnOk, IfOk, Result, codes, string_bytes};
+ghost use Rattle.grasp_agent.specs.declared.want.WantFault.{WantFault};
+ghost use Rattle.grasp_text.specs.Words.{joined, spaced};
+ghost use Rattle.grasp_network_script.specs.Reports.{want_words, report_words, made_words, report_line};
+
+use crate::calls::push_call;
+use crate::replies::{push_count, push_reply};
+use crate::unspaced::unspaced;
+use grasp_agent::WantFault;
+use grasp_cbor::{Chars, OutOfMemory};
+use grasp_network::Report;
+use grasp_text::{push_number, push_word};
+use std::alloc::Global;
+
+/// What an event came to, as words with one blank between two.
+pub fn answer_text(alloc: Global, report: &Report) -> Result<Chars, OutOfMemory>
+    ensures { IfOk result (λ text. text ≡ joined (report_words report.now)) }
+{
+    let mut out = String::new(alloc);
+    push_answer(alloc, &mut out, report)?;
+    unspaced(alloc, &out)
+}
+
+/// Appends the report of an event: its line, the call that the node's agent made, ` = `, and what the event came to,
+/// ended by LF.
+///
+/// The line stands as it is, without its line end. After an `Err` a part of the report may have been appended.
+pub fn push_report(
+    alloc: Global,
+    out: &mut Vec<u8>,
+    line: &[u8],
+    report: &Report,
+) -> Result<(), OutOfMemory>
+    ensures { OnOk result (out.new.items ≡ out.old.items ++ report_line line.now report.now) }
+{
+    let answer = told_text(alloc, report)?;
+    out.extend_from_slice(line)?;
+    out.extend_from_slice(answer.as_bytes())?;
+    Ok(())
+}
+
+/// The part of a report behind the event's line, ended by LF.
+#[tactic(auto, using(crate::proofs::Pushed::pushes))]
+fn told_text(alloc: Global, report: &Report) -> Result<String, OutOfMemory>
+    ensures { IfOk result (λ text. string_bytes text ≡ spaced (made_words report.now ++ codes "=" ∷ report_words report.now) ++ 10 ∷ []) }
+{
+    let mut text = String::new(alloc);
+    push_made(alloc, &mut text, report)?;
+    push_told_answer(alloc, &mut text, report)?;
+    text.push('\n')?;
+    Ok(text)
+}
+
+/// Appends the call that a node's agent made, each word behind a blank.
+fn push_made(alloc: Global, out: &mut String, report: &Report) -> Result<(), OutOfMemory>
+    ensures { OnOk result (string_bytes out.new ≡ string_bytes out.old ++ spaced (made_words report.now)) }
+{
+    match report {
+        Report::Agent { call, reply: _ } => push_call(alloc, out, call),
+        Report::Reply(_) => Ok(()),
+        Report::Nothing => Ok(()),
+        Report::Reading(_) => Ok(()),
+        Report::Want(_) => Ok(()),
+        Report::Sent(_) => Ok(()),
+    }
+}
+
+/// Appends ` =` and what an event came to, each word behind a blank.
+#[tactic(auto, using(crate::proofs::Pushed::pushes))]
+fn push_told_answer(alloc: Global, out: &mut String, report: &Report) -> Result<(), OutOfMemory>
+    ensures { OnOk result (string_bytes out.new ≡ string_bytes out.old ++ spaced (codes "=" ∷ report_words report.now)) }
+{
+    push_word(out, "=")?;
+    push_answer(alloc, out, report)
+}
+
+/// Appends whether an agent took a want, each word behind a blank.
+#[tactic(auto, using(crate::proofs::Pushed::pushes))]
+fn push_want(out: &mut String, taken: &Result<(), WantFault>) -> Result<(), OutOfMemory>
+    ensures { OnOk result (string_bytes out.new ≡ string_bytes out.old ++ spaced (want_words taken.now)) }
+{
+    match taken {
+        Ok(()) => push_word(out, "ok"),
+        Err(WantFault::Busy { length, longest }) => {
+            push_count(out, "busy", u64::from(*length))?;
+            push_number(out, u64::from(*longest))
+        }
+        Err(WantFault::Full) => push_word(out, "full"),
+    }
+}
+
+/// Appends what an event came to, each word behind a blank.
+fn push_answer(alloc: Global, out: &mut String, report: &Report) -> Result<(), OutOfMemory>
+    ensures { OnOk result (string_bytes out.new ≡ string_bytes out.old ++ spaced (report_words report.now)) }
+{
+    match report {
+        Report::Reply(reply) => push_reply(alloc, out, reply),
+        Report::Agent { call: _, reply } => push_reply(alloc, out, reply),
+        Report::Nothing => push_word(out, "nothing"),
+        Report::Reading(millis) => push_number(out, *millis),
+        Report::Want(taken) => push_want(out, taken),
+        Report::Sent(outputs) => push_count(out, "sent", *outputs),
+    }
+}

@@ -1,0 +1,135 @@
+//! Writing the state of a node.
+
+ghost use Rattle.std.specs.Prelude.{◌≡◌, ◌++◌, ◌∷◌, [], OnOk, IfOk, codes, string_bytes};
+ghost use Rattle.grasp_text.specs.Words.{joined, spaced};
+ghost use Rattle.grasp_network_script.specs.Answers.{prefix_words};
+ghost use Rattle.grasp_network_script.specs.Reports.{state_words, state_line};
+
+use crate::unspaced::unspaced;
+use grasp_agent::PrefixAgent;
+use grasp_cbor::{Chars, OutOfMemory};
+use grasp_pool::Pool;
+use grasp_text::{push_prefix, push_word};
+use std::alloc::Global;
+
+/// A pool has at most so many prefixes.
+const MOST_ENTRIES: u64 = 4096;
+
+/// The prefixes that an agent holds, those that it has reserved and those in doubt, as words with one blank between two.
+pub fn state_text(alloc: Global, agent: &PrefixAgent) -> Result<Chars, OutOfMemory>
+    ensures { IfOk result (λ text. text ≡ joined (state_words agent.now.pool)) }
+{
+    let mut out = String::new(alloc);
+    push_pool(alloc, &mut out, agent.pool())?;
+    unspaced(alloc, &out)
+}
+
+/// Appends the report of a node's state: the line, ` = ` and the prefixes of its agent, ended by LF.
+///
+/// The line stands as it is, without its line end. After an `Err` a part of the report may have been appended.
+pub fn push_state(
+    alloc: Global,
+    out: &mut Vec<u8>,
+    line: &[u8],
+    agent: &PrefixAgent,
+) -> Result<(), OutOfMemory>
+    ensures { OnOk result (out.new.items ≡ out.old.items ++ state_line line.now agent.now.pool) }
+{
+    let state = told_state(alloc, agent.pool())?;
+    out.extend_from_slice(line)?;
+    out.extend_from_slice(state.as_bytes())?;
+    Ok(())
+}
+
+/// The part of a report behind the line, ended by LF.
+#[tactic(auto, using(crate::proofs::Pushed::pushes))]
+fn told_state(alloc: Global, pool: &Pool) -> Result<String, OutOfMemory>
+    ensures { IfOk result (λ text. string_bytes text ≡ spaced (codes "=" ∷ state_words pool.now) ++ 10 ∷ []) }
+{
+    let mut text = String::new(alloc);
+    push_word(&mut text, "=")?;
+    push_pool(alloc, &mut text, pool)?;
+    text.push('\n')?;
+    Ok(text)
+}
+
+/// Appends the prefixes of a pool, each word behind a blank.
+fn push_pool(alloc: Global, out: &mut String, pool: &Pool) -> Result<(), OutOfMemory>
+    ensures { OnOk result (string_bytes out.new ≡ string_bytes out.old ++ spaced (state_words pool.now)) }
+{
+    push_held(alloc, out, pool)?;
+    push_kept(alloc, out, pool)?;
+    push_doubt(alloc, out, pool)
+}
+
+/// Appends `held` and the prefixes that are held, each behind a blank.
+#[tactic(auto, using(crate::proofs::Pushed::pushes))]
+fn push_held(alloc: Global, out: &mut String, pool: &Pool) -> Result<(), OutOfMemory>
+    ensures { OnOk result (string_bytes out.new ≡ string_bytes out.old ++ spaced (codes "held" ∷ prefix_words pool.now.free)) }
+{
+    push_word(out, "held")?;
+    push_free(alloc, out, pool)
+}
+
+/// Appends `reserved` and the prefixes that are reserved, each behind a blank.
+#[tactic(auto, using(crate::proofs::Pushed::pushes))]
+fn push_kept(alloc: Global, out: &mut String, pool: &Pool) -> Result<(), OutOfMemory>
+    ensures { OnOk result (string_bytes out.new ≡ string_bytes out.old ++ spaced (codes "reserved" ∷ prefix_words pool.now.reserved)) }
+{
+    push_word(out, "reserved")?;
+    push_reserved(alloc, out, pool)
+}
+
+/// Appends `doubt` and the prefixes in doubt, each behind a blank.
+#[tactic(auto, using(crate::proofs::Pushed::pushes))]
+fn push_doubt(alloc: Global, out: &mut String, pool: &Pool) -> Result<(), OutOfMemory>
+    ensures { OnOk result (string_bytes out.new ≡ string_bytes out.old ++ spaced (codes "doubt" ∷ prefix_words pool.now.doubtful)) }
+{
+    push_word(out, "doubt")?;
+    push_doubtful(alloc, out, pool)
+}
+
+/// Appends the prefixes that are held, each behind a blank.
+fn push_free(alloc: Global, out: &mut String, pool: &Pool) -> Result<(), OutOfMemory>
+    ensures { OnOk result (string_bytes out.new ≡ string_bytes out.old ++ spaced (prefix_words pool.now.free)) }
+{
+    // What is read of a pool tells that it is one.
+    let _room = pool.room();
+    for i in 0..MOST_ENTRIES {
+        match pool.free(i) {
+            Some(prefix) => push_prefix(alloc, out, prefix)?,
+            None => return Ok(()),
+        }
+    }
+    Ok(())
+}
+
+/// Appends the prefixes that are reserved, each behind a blank.
+fn push_reserved(alloc: Global, out: &mut String, pool: &Pool) -> Result<(), OutOfMemory>
+    ensures { OnOk result (string_bytes out.new ≡ string_bytes out.old ++ spaced (prefix_words pool.now.reserved)) }
+{
+    // What is read of a pool tells that it is one.
+    let _room = pool.room();
+    for i in 0..MOST_ENTRIES {
+        match pool.reserved(i) {
+            Some(prefix) => push_prefix(alloc, out, prefix)?,
+            None => return Ok(()),
+        }
+    }
+    Ok(())
+}
+
+/// Appends the prefixes in doubt, each behind a blank.
+fn push_doubtful(alloc: Global, out: &mut String, pool: &Pool) -> Result<(), OutOfMemory>
+    ensures { OnOk result (string_bytes out.new ≡ string_bytes out.old ++ spaced (prefix_words pool.now.doubtful)) }
+{
+    // What is read of a pool tells that it is one.
+    let _room = pool.room();
+    for i in 0..MOST_ENTRIES {
+        match pool.doubtful(i) {
+            Some(prefix) => push_prefix(alloc, out, prefix)?,
+            None => return Ok(()),
+        }
+    }
+    Ok(())
+}
