@@ -1,0 +1,15 @@
+pub mod Crew
+pub mod Exits
+pub mod Finish
+pub mod History
+pub mod Lines
+pub mod Manager
+pub mod Plans
+pub mod Program
+pub mod Runs
+pub mod Seats
+pub mod Steps
+pub mod Tells
+pub mod Turns
+pub mod Words
+pub mod Workers

@@ -1,0 +1,24 @@
+-- An agent at its place in the loop.
+use Rattle.std.specs.Prelude.{◌≡◌, ◌≤◌, ◌+◌, ℕ, Bool, true, false, All, List, [], ◌∷◌, ◌++◌, length, slice_get, Option, None, Some, map}
+use Rattle.grasp_types.specs.declared.reply.Reply.{Reply}
+use Rattle.grasp_core.specs.Node.{NodeState}
+use Rattle.grasp_daemon.specs.History.{Entry, History, own_calls}
+use Rattle.grasp_daemon.specs.Workers.{AreCallsOf, after_calls}
+use Rattle.grasp_daemon.specs.declared.seat.Seat.{Seat}
+use Rattle.grasp_daemon.specs.declared.worker.Worker.{Worker}
+
+-- an agent that may make its first call
+abbrev pub first_seat : Worker → Seat
+first_seat w = record { worker = w; stopped = false }
+
+-- The calls are the first that the agent makes, at most so many. Unless it has stopped they are just so many, and it is as they left
+-- it.
+pub record SeatStands (w : Worker) (calls : History) (count : ℕ) (s : Seat) : Type 0 where
+  pub calls_are : AreCallsOf w calls
+  pub most : length calls ≤ count
+  pub going : s.stopped ≡ false → (length calls ≡ count) × (s.worker ≡ after_calls w calls)
+
+-- each agent stands so with its own calls of the history
+pub record SeatsStand (crew : List Worker) (history : History) (count : ℕ) (seats : List Seat) : Type 0 where
+  pub same : length seats ≡ length crew
+  pub each : (place : ℕ) (w : Worker) (s : Seat) → slice_get crew place ≡ Some w → slice_get seats place ≡ Some s → SeatStands w (own_calls (place + 1) history) count s

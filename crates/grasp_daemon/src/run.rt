@@ -1,0 +1,69 @@
+//! Running a node from its plan to its end.
+
+ghost use Rattle.std.specs.Prelude.{◌≡◌, ◌<◌, false, length, IfOk};
+ghost use Rattle.grasp_daemon.specs.Runs.{RunsNode, AllGoing};
+ghost use Rattle.grasp_daemon.specs.Tells.{links_told, told};
+
+use crate::daemon::Daemon;
+use crate::plan::DaemonPlan;
+use grasp_cbor::OutOfMemory;
+use grasp_io::{Clock, Links};
+use std::alloc::Global;
+
+/// Opens the node of this plan and its agents, and makes the plan's turns over links that are open.
+///
+/// Want of memory is answered before the first turn, where there is none for the node; and after the last one, where an
+/// agent had to stop.
+pub fn run_node<L: Links, C: Clock>(
+    alloc: Global,
+    plan: DaemonPlan,
+    links: &mut L,
+    clock: &mut C,
+) -> Result<Daemon, OutOfMemory>
+    requires beacons { length plan.beacons < 255 }
+    requires readers { length plan.readers < 255 }
+    ensures { RunsNode plan (told (C.readings clock.old) (links_told (L.waits links.old) (L.given links.old) (L.handed links.old) (L.faults links.old))) result (told (C.readings clock.new) (links_told (L.waits links.new) (L.given links.new) (L.handed links.new) (L.faults links.new))) }
+{
+    let DaemonPlan {
+        node,
+        roots,
+        wants,
+        beacons,
+        readers,
+        turns,
+        wait,
+    } = plan;
+    let held = roots.slice();
+    let announced = beacons.slice();
+    let read = readers.slice();
+    match Daemon::open(alloc, node, held, wants, announced, read) {
+        Ok(mut daemon) => {
+            daemon.run(turns, wait, links, clock);
+            unless_stopped(daemon)
+        }
+        Err(OutOfMemory) => Err(OutOfMemory),
+    }
+}
+
+/// The node, unless one of its agents has stopped.
+fn unless_stopped(daemon: Daemon) -> Result<Daemon, OutOfMemory>
+    ensures same { IfOk result (λ d. d ≡ daemon) }
+    ensures going { IfOk result (λ d. AllGoing daemon.seats.items) }
+{
+    if has_stopped(&daemon) {
+        return Err(OutOfMemory);
+    }
+    Ok(daemon)
+}
+
+/// Whether one of the agents has stopped.
+fn has_stopped(daemon: &Daemon) -> bool
+    ensures { result ≡ false → AllGoing daemon.now.seats.items }
+{
+    for seat in &daemon.seats {
+        if seat.stopped {
+            return true;
+        }
+    }
+    false
+}

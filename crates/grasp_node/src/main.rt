@@ -1,0 +1,77 @@
+//! The program `grasp_node`: one call of `grasp_daemon` over a file, and over the sockets, the clock, the random source
+//! and the standard streams of the machine.
+#![tactic(auto)]
+
+use grasp_daemon::{Status, finish, node_main, print_text, text_for};
+use grasp_io::{FileSource, MioLinks, StdClock, StdSink, random_seed};
+use std::env;
+use std::io::ErrorKind;
+use std::process::ExitCode;
+use std::rt::Env;
+
+fn main(rt: HostRuntime) -> ExitCode {
+    let status = match words(&rt) {
+        Ok(words) => answer(&rt, &words),
+        Err(status) => status,
+    };
+    let mut errors = StdSink::new(rt.stderr());
+    ExitCode::from(finish(rt.alloc(), &status, &mut errors))
+}
+
+/// Does what the words ask for.
+fn answer(rt: &HostRuntime, words: &[String]) -> Status {
+    match text_for(words) {
+        Some(text) => print_text(text.text(), &mut StdSink::new(rt.stdout())),
+        None => run(rt, words),
+    }
+}
+
+/// Runs a node with a seed of the machine's.
+fn run(rt: &HostRuntime, words: &[String]) -> Status {
+    let Some(seed) = random_seed(rt) else {
+        return Status::ReadFault;
+    };
+    let mut source = FileSource::open(rt, file(words));
+    let mut sink = StdSink::new(rt.stdout());
+    let mut links = MioLinks::new(rt, rt.alloc());
+    let mut clock = StdClock::new(rt);
+    let status = node_main(
+        rt.alloc(),
+        words,
+        &mut source,
+        &mut sink,
+        &mut links,
+        &mut clock,
+        seed,
+    );
+    links.settle();
+    status
+}
+
+/// The path of the configuration, or none.
+fn file(words: &[String]) -> &str {
+    match words {
+        [_run, file] => file.as_str(),
+        _ => "",
+    }
+}
+
+/// The words after the program's name. A word that isn't UTF-8 is no call's.
+fn words<R: Env + AllocGlobal>(rt: &R) -> Result<Vec<String>, Status> {
+    match env::args(rt) {
+        Ok(args) => words_of(rt, args),
+        Err(error) if error.kind() == ErrorKind::OutOfMemory => Err(Status::OutOfMemory),
+        Err(_) => Err(Status::Usage),
+    }
+}
+
+fn words_of<R: AllocGlobal>(rt: &R, mut args: env::Args) -> Result<Vec<String>, Status> {
+    let mut words = Vec::new(rt.alloc());
+    let _ = args.next();
+    for word in args {
+        if words.push(word).is_err() {
+            return Err(Status::OutOfMemory);
+        }
+    }
+    Ok(words)
+}
