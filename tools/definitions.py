@@ -16,7 +16,7 @@ HEAD = re.compile(r"(?:abbrev |unfoldable )?pub (?:record |data )?([^\s:({]+) *[
 def definitions(path):
     """What a file is about, and each public name in it with its comment."""
     lines = path.read_text().splitlines()
-    about, names, comment, mutual = [], [], [], False
+    about, names, comment, block = [], [], [], False
     while lines and lines[0].startswith("--"):
         about.append(lines.pop(0)[2:].strip())
     for line in lines:
@@ -24,11 +24,11 @@ def definitions(path):
         if text.startswith("--"):
             comment.append(text[2:].strip())
             continue
-        # Definitions stand at the margin, or inside a block of mutual ones.
+        # Definitions stand at the margin, or inside a block of mutual ones or of ones over the same type.
         if line and not line.startswith(" "):
-            mutual = text in ("mutual", "abbrev mutual", "unfoldable mutual")
+            block = text in ("mutual", "abbrev mutual", "unfoldable mutual") or text.startswith("module _")
         found = HEAD.match(text)
-        if found and comment and (mutual or not line.startswith(" ")):
+        if found and comment and (block or not line.startswith(" ")):
             names.append((found.group(1), " ".join(comment)))
         comment = []
     return " ".join(about).split(". ")[0].rstrip("."), names
