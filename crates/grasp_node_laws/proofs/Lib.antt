@@ -1,8 +1,13 @@
+pub mod KnownStreams
+pub mod KnownMoves
+mod KnownActs
+pub mod KnownSessions
+pub mod KnownCalls
+pub mod KnownDatagrams
+pub mod KnownHear
+pub mod KnownBytes
+pub mod KnownNodes
 pub mod DialMoves
-pub mod DialCalls
-pub mod DialDatagrams
-pub mod DialHear
-pub mod DialBytes
 pub mod DialNodes
 pub mod Drains
 pub mod Orders

@@ -44,7 +44,7 @@ evens_length : (c s : ℕ) → length (evens_from s c) ≡ c
 evens_length zero s = refl
 evens_length (suc c) s = ap suc (evens_length c (s + 1))
 
-evens_append : (c s k : ℕ) → evens_from s c ++ evens_from (s + c) k ≡ evens_from s (c + k)
+pub evens_append : (c s k : ℕ) → evens_from s c ++ evens_from (s + c) k ≡ evens_from s (c + k)
 evens_append zero s k = ap (λ d. evens_from d k) (plus_none s) ∙ ap (evens_from s) (none_plus k)
 evens_append (suc c) s k = ap (λ q. (2 * s) ∷ q) (ap (λ d. evens_from (s + 1) c ++ evens_from d k) (step_on s c) ∙ evens_append c (s + 1) k) ∙ ap (evens_from s) (suc_plus c k)
 

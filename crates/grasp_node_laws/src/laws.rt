@@ -2,6 +2,9 @@
 
 ghost use Rattle.grasp_node_laws.specs.Dials.{DialsAreCounted, DrainsDialNothing};
 ghost use Rattle.grasp_node_laws.specs.Order.{QueuesAreInOrder};
+ghost use Rattle.grasp_node_laws.specs.Sends.{SendsAreKnown};
+
+use grasp_core::ties_are_kept;
 
 /// A step that doesn't drain leaves what is queued, and the dials that it queues behind are those of the next streams.
 pub fn dials_are_counted()
@@ -17,3 +20,11 @@ pub fn drains_dial_nothing()
 pub fn queues_are_in_order()
     ensures { QueuesAreInOrder }
 {}
+
+/// Whichever streams peers opened: where each record is that of one of these or of a stream that the node dialled, so it is after each
+/// step, and each message that the step queues is for such a stream, or for one that the same step dialled before it.
+pub fn sends_are_known()
+    ensures { SendsAreKnown }
+{
+    ties_are_kept();
+}

@@ -3,4 +3,4 @@
 
 mod laws;
 
-pub use laws::{dials_are_counted, drains_dial_nothing, queues_are_in_order};
+pub use laws::{dials_are_counted, drains_dial_nothing, queues_are_in_order, sends_are_known};
