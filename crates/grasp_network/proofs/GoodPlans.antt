@@ -1,5 +1,5 @@
 -- A good plan of a script has a good setting.
-use Rattle.std.proofs.Common.{◌≡◌, refl, sym, ap, ◌∙◌, subst, arith, tests, ℕ, zero, suc, ◌+◌, ◌-◌, ◌*◌, ◌%◌, ◌≤◌, ◌<◌, ◌==◌, Bool, true, false, not, List, [], ◌∷◌, ◌++◌, length, map, filter, replicate, slice_get, slice_index_or, All, AllPairs, Some}
+use Rattle.std.proofs.Common.{◌^◌, ◌≡◌, refl, sym, ap, ◌∙◌, subst, arith, tests, ℕ, zero, suc, ◌+◌, ◌-◌, ◌*◌, ◌%◌, ◌≤◌, ◌<◌, ◌==◌, Bool, true, false, not, List, [], ◌∷◌, ◌++◌, length, map, filter, replicate, slice_get, slice_index_or, All, AllPairs, Some}
 use Rattle.std.proofs.lemmas.List.{length-map, get_or_default}
 use Rattle.std.proofs.lemmas.List.Elements.{All-nil, All-cons, All-head, All-tail, All-map, All-filter}
 use Rattle.std.proofs.lemmas.List.Kept.{AllPairs-filter, AllPairs-cons}
@@ -171,12 +171,18 @@ script_pool_opens p k good = roots_open (script_roots p.roots k) few valid apart
 
 -- ---- members
 
+-- the number of a script's address has 128 bits
+pub script_number_fits : (k : ℕ) → k < 256 → script_number k < 2 ^ 128
+script_number_fits k h = omega arith
+
 pub script_member_good : (p : WorldPlan) (k : ℕ) → IsGoodPlan p → IsNode p.nodes k → IsGoodMember p.limit (script_member p k)
 script_member_good p k good node = record {
   opens = script_nodes_open p k good node;
   limit_is = refl;
   seed = seed_length 31 k;
   seed_bytes = seed_bytes 31 k (let a : k ≤ p.nodes = node.most in let b : p.nodes ≤ 64 = good.most_nodes in omega arith);
+  address = script_number_fits k (let a : k ≤ p.nodes = node.most in let b : p.nodes ≤ 64 = good.most_nodes in omega arith);
+  locator = (script_number_fits k (let a : k ≤ p.nodes = node.most in let b : p.nodes ≤ 64 = good.most_nodes in omega arith), omega arith);
   pool = script_pool_opens p k good;
 }
 

@@ -9,6 +9,7 @@ use Rattle.grasp_network.specs.Deliveries.{datagram_visit, after_delivery}
 use Rattle.grasp_network.specs.Drains.{drain_visit}
 use Rattle.grasp_network.specs.Pieces.{side_named, piece_visit, after_piece}
 use Rattle.grasp_network.specs.Plans.{IsNode}
+use Rattle.grasp_network.specs.Ranges.{IsCall}
 use Rattle.grasp_network.specs.Sending.{drained, event_drain}
 use Rattle.grasp_network.specs.Setting.{Setting}
 use Rattle.grasp_network.specs.Visits.{Visit, Choice, MayCome}
@@ -30,12 +31,12 @@ pub record AreLengths (length longest : ℕ) : Type 0 where
   pub most : longest ≤ 128
 
 -- among so many nodes, and so many peers that a want can name: the nodes and the peer that it names are there, no call is made as
--- agent 1, which is the node's own, and the lengths of a want are lengths of prefixes
+-- agent 1, which is the node's own, what a call carries is within its ranges, and the lengths of a want are lengths of prefixes
 abbrev pub IsFitAmong : ℕ → ℕ → Event → Type 0
 IsFitAmong nodes peers (event.Clock node millis) = IsNode nodes node
 IsFitAmong nodes peers (event.Want node length longest peer) = IsNode nodes node × IsNode peers peer × AreLengths length longest
 IsFitAmong nodes peers (event.Agent node hold) = IsNode nodes node
-IsFitAmong nodes peers (event.Api node asa call hold) = IsNode nodes node × (asa ≢ 1)
+IsFitAmong nodes peers (event.Api node asa call hold) = IsNode nodes node × (asa ≢ 1) × IsCall call
 IsFitAmong nodes peers (event.Datagram index hold) = Unit {0}
 IsFitAmong nodes peers (event.Arrive stream hold) = Unit {0}
 IsFitAmong nodes peers (event.Bytes stream far count hold) = Unit {0}

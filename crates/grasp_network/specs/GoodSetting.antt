@@ -8,18 +8,21 @@ use Rattle.grasp_pool.specs.Functions.{pool_of}
 use Rattle.grasp_pool.specs.Roots.{block_of}
 use Rattle.grasp_pool.specs.Spans.{Apart}
 use Rattle.grasp_pool.specs.declared.roots.RootPrefix.{RootPrefix}
+use Rattle.grasp_types.specs.Address.{IsAddress, IsLocator}
 use Rattle.grasp_types.specs.declared.links.Neighbour.{Neighbour}
 use Rattle.grasp_network.specs.Plans.{IsNode}
 use Rattle.grasp_network.specs.Setting.{Member, Setting, numbered, lines_of, others_on}
 
 -- ---- members
 
--- its node can be opened, with a seed of 32 bytes, and its roots open a pool
+-- its node can be opened, with a seed of 32 bytes, its address and its locator are within their ranges, and its roots open a pool
 pub record IsGoodMember (limit : ℕ) (m : Member) : Type 0 where
   pub opens : is_bad_plan m.plan ≡ false
   pub limit_is : m.plan.limit ≡ limit
   pub seed : length m.plan.seed ≡ 32
   pub seed_bytes : AllBytes m.plan.seed
+  pub address : IsAddress m.plan.address
+  pub locator : IsLocator m.plan.locator
   pub pool : IsOpened m.roots (pool_of m.roots)
 
 -- no root of the one has an address in common with a root of the other

@@ -213,7 +213,7 @@ fn links_of(node: u8, links: &[Members]) -> usize
 }
 
 /// Whether a node is on a link.
-pub(crate) fn is_on(node: u8, line: &[u8]) -> bool
+fn is_on(node: u8, line: &[u8]) -> bool
     ensures { result ≡ is_on node line.now }
 {
     line.iter().any(|n| *n == node)

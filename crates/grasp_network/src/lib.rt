@@ -1,6 +1,6 @@
 //! A network of nodes, each with an agent that manages prefixes: what happens in it, and what comes of it.
 //!
-//! What a network is and what each event does is said in specs/. Plans are tested and networks are opened; no code runs events yet.
+//! What a network is and what each event does is said in specs/. Plans are tested here; what runs networks stands above.
 #![tactic(auto)]
 
 mod check;
@@ -8,17 +8,9 @@ mod copies;
 mod event;
 mod event_laws;
 mod laws;
-mod opening;
-mod parcel;
-mod places;
 mod plan;
 mod report;
-mod seat;
 mod setting_laws;
-mod stream;
-mod streams;
-mod world;
-mod world_events;
 
 pub use event::Event;
 pub use event_laws::{
@@ -32,4 +24,3 @@ pub use laws::{
 pub use plan::{MemberLists, Members, RootAt, RootList, WorldPlan};
 pub use report::{Report, WorldStop};
 pub use setting_laws::{routes_return, script_pools_open, scripts_are_good};
-pub use world::World;

@@ -33,14 +33,14 @@ made_words (report.Reading millis) = []
 made_words (report.Want taken) = []
 made_words (report.Sent outputs) = []
 
--- a report is the event's line, the call that the node's agent made, ` = ` and what the event came to, ended by LF
-abbrev pub report_line : List ℕ → Report → List ℕ
-report_line line report = line ++ spaced (made_words report ++ codes "=" ∷ report_words report) ++ 10 ∷ []
+-- a report is the event's line, the call that the node's agent made, ` = ` and what the event came to
+abbrev pub told_report : List ℕ → Report → List ℕ
+told_report line report = line ++ spaced (made_words report ++ codes "=" ∷ report_words report)
 
 -- a node's pool: the prefixes that it holds, those that are reserved and those in doubt, each by rising address
 abbrev pub state_words : Holding → List (List ℕ)
 state_words h = codes "held" ∷ (prefix_words h.free ++ codes "reserved" ∷ (prefix_words h.reserved ++ codes "doubt" ∷ prefix_words h.doubtful))
 
 -- the report of a node's state
-abbrev pub state_line : List ℕ → Holding → List ℕ
-state_line line h = line ++ spaced (codes "=" ∷ state_words h) ++ 10 ∷ []
+abbrev pub told_state : List ℕ → Holding → List ℕ
+told_state line h = line ++ spaced (codes "=" ∷ state_words h)

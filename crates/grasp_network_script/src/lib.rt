@@ -33,6 +33,6 @@ pub use laws::{
 };
 pub use line::{Line, LineAct, Lines};
 pub use replies::push_reply;
-pub use reports::{answer_text, push_report};
+pub use reports::{answer_text, told_report};
 pub use script::{Script, parse_script};
-pub use states::{push_state, state_text};
+pub use states::{state_text, told_state};

@@ -3,7 +3,7 @@
 ghost use Rattle.std.specs.Prelude.{◌≡◌, ◌++◌, ◌∷◌, [], OnOk, IfOk, Result, codes, string_bytes};
 ghost use Rattle.grasp_agent.specs.declared.want.WantFault.{WantFault};
 ghost use Rattle.grasp_text.specs.Words.{joined, spaced};
-ghost use Rattle.grasp_network_script.specs.Reports.{want_words, report_words, made_words, report_line};
+ghost use Rattle.grasp_network_script.specs.Reports.{want_words, report_words, made_words, told_report};
 
 use crate::calls::push_call;
 use crate::replies::{push_count, push_reply};
@@ -23,34 +23,23 @@ pub fn answer_text(alloc: Global, report: &Report) -> Result<Chars, OutOfMemory>
     unspaced(alloc, &out)
 }
 
-/// Appends the report of an event: its line, the call that the node's agent made, ` = `, and what the event came to,
-/// ended by LF.
-///
-/// The line stands as it is, without its line end. After an `Err` a part of the report may have been appended.
-pub fn push_report(
-    alloc: Global,
-    out: &mut Vec<u8>,
-    line: &[u8],
-    report: &Report,
-) -> Result<(), OutOfMemory>
-    ensures { OnOk result (out.new.items ≡ out.old.items ++ report_line line.now report.now) }
+/// The report of an event: its line, the call that the node's agent made, ` = `, and what the event came to.
+#[tactic(auto, using(crate::proofs::Pushed::pushes))]
+pub fn told_report(alloc: Global, line: &Chars, report: &Report) -> Result<Chars, OutOfMemory>
+    ensures { IfOk result (λ text. text ≡ told_report line.now report.now) }
 {
-    let answer = told_text(alloc, report)?;
-    out.extend_from_slice(line)?;
-    out.extend_from_slice(answer.as_bytes())?;
-    Ok(())
+    let mut out = String::from_str(alloc, line.text())?;
+    push_told(alloc, &mut out, report)?;
+    Chars::of(alloc, out.as_str())
 }
 
-/// The part of a report behind the event's line, ended by LF.
+/// Appends the part of a report behind the event's line.
 #[tactic(auto, using(crate::proofs::Pushed::pushes))]
-fn told_text(alloc: Global, report: &Report) -> Result<String, OutOfMemory>
-    ensures { IfOk result (λ text. string_bytes text ≡ spaced (made_words report.now ++ codes "=" ∷ report_words report.now) ++ 10 ∷ []) }
+fn push_told(alloc: Global, out: &mut String, report: &Report) -> Result<(), OutOfMemory>
+    ensures { OnOk result (string_bytes out.new ≡ string_bytes out.old ++ spaced (made_words report.now ++ codes "=" ∷ report_words report.now)) }
 {
-    let mut text = String::new(alloc);
-    push_made(alloc, &mut text, report)?;
-    push_told_answer(alloc, &mut text, report)?;
-    text.push('\n')?;
-    Ok(text)
+    push_made(alloc, out, report)?;
+    push_told_answer(alloc, out, report)
 }
 
 /// Appends the call that a node's agent made, each word behind a blank.

@@ -3,7 +3,7 @@
 ghost use Rattle.std.specs.Prelude.{◌≡◌, ◌++◌, ◌∷◌, [], OnOk, IfOk, codes, string_bytes};
 ghost use Rattle.grasp_text.specs.Words.{joined, spaced};
 ghost use Rattle.grasp_network_script.specs.Answers.{prefix_words};
-ghost use Rattle.grasp_network_script.specs.Reports.{state_words, state_line};
+ghost use Rattle.grasp_network_script.specs.Reports.{state_words, told_state};
 
 use crate::unspaced::unspaced;
 use grasp_agent::PrefixAgent;
@@ -24,33 +24,22 @@ pub fn state_text(alloc: Global, agent: &PrefixAgent) -> Result<Chars, OutOfMemo
     unspaced(alloc, &out)
 }
 
-/// Appends the report of a node's state: the line, ` = ` and the prefixes of its agent, ended by LF.
-///
-/// The line stands as it is, without its line end. After an `Err` a part of the report may have been appended.
-pub fn push_state(
-    alloc: Global,
-    out: &mut Vec<u8>,
-    line: &[u8],
-    agent: &PrefixAgent,
-) -> Result<(), OutOfMemory>
-    ensures { OnOk result (out.new.items ≡ out.old.items ++ state_line line.now agent.now.pool) }
+/// The report of a node's state: the line, ` = ` and the prefixes of its agent.
+pub fn told_state(alloc: Global, line: &Chars, agent: &PrefixAgent) -> Result<Chars, OutOfMemory>
+    ensures { IfOk result (λ text. text ≡ told_state line.now agent.now.pool) }
 {
-    let state = told_state(alloc, agent.pool())?;
-    out.extend_from_slice(line)?;
-    out.extend_from_slice(state.as_bytes())?;
-    Ok(())
+    let mut out = String::from_str(alloc, line.text())?;
+    push_told(alloc, &mut out, agent.pool())?;
+    Chars::of(alloc, out.as_str())
 }
 
-/// The part of a report behind the line, ended by LF.
+/// Appends the part of the report behind the line.
 #[tactic(auto, using(crate::proofs::Pushed::pushes))]
-fn told_state(alloc: Global, pool: &Pool) -> Result<String, OutOfMemory>
-    ensures { IfOk result (λ text. string_bytes text ≡ spaced (codes "=" ∷ state_words pool.now) ++ 10 ∷ []) }
+fn push_told(alloc: Global, out: &mut String, pool: &Pool) -> Result<(), OutOfMemory>
+    ensures { OnOk result (string_bytes out.new ≡ string_bytes out.old ++ spaced (codes "=" ∷ state_words pool.now)) }
 {
-    let mut text = String::new(alloc);
-    push_word(&mut text, "=")?;
-    push_pool(alloc, &mut text, pool)?;
-    text.push('\n')?;
-    Ok(text)
+    push_word(out, "=")?;
+    push_pool(alloc, out, pool)
 }
 
 /// Appends the prefixes of a pool, each word behind a blank.

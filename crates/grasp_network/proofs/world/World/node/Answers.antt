@@ -1,5 +1,0 @@
-use Rattle.grasp_network.proofs.WorldSeats.{seat_stands}
-use Rattle.grasp_network.proofs.world.World.node.Goals as goal
-
-pub returns : goal.returns
-returns c = λ s w seat h. (seat_stands c.args.self.now c.args.node s w seat c.seat.result.now c.seat.ensures h).core

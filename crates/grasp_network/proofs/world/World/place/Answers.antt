@@ -1,5 +1,0 @@
-use Rattle.grasp_network.proofs.WorldSeats.{told_place}
-use Rattle.grasp_network.proofs.world.World.place.Goals as goal
-
-pub returns : goal.returns
-returns c = λ s w seat h. told_place c.args.self.now c.args.node c.args.number c.place.result s w seat c.place.ensures h

@@ -1,0 +1,97 @@
+-- Seats of the code and of a network, place by place.
+use Rattle.std.proofs.Common.{◌≡◌, ◌+◌, ◌-◌, ◌<◌, ◌≤◌, ℕ, zero, suc, refl, sym, ap, ◌∙◌, subst, arith, tests, ◌==◌, false, add-one, List, [], ◌∷◌, ◌++◌, Some, length, map, option_map, slice_get, slice_set}
+use Rattle.std.proofs.lemmas.List.{map-append}
+use Rattle.std.proofs.lemmas.Option.{slice_get-map}
+use Rattle.grasp_network.specs.Runs.{first_seat}
+use Rattle.grasp_simulator.specs.Seats.{SeatStands, SeatsStand}
+use Rattle.grasp_network.specs.Setting.{numbered, numbers_from, script_locator, script_member, script_setting}
+use Rattle.grasp_network.proofs.Opened.{map_length}
+use Rattle.grasp_network.specs.World.{Seat}
+use Rattle.grasp_network.specs.declared.plan.WorldPlan.{WorldPlan}
+use Rattle.grasp_simulator.specs.declared.seat.Seat.{Seat as SeatCode}
+
+-- one more, at the end
+pub seats_push : (codes : List SeatCode) (seats : List Seat) (code : SeatCode) (s : Seat) → SeatsStand codes seats → SeatStands code s → SeatsStand (codes ++ code ∷ []) (seats ++ s ∷ [])
+seats_push [] [] code s h one = (one, tt)
+seats_push [] (b ∷ bs) code s h one = absurd h
+seats_push (a ∷ l) [] code s h one = absurd h
+seats_push (a ∷ l) (b ∷ bs) code s h one = (h.0, seats_push l bs code s h.1 one)
+
+-- as many of the code as of the network
+pub seats_length : (codes : List SeatCode) (seats : List Seat) → SeatsStand codes seats → length codes ≡ length seats
+seats_length [] [] h = refl
+seats_length [] (b ∷ bs) h = absurd h
+seats_length (a ∷ l) [] h = absurd h
+seats_length (a ∷ l) (b ∷ bs) h = ap suc (seats_length l bs h.1)
+
+-- the one at a place
+pub record StandsAt (code : SeatCode) (seats : List Seat) (i : ℕ) : Type 0 where
+  pub seat : Seat
+  pub got : slice_get seats i ≡ Some seat
+  pub stands : SeatStands code seat
+
+pub seats_at : (codes : List SeatCode) (seats : List Seat) → SeatsStand codes seats → (i : ℕ) (code : SeatCode) → slice_get codes i ≡ Some code → StandsAt code seats i
+seats_at [] seats h i code got = absurd (cc)
+seats_at (a ∷ l) [] h i code got = absurd h
+seats_at (a ∷ l) (b ∷ bs) h zero code got = let same : a ≡ code = cc in record { seat = b; got = refl; stands = subst (λ (c : SeatCode). SeatStands c b) same h.0 }
+seats_at (a ∷ l) (b ∷ bs) h (suc i) code got = let below : StandsAt code bs i = seats_at l bs h.1 i code got in record { seat = below.seat; got = below.got; stands = below.stands }
+
+-- another at a place
+pub seats_set : (codes : List SeatCode) (seats : List Seat) → SeatsStand codes seats → (i : ℕ) (code : SeatCode) (s : Seat) → SeatStands code s → SeatsStand (slice_set codes i code) (slice_set seats i s)
+seats_set [] [] h i code s one = tt
+seats_set [] (b ∷ bs) h i code s one = absurd h
+seats_set (a ∷ l) [] h i code s one = absurd h
+seats_set (a ∷ l) (b ∷ bs) h zero code s one = (one, h.1)
+seats_set (a ∷ l) (b ∷ bs) h (suc i) code s one = (h.0, seats_set l bs h.1 i code s one)
+
+-- ---- numbers
+
+number_at : (n k i : ℕ) → i < k → slice_get (numbers_from n k) i ≡ Some (n + i)
+unfolding numbers_from
+number_at n zero i h = absurd (omega arith)
+number_at n (suc k) zero h = let e : n ≡ n + 0 = omega arith in ap Some e
+number_at n (suc k) (suc i) h = let e : (n + 1) + i ≡ n + suc i = omega arith in number_at (n + 1) k i (omega arith) ∙ ap Some e
+
+is_positive : (k : ℕ) → 1 ≤ k → (k == 0) ≡ false
+is_positive k h = grind (arith, tests)
+
+-- what is made of each number from 1 on, by its number
+pub numbered_from_1 : {A : Type 0} (f : ℕ → A) (n k : ℕ) → 1 ≤ k → k ≤ n → numbered (map f (numbers_from 1 n)) k ≡ Some (f k)
+numbered_from_1 f n k least most =
+    let not_zero : (k == 0) ≡ false = is_positive k least in
+    let same : 1 + (k - 1) ≡ k = omega arith in
+    rw not_zero (slice_get-map f (numbers_from 1 n) (k - 1) ∙ ap (option_map f) (number_at 1 n (k - 1) (omega arith) ∙ ap Some same))
+
+-- one number more
+numbers_more : (n k : ℕ) → numbers_from n (suc k) ≡ numbers_from n k ++ (n + k) ∷ []
+unfolding numbers_from
+numbers_more n zero = ap (λ (m : ℕ). m ∷ []) (omega arith)
+numbers_more n (suc k) =
+    let e : (n + 1) + k ≡ n + suc k = omega arith in
+    ap (λ (ns : List ℕ). n ∷ ns) (numbers_more (n + 1) k ∙ ap (λ (m : ℕ). numbers_from (n + 1) k ++ m ∷ []) e)
+
+pub numbers_count : (n k : ℕ) → length (numbers_from n k) ≡ k
+unfolding numbers_from
+numbers_count n zero = refl
+numbers_count n (suc k) = ap suc (numbers_count (n + 1) k)
+
+-- a script has as many peers as nodes
+pub peers_count : (p : WorldPlan) → length (script_setting p).peers ≡ p.nodes
+unfolding script_setting
+peers_count p = map_length script_locator (numbers_from 1 p.nodes) ∙ numbers_count 1 p.nodes
+
+-- the first seats of so many nodes
+abbrev pub first_seats : WorldPlan → ℕ → List Seat
+first_seats p n = map first_seat (map (script_member p) (numbers_from 1 n))
+
+first_more : (p : WorldPlan) (n : ℕ) → first_seats p (n + 1) ≡ first_seats p n ++ first_seat (script_member p (n + 1)) ∷ []
+first_more p n =
+    let ns : List ℕ = numbers_from 1 n in
+    let e : 1 + n ≡ n + 1 = omega arith in
+    ap (λ (m : ℕ). first_seats p m) (add-one n)
+    ∙ ap (λ (l : List ℕ). map first_seat (map (script_member p) l)) (numbers_more 1 n ∙ ap (λ (m : ℕ). ns ++ m ∷ []) e)
+    ∙ ap (map first_seat) (map-append (script_member p) ns ((n + 1) ∷ []))
+    ∙ map-append first_seat (map (script_member p) ns) (script_member p (n + 1) ∷ [])
+
+pub seats_more : (p : WorldPlan) (n : ℕ) (codes : List SeatCode) (code : SeatCode) → SeatsStand codes (first_seats p n) → SeatStands code (first_seat (script_member p (n + 1))) → SeatsStand (codes ++ code ∷ []) (first_seats p (n + 1))
+seats_more p n codes code h one = subst (SeatsStand (codes ++ code ∷ [])) (sym (first_more p n)) (seats_push codes (first_seats p n) code (first_seat (script_member p (n + 1))) h one)

@@ -1,0 +1,209 @@
+-- Bytes that come to a side of a stream, and a side that is told that its stream is closed.
+use Rattle.std.proofs.Common.{◌≡◌, ◌≤◌, refl, sym, ap, ◌∙◌, subst, arith, ℕ, ◌-◌, Bool, true, false, not, List, length, Option, Some, None, slice_index_or}
+use Rattle.std.specs.Vec.{with_item}
+use Rattle.std.proofs.lemmas.Option.{none-some}
+use Rattle.grasp_cbor.specs.Bytes.{AllBytes}
+use Rattle.grasp_session.specs.Messages.{Side, other}
+use Rattle.grasp_types.specs.declared.reply.Reply.{Reply}
+use Rattle.grasp_types.specs.declared.traffic.Input.{Input}
+use Rattle.grasp_types.specs.declared.traffic.Input.TheVariants as input
+use Rattle.grasp_network.proofs.Here.{some_same}
+use Rattle.grasp_network.specs.Cuts.{cut_visit, after_cut}
+use Rattle.grasp_network.specs.Events.{drained_behind, visit_of, after_event}
+use Rattle.grasp_network.specs.Pieces.{Reached, reached_at, reached_in, reached_side, side_named, piece_visit, after_piece}
+use Rattle.grasp_network.specs.Reports.{report_of}
+use Rattle.grasp_network.specs.Plans.{IsNode}
+use Rattle.grasp_network.specs.Setting.{Setting, numbered}
+use Rattle.grasp_network.specs.Sending.{stepped}
+use Rattle.grasp_network.specs.Talks.{StreamEnd, TalkState, told_closed, is_reached, side_at, end_at, next_bytes, talk_numbered, change_at_end, with_delivered, with_side}
+use Rattle.grasp_network.specs.Visits.{Visit, Choice, MayCome, VisitStep, no_choice, is_starved, visit, visit_seat}
+use Rattle.grasp_network.specs.World.{Seat, WorldState, seat_at}
+use Rattle.grasp_network.specs.declared.event.Event.{Event}
+use Rattle.grasp_network.specs.declared.event.Event.TheVariants as event
+use Rattle.grasp_network.specs.declared.report.Report.TheVariants as report
+use Rattle.grasp_network_streams.specs.Ready.{AreSent, StreamsAreReady}
+use Rattle.grasp_simulator.specs.Seats.{Sitting, SeatMeets, SeatStepped}
+use Rattle.grasp_simulator.specs.Sends.{SendsBehind}
+use Rattle.grasp_simulator.specs.StreamParts.{side_of, piece_at}
+use Rattle.grasp_simulator.specs.StreamsStand.{end_here, StreamsStand, ChangesAt}
+use Rattle.grasp_simulator.specs.WorldStands.{WorldKeeps, WorldGoes}
+use Rattle.grasp_simulator.specs.WorldSteps.{MayRun, HasRun, Runs}
+use Rattle.grasp_simulator.specs.declared.seat.Seat.{Seat as SeatCode}
+use Rattle.grasp_simulator.specs.declared.stream.SideEnd.{SideEnd}
+use Rattle.grasp_simulator.specs.declared.stream.Stream.{Stream}
+use Rattle.grasp_simulator.specs.declared.streams.Streams.{Streams}
+use Rattle.grasp_simulator.specs.declared.world.World.{World}
+use Rattle.grasp_simulator.proofs.InputsGo.{own_step, Here, node_is, no_seat, Brings, input_runs}
+use Rattle.grasp_simulator.proofs.Puts.{with_streams}
+use Rattle.grasp_simulator.proofs.SideEnds.{IsEnd, IsSide, side_is, alone_sent}
+
+-- ---- the side
+
+-- the side that the event reaches, with the code's end
+pub record Found (code : World) (w : WorldState) (k : ℕ) (far : Bool) (e : SideEnd) : Type 0 where
+  pub side : Reached
+  pub got : reached_side w k (side_named far) ≡ Some side
+  pub at : side.at ≡ end_here e.node e.number
+  pub pieces : (count : ℕ) → piece_at (numbered code.streams.list.items k) far count ≡ next_bytes side.talk (other (side_named far)) count
+  pub sent : AreSent w.talks (end_here e.node e.number)
+
+-- the side's stream is the one of this number
+talk_of : (side : Side) (o : Option TalkState) (x : Reached) → reached_in side o ≡ Some x → o ≡ Some x.talk
+talk_of side None x e = absurd (none-some x e)
+talk_of side (Some t) x e = by_end (is_reached (side_at t side)) (end_at t side) e where
+  by_end : (b : Bool) (p : Option StreamEnd) → reached_at t b p ≡ Some x → Some t ≡ Some x.talk
+  by_end true None e = absurd (none-some x e)
+  by_end true (Some q) e = ap Some (ap (λ (y : Reached). y.talk) (some_same (record { talk = t; at = q }) x e))
+  by_end false p e = absurd (none-some x e)
+
+found_by : (law : StreamsAreReady) (code : World) (s : Setting) (w : WorldState) (k : ℕ) (far : Bool) (e : SideEnd) (o : Option Reached) → WorldGoes code s w → reached_in (side_named far) (talk_numbered w.talks k) ≡ o → IsSide (numbered code.streams.list.items k) far (Some e) o → Found code w k far e
+unfolding reached_side
+found_by law code s w k far e None goes is side = absurd side
+found_by law code s w k far e (Some x) goes is side = record {
+  side = x;
+  got = is;
+  at = side.at;
+  pieces = side.pieces;
+  sent = subst (AreSent w.talks) side.at (alone_sent x.at k w.talks x.talk (law.apart s w goes.reached x.at) (talk_of (side_named far) (talk_numbered w.talks k) x is) side.has);
+}
+
+pub found : (law : StreamsAreReady) (code : World) (s : Setting) (w : WorldState) (k : ℕ) (far : Bool) (e : SideEnd) → WorldGoes code s w → side_of (numbered code.streams.list.items k) k far ≡ Some e → Found code w k far e
+found law code s w k far e goes is =
+    found_by law code s w k far e (reached_in (side_named far) (talk_numbered w.talks k)) goes refl
+    (subst (λ o. IsSide (numbered code.streams.list.items k) far o (reached_in (side_named far) (talk_numbered w.talks k))) is (side_is code.streams.list.items code.streams.near.entries w.talks w.dials goes.keeps.streams k far))
+
+none_by : (co : Option Stream) (far : Bool) (o : Option Reached) → IsSide co far None o → o ≡ None
+none_by co far None h = refl
+none_by co far (Some x) h = absurd h
+
+-- where the code finds no end, the event reaches no side
+pub none_found : (code : World) (s : Setting) (w : WorldState) (k : ℕ) (far : Bool) → WorldGoes code s w → side_of (numbered code.streams.list.items k) k far ≡ None → reached_side w k (side_named far) ≡ None
+unfolding reached_side
+none_found code s w k far goes is =
+    none_by (numbered code.streams.list.items k) far (reached_in (side_named far) (talk_numbered w.talks k))
+    (subst (λ o. IsSide (numbered code.streams.list.items k) far o (reached_in (side_named far) (talk_numbered w.talks k))) is (side_is code.streams.list.items code.streams.near.entries w.talks w.dials goes.keeps.streams k far))
+
+-- ---- bytes
+
+piece_is_at : (w : WorldState) (k : ℕ) (far : Bool) (count : ℕ) (x : Reached) (node number : ℕ) (seat : Seat) → reached_side w k (side_named far) ≡ Some x → x.at ≡ end_here node number → seat_at w node ≡ Some seat
+    → piece_visit w k (side_named far) count ≡ Some (own_step node seat (input.Bytes number (next_bytes x.talk (other (side_named far)) count)))
+unfolding piece_visit
+piece_is_at w k far count x node number seat got at here =
+    rw got (ap (λ (e : StreamEnd). visit w e.node (input.Bytes e.number (next_bytes x.talk (other (side_named far)) count))) at ∙ ap (visit_seat node (input.Bytes number (next_bytes x.talk (other (side_named far)) count))) here)
+
+bytes_bring : (s : Setting) (w : WorldState) (k : ℕ) (far : Bool) (count : ℕ) (hold : Bool) (x : Reached) (v : Visit) (r : Reply) → reached_side w k (side_named far) ≡ Some x → piece_visit w k (side_named far) count ≡ Some v
+    → Brings s w (record w { talks = change_at_end w.talks x.at (with_delivered count) }) (event.Bytes k far count hold) (event.Bytes k far count true) hold v r (λ c. w.answers)
+unfolding after_event after_piece report_of stepped
+bytes_bring s w k far count hold x v r got is = record {
+  seats = refl;
+  count = refl;
+  comes = λ c step. rw is step;
+  comes_held = λ c step. rw is step;
+  after = λ c same. rw is (rw got refl);
+  after_held = λ c same. rw is (rw got refl);
+  reports = λ c. rw is refl;
+}
+
+pub bytes_run : (law : StreamsAreReady) (old new : World) (k : ℕ) (far : Bool) (count : ℕ) (hold : Bool) (e : SideEnd) (bytes : List ℕ) (streams : Streams) (i : ℕ) (own after : SeatCode) (r : Reply) → side_of (numbered old.streams.list.items k) k far ≡ Some e
+    → bytes ≡ piece_at (numbered old.streams.list.items k) far count → AllBytes bytes → ChangesAt old.streams streams e.node e.number (with_delivered count) → IsNode (length old.seats.items) e.node → i ≡ e.node - 1 → own ≡ slice_index_or old.seats.items i own
+    → ((x : Sitting) → SeatMeets own (input.Bytes e.number bytes) x → SeatStepped after (input.Bytes e.number bytes) x r) → is_starved r ≡ false
+    → SendsBehind (record old { streams = streams; seats = with_item old.seats i after }) new e.node hold → Runs old new (event.Bytes k far count hold) (report.Reply r)
+bytes_run law old new k far count hold e bytes streams i own after r finds are all changes is_node place got steps fed sends s w may =
+    let f : Found old w k far e = found law old s w k far e may.goes finds in
+    let keeps : WorldKeeps old s w = may.goes.keeps in
+    let there : Here w e.node = node_is old s w e.node keeps is_node in
+    let same : bytes ≡ next_bytes f.side.talk (other (side_named far)) count = are ∙ f.pieces count in
+    let v : Visit = own_step e.node there.seat (input.Bytes e.number bytes) in
+    let is : piece_visit w k (side_named far) count ≡ Some v = piece_is_at w k far count f.side e.node e.number there.seat f.got f.at there.here ∙ ap (λ (b : List ℕ). Some (own_step e.node there.seat (input.Bytes e.number b))) (sym same) in
+    let changed : WorldState = record w { talks = change_at_end w.talks f.side.at (with_delivered count) } in
+    let kept : WorldKeeps (record old { streams = streams }) s changed =
+    with_streams old s w streams (change_at_end w.talks f.side.at (with_delivered count)) w.dials keeps
+    (subst (λ (q : StreamEnd). StreamsStand streams (change_at_end w.talks q (with_delivered count)) w.dials) (sym f.at) (changes w.talks w.dials f.sent keeps.streams)) in
+    input_runs law old (record old { streams = streams }) new s w changed (event.Bytes k far count hold) (event.Bytes k far count true) hold v (λ c. w.answers) i own after r may (record { goes = may.goes; fit = tt })
+    (bytes_bring s w k far count hold f.side v r f.got is) refl kept there.here place got all steps fed sends
+
+none_bytes : (s : Setting) (w : WorldState) (k : ℕ) (far : Bool) (count : ℕ) (hold : Bool) → visit_of s w (event.Bytes k far count hold) ≡ None → (after_event s w (event.Bytes k far count hold) no_choice ≡ w) × (report_of s w (event.Bytes k far count hold) no_choice ≡ report.Nothing)
+unfolding after_event report_of
+none_bytes s w k far count hold is = (rw is refl, rw is refl)
+
+-- nothing comes of bytes for no side
+pub no_bytes : (code : World) (k : ℕ) (far : Bool) (count : ℕ) (hold : Bool) → side_of (numbered code.streams.list.items k) k far ≡ None → Runs code code (event.Bytes k far count hold) report.Nothing
+unfolding piece_visit
+no_bytes code k far count hold finds s w may =
+    let is : visit_of s w (event.Bytes k far count hold) ≡ None = rw (none_found code s w k far may.goes finds) refl in
+    let h = none_bytes s w k far count hold is in
+    record { choice = no_choice; comes = subst (λ o. MayCome o no_choice) (sym is) tt; report_is = sym h.1; keeps = subst (WorldKeeps code s) (sym h.0) may.goes.keeps }
+
+-- ---- a side that is told
+
+cut_is_at : (w : WorldState) (k : ℕ) (far : Bool) (x : Reached) (node number : ℕ) (seat : Seat) → reached_side w k (side_named far) ≡ Some x → x.at ≡ end_here node number → seat_at w node ≡ Some seat
+    → cut_visit w k (side_named far) ≡ Some (own_step node seat (input.Closed number))
+unfolding cut_visit
+cut_is_at w k far x node number seat got at here =
+    rw got (ap (λ (e : StreamEnd). visit w e.node (input.Closed e.number)) at ∙ ap (visit_seat node (input.Closed number)) here)
+
+cut_brings : (s : Setting) (w : WorldState) (k : ℕ) (far hold : Bool) (x : Reached) (v : Visit) (r : Reply) → reached_side w k (side_named far) ≡ Some x → cut_visit w k (side_named far) ≡ Some v
+    → Brings s w (record w { talks = change_at_end w.talks x.at (with_side told_closed) }) (event.Cut k far hold) (event.Cut k far true) hold v r (λ c. w.answers)
+unfolding after_event after_cut report_of stepped
+cut_brings s w k far hold x v r got is = record {
+  seats = refl;
+  count = refl;
+  comes = λ c step. rw is step;
+  comes_held = λ c step. rw is step;
+  after = λ c same. rw is (rw got refl);
+  after_held = λ c same. rw is (rw got refl);
+  reports = λ c. rw is refl;
+}
+
+pub cut_runs : (law : StreamsAreReady) (old new : World) (k : ℕ) (far hold : Bool) (e : SideEnd) (streams : Streams) (i : ℕ) (own after : SeatCode) (r : Reply) → side_of (numbered old.streams.list.items k) k far ≡ Some e
+    → ChangesAt old.streams streams e.node e.number (with_side told_closed) → IsNode (length old.seats.items) e.node → i ≡ e.node - 1 → own ≡ slice_index_or old.seats.items i own
+    → ((x : Sitting) → SeatMeets own (input.Closed e.number) x → SeatStepped after (input.Closed e.number) x r) → is_starved r ≡ false
+    → SendsBehind (record old { streams = streams; seats = with_item old.seats i after }) new e.node hold → Runs old new (event.Cut k far hold) (report.Reply r)
+cut_runs law old new k far hold e streams i own after r finds changes is_node place got steps fed sends s w may =
+    let f : Found old w k far e = found law old s w k far e may.goes finds in
+    let keeps : WorldKeeps old s w = may.goes.keeps in
+    let there : Here w e.node = node_is old s w e.node keeps is_node in
+    let v : Visit = own_step e.node there.seat (input.Closed e.number) in
+    let is : cut_visit w k (side_named far) ≡ Some v = cut_is_at w k far f.side e.node e.number there.seat f.got f.at there.here in
+    let changed : WorldState = record w { talks = change_at_end w.talks f.side.at (with_side told_closed) } in
+    let kept : WorldKeeps (record old { streams = streams }) s changed =
+    with_streams old s w streams (change_at_end w.talks f.side.at (with_side told_closed)) w.dials keeps
+    (subst (λ (q : StreamEnd). StreamsStand streams (change_at_end w.talks q (with_side told_closed)) w.dials) (sym f.at) (changes w.talks w.dials f.sent keeps.streams)) in
+    input_runs law old (record old { streams = streams }) new s w changed (event.Cut k far hold) (event.Cut k far true) hold v (λ c. w.answers) i own after r may (record { goes = may.goes; fit = tt })
+    (cut_brings s w k far hold f.side v r f.got is) refl kept there.here place got tt steps fed sends
+
+none_cut : (s : Setting) (w : WorldState) (k : ℕ) (far hold : Bool) → visit_of s w (event.Cut k far hold) ≡ None → (after_event s w (event.Cut k far hold) no_choice ≡ w) × (report_of s w (event.Cut k far hold) no_choice ≡ report.Nothing)
+unfolding after_event report_of
+none_cut s w k far hold is = (rw is refl, rw is refl)
+
+-- nothing comes of a cut of no side
+pub no_cut : (code : World) (k : ℕ) (far hold : Bool) → side_of (numbered code.streams.list.items k) k far ≡ None → Runs code code (event.Cut k far hold) report.Nothing
+unfolding cut_visit
+no_cut code k far hold finds s w may =
+    let is : visit_of s w (event.Cut k far hold) ≡ None = rw (none_found code s w k far may.goes finds) refl in
+    let h = none_cut s w k far hold is in
+    record { choice = no_choice; comes = subst (λ o. MayCome o no_choice) (sym is) tt; report_is = sym h.1; keeps = subst (WorldKeeps code s) (sym h.0) may.goes.keeps }
+
+-- ---- a side at a node that isn't there
+
+side_unseated : (w : WorldState) (k : ℕ) (far : Bool) (x : Reached) (node number : ℕ) → reached_side w k (side_named far) ≡ Some x → x.at ≡ end_here node number → seat_at w node ≡ None
+    → ((count : ℕ) → piece_visit w k (side_named far) count ≡ None) × (cut_visit w k (side_named far) ≡ None)
+unfolding piece_visit cut_visit
+side_unseated w k far x node number got at none = (
+  λ count. rw got (ap (λ (e : StreamEnd). visit w e.node (input.Bytes e.number (next_bytes x.talk (other (side_named far)) count))) at ∙ ap (visit_seat node (input.Bytes number (next_bytes x.talk (other (side_named far)) count))) none),
+  rw got (ap (λ (e : StreamEnd). visit w e.node (input.Closed e.number)) at ∙ ap (visit_seat node (input.Closed number)) none),
+)
+
+pub unseated_bytes : (law : StreamsAreReady) (code : World) (k : ℕ) (far : Bool) (count : ℕ) (hold : Bool) (e : SideEnd) → side_of (numbered code.streams.list.items k) k far ≡ Some e → (IsNode (length code.seats.items) e.node → ⊥) → Runs code code (event.Bytes k far count hold) report.Nothing
+unseated_bytes law code k far count hold e finds none s w may =
+    let f : Found code w k far e = found law code s w k far e may.goes finds in
+    let is : visit_of s w (event.Bytes k far count hold) ≡ None = (side_unseated w k far f.side e.node e.number f.got f.at (no_seat code s w e.node may.goes.keeps none)).0 count in
+    let h = none_bytes s w k far count hold is in
+    record { choice = no_choice; comes = subst (λ o. MayCome o no_choice) (sym is) tt; report_is = sym h.1; keeps = subst (WorldKeeps code s) (sym h.0) may.goes.keeps }
+
+pub unseated_cut : (law : StreamsAreReady) (code : World) (k : ℕ) (far hold : Bool) (e : SideEnd) → side_of (numbered code.streams.list.items k) k far ≡ Some e → (IsNode (length code.seats.items) e.node → ⊥) → Runs code code (event.Cut k far hold) report.Nothing
+unseated_cut law code k far hold e finds none s w may =
+    let f : Found code w k far e = found law code s w k far e may.goes finds in
+    let is : visit_of s w (event.Cut k far hold) ≡ None = (side_unseated w k far f.side e.node e.number f.got f.at (no_seat code s w e.node may.goes.keeps none)).1 in
+    let h = none_cut s w k far hold is in
+    record { choice = no_choice; comes = subst (λ o. MayCome o no_choice) (sym is) tt; report_is = sym h.1; keeps = subst (WorldKeeps code s) (sym h.0) may.goes.keeps }

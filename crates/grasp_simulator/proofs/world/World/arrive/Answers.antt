@@ -1,0 +1,20 @@
+use Rattle.std.proofs.Common.{rules, ◌∙◌, sym, subst, Bool}
+use Rattle.grasp_simulator.specs.Arriving.{Opens}
+use Rattle.grasp_simulator.proofs.ArrivesGo.{arrive_runs, no_arrival, unseated_arrival}
+use Rattle.grasp_simulator.proofs.world.World.arrive.Goals as goal
+
+-- it doesn't wait
+pub returns-in_default-clause-runs : goal.returns-in_default-clause-runs
+returns-in_default-clause-runs c = no_arrival c.args.self.now c.args.stream c.args.hold (sym c.waiting.ensures ∙ c.in_default.is)
+
+-- the node isn't there
+pub returns-then-not-has-clause-runs : goal.returns-then-not-has-clause-runs
+returns-then-not-has-clause-runs c =
+    unseated_arrival c.streams_are_ready.ensures c.args.self.now c.args.stream c.args.hold c.in-Some.waiting (sym c.waiting.ensures ∙ c.in-Some.is) (search rules)
+
+pub returns-clause-runs : goal.returns-clause-runs
+returns-clause-runs c =
+    let self = c.args.self.now in
+    arrive_runs c.streams_are_ready.ensures self c.send_behind.new.self c.args.stream c.args.hold c.in-Some.waiting c.far_number-number.result c.address_of-from.result c.«open».new.self c.from.result c.index_mut.result.now c.step-reply.new.self c.step-reply.result
+    (sym c.waiting.ensures ∙ c.in-Some.is) c.far_number-number.ensures c.address_of-from.ensures (subst (Opens self.streams c.«open».new.self c.args.stream c.in-Some.waiting.node) c.is_taken.ensures c.«open».ensures) (search rules)
+    c.from.ensures c.index_mut.ensures.value c.step-reply.ensures (sym c.is_starved.ensures ∙ c.if-is_starved.false) c.in_ok-send_behind.ensures.sends

@@ -1,0 +1,21 @@
+use Rattle.std.proofs.Common.{◌∙◌, sym, subst}
+use Rattle.std.proofs.lemmas.Bool.{false≢true}
+use Rattle.grasp_cbor.specs.Bytes.{AllBytes}
+use Rattle.grasp_simulator.proofs.SidesGo.{no_bytes, unseated_bytes, bytes_run}
+use Rattle.grasp_simulator.proofs.world.World.bytes.Goals as goal
+
+-- they reach no side
+pub returns-in_default-clause-runs : goal.returns-in_default-clause-runs
+returns-in_default-clause-runs c = no_bytes c.args.self.now c.args.stream c.args.far c.args.count c.args.hold (sym c.side.ensures ∙ c.in_default.is)
+
+-- their node isn't there
+pub returns-then-not-has-clause-runs : goal.returns-then-not-has-clause-runs
+returns-then-not-has-clause-runs c =
+    unseated_bytes c.streams_are_ready.ensures c.args.self.now c.args.stream c.args.far c.args.count c.args.hold c.in-Some.end (sym c.side.ensures ∙ c.in-Some.is)
+    (λ is. false≢true (sym c.if-not-has.true ∙ c.has.ensures.1 is))
+
+pub returns-clause-runs : goal.returns-clause-runs
+returns-clause-runs c =
+    bytes_run c.streams_are_ready.ensures c.args.self.now c.send_behind.new.self c.args.stream c.args.far c.args.count c.args.hold c.in-Some.end c.in_ok-bytes.bytes c.deliver.new.self c.from.result c.index_mut.result.now c.step-reply.new.self c.step-reply.result
+    (sym c.side.ensures ∙ c.in-Some.is) (c.in_ok-bytes.ensures ∙ c.piece-next.ensures) (subst AllBytes (sym c.in_ok-bytes.ensures) c.are_bytes.ensures) c.deliver.ensures (c.has.ensures.0 c.if-not-has.false) c.from.ensures c.index_mut.ensures.value
+    c.step-reply.ensures (sym c.is_starved.ensures ∙ c.if-is_starved.false) c.in_ok-send_behind.ensures.sends

@@ -1,0 +1,9 @@
+pub mod Arriving
+pub mod Contract
+pub mod PlacesStand
+pub mod Seats
+pub mod Sends
+pub mod StreamParts
+pub mod StreamsStand
+pub mod WorldStands
+pub mod WorldSteps

@@ -1,0 +1,51 @@
+-- What the code promises of one event.
+use Rattle.std.specs.Prelude.{◌≡◌, ◌≤◌, ◌<◌, Some, Result, Ok, Err}
+use Rattle.grasp_network.specs.Events.{IsFit, visit_of, after_event}
+use Rattle.grasp_network.specs.Reports.{report_of}
+use Rattle.grasp_network.specs.Setting.{Setting}
+use Rattle.grasp_network.specs.Visits.{Choice, MayCome}
+use Rattle.grasp_network.specs.World.{WorldState, most_bytes}
+use Rattle.grasp_network.specs.declared.event.Event.{Event}
+use Rattle.grasp_network.specs.declared.report.Report.{Report}
+use Rattle.grasp_network.specs.declared.report.WorldStop.{WorldStop}
+use Rattle.grasp_network.specs.declared.report.WorldStop.TheVariants as stop
+use Rattle.grasp_simulator.specs.Contract.{Network, MeetsEvent, WorldStepped}
+use Rattle.grasp_simulator.specs.WorldStands.{WorldKeeps, WorldGoes, WorldStands}
+use Rattle.grasp_simulator.specs.declared.world.World.{World}
+
+-- ---- an event, whether too much was sent or not
+
+-- the code goes on for a network, for which the event may be asked for
+pub record MayRun (code : World) (s : Setting) (w : WorldState) (e : Event) : Type 0 where
+  pub goes : WorldGoes code s w
+  pub fit : IsFit s w e
+
+-- the code reports how the event came out, and keeps the network after it
+pub record HasRun (code : World) (s : Setting) (w : WorldState) (e : Event) (report : Report) : Type 0 where
+  pub choice : Choice
+  pub comes : MayCome (visit_of s w e) choice
+  pub report_is : report ≡ report_of s w e choice
+  pub keeps : WorldKeeps code s (after_event s w e choice)
+
+-- for each network for which the code goes on
+abbrev pub Runs : World → World → Event → Report → Type 0
+Runs before after e report = (s : Setting) (w : WorldState) → MayRun before s w e → HasRun after s w e report
+
+-- ---- whether too much was sent
+
+-- so it is reported, or the network is stopped for too much
+abbrev pub Ends : World → World → Report → Result Report WorldStop → Type 0
+Ends before after report (Ok told) = (told ≡ report) × (after ≡ before) × (before.sent ≤ most_bytes)
+Ends before after report (Err why) = (why ≡ stop.TooMuch) × (after ≡ record before { stopped = Some stop.TooMuch }) × (most_bytes < before.sent)
+
+-- ---- the whole
+
+-- the code stands for a network for which the event may be asked for
+pub record IsAsked (code : World) (e : Event) : Type 0 where
+  pub network : Network
+  pub meets : MeetsEvent (WorldStands code) network e
+
+-- for each network for which the code stood before the event, which may be asked for, it answers as the event leads on, and stands for the
+-- network after it
+abbrev pub Stepped : World → World → Event → Result Report WorldStop → Type 0
+Stepped before after e result = WorldStepped (WorldStands before) (WorldStands after) e result

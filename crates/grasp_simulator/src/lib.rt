@@ -1,0 +1,22 @@
+//! Runs networks of nodes in memory.
+//!
+//! What a network is and what each event does is said in `grasp_network`; specs/ says how the code stands for a network.
+#![tactic(auto)]
+
+mod opening;
+mod parcel;
+mod places;
+mod seat;
+mod stream;
+mod streams;
+mod ways;
+mod world;
+mod world_agents;
+mod world_arrivals;
+mod world_cuts;
+mod world_datagrams;
+mod world_events;
+mod world_pieces;
+mod world_sends;
+
+pub use world::World;

@@ -1,0 +1,26 @@
+//! Calls of the agents of a network's nodes.
+
+ghost use Rattle.std.specs.Prelude.{◌≡◌, length, IfOk};
+ghost use Rattle.grasp_network.specs.Plans.{IsNode};
+ghost use Rattle.grasp_network.specs.declared.event.Event.TheVariants as event;
+ghost use Rattle.grasp_simulator.specs.WorldSteps.{Runs};
+
+use crate::world::World;
+use grasp_cbor::OutOfMemory;
+use grasp_network::Report;
+use grasp_network_streams::streams_are_ready;
+
+impl World {
+    /// The agent of a node makes its next call.
+    pub(crate) fn call_own(&mut self, node: u8, hold: bool) -> Result<Report, OutOfMemory>
+        requires { IsNode (length self.old.seats.items) node }
+        ensures runs { IfOk result (λ report. Runs self.old self.new (event.Agent node hold) report) }
+        ensures count { length self.new.seats.items ≡ length self.old.seats.items }
+    {
+        streams_are_ready();
+        let (call, reply) = self.seats[usize::from(node - 1)].agent_step()?;
+        self.places.note(node, &reply)?;
+        self.send_behind(node, hold)?;
+        Ok(Report::Agent { call, reply })
+    }
+}

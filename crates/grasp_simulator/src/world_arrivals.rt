@@ -1,0 +1,90 @@
+//! Streams that are opened where they were dialled to.
+
+ghost use Rattle.std.specs.Prelude.{◌≡◌, length, IfOk};
+ghost use Rattle.grasp_network.specs.Setting.{numbered};
+ghost use Rattle.grasp_network.specs.declared.event.Event.TheVariants as event;
+ghost use Rattle.grasp_simulator.specs.Arriving.{listener_from, waiting_in, is_taken};
+ghost use Rattle.grasp_simulator.specs.WorldSteps.{Runs};
+
+use crate::opening::{address_of, locator_of};
+use crate::seat::is_starved;
+use crate::stream::{Standing, far_number};
+use crate::world::World;
+use grasp_cbor::OutOfMemory;
+use grasp_network::Report;
+use grasp_network_streams::streams_are_ready;
+use grasp_types::{Input, Locator, Reply};
+
+/// A stream that isn't opened yet: the node that dialled, and the one that listens where it dialled to.
+#[derive(Clone, Copy, Debug, PartialEq, Eq)]
+pub(crate) struct Waiting {
+    pub(crate) near: u8,
+    pub(crate) node: u8,
+}
+
+/// The node that listens there, among so many.
+fn listener(nodes: u8, to: &Locator) -> Option<u8>
+    ensures { result ≡ listener_from 1 nodes to.now }
+{
+    for before in 0..nodes {
+        if *to == locator_of(before + 1) {
+            return Some(before + 1);
+        }
+    }
+    None
+}
+
+/// Whether the node took the stream.
+fn is_taken(reply: &Reply) -> bool
+    ensures { result ≡ is_taken reply.now }
+{
+    match reply {
+        Reply::Turned => false,
+        _ => true,
+    }
+}
+
+impl World {
+    /// A stream is opened at the node that listens where it was dialled to.
+    pub(crate) fn arrive(&mut self, stream: u64, hold: bool) -> Result<Report, OutOfMemory>
+        ensures runs { IfOk result (λ report. Runs self.old self.new (event.Arrive stream hold) report) }
+        ensures count { length self.new.seats.items ≡ length self.old.seats.items }
+    {
+        streams_are_ready();
+        let Some(waiting) = self.waiting(stream) else {
+            return Ok(Report::Nothing);
+        };
+        let node = waiting.node;
+        if !self.has(node) {
+            return Ok(Report::Nothing);
+        }
+        let number = far_number(stream);
+        let from = address_of(waiting.near);
+        let reply = self.seats[usize::from(node - 1)].step(Input::Opened {
+            stream: number,
+            from,
+        });
+        if is_starved(&reply) {
+            return Err(OutOfMemory);
+        }
+        self.streams.open(stream, node, is_taken(&reply));
+        self.send_behind(node, hold)?;
+        Ok(Report::Reply(reply))
+    }
+
+    /// The stream of this number, where it isn't opened yet and a node listens where it was dialled to.
+    fn waiting(&self, k: u64) -> Option<Waiting>
+        ensures { result ≡ waiting_in self.now.plan.nodes (numbered self.now.streams.list.items k) }
+    {
+        let stream = self.streams.get(k)?;
+        if stream.far_side == Standing::NotYet {
+            let node = listener(self.plan.nodes, &stream.to)?;
+            Some(Waiting {
+                near: stream.near,
+                node,
+            })
+        } else {
+            None
+        }
+    }
+}

@@ -1,0 +1,37 @@
+//! Sides of streams that are told that their stream is closed.
+
+ghost use Rattle.std.specs.Prelude.{◌≡◌, length, IfOk};
+ghost use Rattle.grasp_network.specs.declared.event.Event.TheVariants as event;
+ghost use Rattle.grasp_simulator.specs.WorldSteps.{Runs};
+
+use crate::seat::is_starved;
+use crate::world::World;
+use grasp_cbor::OutOfMemory;
+use grasp_network::Report;
+use grasp_network_streams::streams_are_ready;
+use grasp_types::Input;
+
+impl World {
+    /// A side of a stream is told that it is closed, and gets nothing more.
+    pub(crate) fn cut(&mut self, stream: u64, far: bool, hold: bool) -> Result<Report, OutOfMemory>
+        ensures runs { IfOk result (λ report. Runs self.old self.new (event.Cut stream far hold) report) }
+        ensures count { length self.new.seats.items ≡ length self.old.seats.items }
+    {
+        streams_are_ready();
+        let Some(end) = self.streams.side(stream, far) else {
+            return Ok(Report::Nothing);
+        };
+        if !self.has(end.node) {
+            return Ok(Report::Nothing);
+        }
+        self.streams.tell_closed(end.node, end.number);
+        let reply = self.seats[usize::from(end.node - 1)].step(Input::Closed {
+            stream: end.number,
+        });
+        if is_starved(&reply) {
+            return Err(OutOfMemory);
+        }
+        self.send_behind(end.node, hold)?;
+        Ok(Report::Reply(reply))
+    }
+}
