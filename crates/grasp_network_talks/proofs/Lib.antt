@@ -1,0 +1,17 @@
+pub mod TalkMoves
+pub mod TalkSteps
+pub mod TalkRuns
+pub mod TalkDials
+pub mod Standing
+pub mod EndSteps
+pub mod Lawful
+pub mod Voices
+pub mod NodeMoves
+pub mod StreamsMade
+pub mod Steps
+pub mod Harmless
+pub mod Events
+pub mod Drained
+pub mod Networks
+pub mod Talking
+pub mod Turning

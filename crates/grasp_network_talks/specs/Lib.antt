@@ -1,0 +1,4 @@
+pub mod Negotiations
+pub mod Safe
+pub mod Knowing
+pub mod GoingOn
