@@ -1,0 +1,176 @@
+-- What it is that calls began a flood, and that it stays so along the flood's way.
+use Rattle.std.proofs.Common.{◌≡◌, ℕ, ◌<◌, ◌≤◌, ◌-◌, ◌^◌, List, [], ◌∷◌, ◌++◌, All, Option, Some, None, arith}
+use Rattle.std.specs.Prelude.{Contains}
+use Rattle.std.proofs.lemmas.List.Elements.{All-cons, All-head, All-tail, All-nil, All-weaker, Contains-append_left}
+use Rattle.grasp_core.specs.Datagrams.{lowered, loops_of}
+use Rattle.grasp_core.specs.Queue.{Queued, datagram, dial, send, along}
+use Rattle.grasp_core.specs.Relays.{IsNoDatagram}
+use Rattle.grasp_core.specs.declared.ways.Way.{Way}
+use Rattle.grasp_flood.specs.Floods.{read_of}
+use Rattle.grasp_flood.specs.declared.keys.FloodKey.{FloodKey}
+use Rattle.grasp_flood.specs.declared.kept.FloodKept.{FloodKept}
+use Rattle.grasp_network.specs.Setting.{Member, Setting, numbered}
+use Rattle.grasp_network.specs.World.{FloodCall}
+use Rattle.grasp_types.specs.Flood.{first_loops}
+use Rattle.grasp_types.specs.Message.{IsMessage, IsFloodPart, AreFloodParts}
+use Rattle.grasp_types.specs.Objective.{IsObjective}
+use Rattle.grasp_types.specs.declared.address.Address.{Address}
+use Rattle.grasp_types.specs.declared.address.Locator.{Locator}
+use Rattle.grasp_types.specs.declared.flood.FloodPart.{FloodPart}
+use Rattle.grasp_types.specs.declared.flood.FloodRead.{FloodRead}
+use Rattle.grasp_types.specs.declared.message.Message.{Message}
+use Rattle.grasp_types.specs.declared.message.Message.TheVariants.{Noop, Discovery, Response, ReqNeg, ReqSyn, Negotiate, End, Wait, Synch, Flood, Invalid}
+use Rattle.grasp_types.specs.declared.objective.Objective.{Objective}
+
+-- one of these calls flooded it, at the member whose address is the initiator's
+pub record Made (s : Setting) (calls : List FloodCall) (initiator : Address) (o : Objective) (locator : Option Locator) : Type 0 where
+  pub call : FloodCall
+  pub among : Contains calls call
+  pub member : Member
+  pub made_at : numbered s.members call.node ≡ Some member
+  pub address : initiator ≡ member.plan.address
+  pub name : o.name ≡ call.name
+  pub value : o.value ≡ Some call.value
+  pub flags : o.flags ≡ call.flags
+  pub loops : o.loops ≤ call.loops
+  pub no_locator : locator ≡ None
+
+abbrev pub PartMade : Setting → List FloodCall → Address → FloodPart → Type 0
+PartMade s calls initiator part = Made s calls initiator part.objective part.locator
+
+abbrev pub ReadMade : Setting → List FloodCall → FloodRead → Type 0
+ReadMade s calls read = Made s calls read.initiator read.objective read.locator
+
+abbrev pub EntryMade : Setting → List FloodCall → FloodKey × FloodKept → Type 0
+EntryMade s calls entry = ReadMade s calls (read_of entry)
+
+abbrev pub PartsMade : Setting → List FloodCall → Message → Type 0
+PartsMade s calls (Flood session initiator ttl parts) = All (PartMade s calls initiator) parts
+PartsMade s calls Noop = Unit {0}
+PartsMade s calls (Discovery session initiator o) = Unit {0}
+PartsMade s calls (Response session initiator ttl told o) = Unit {0}
+PartsMade s calls (ReqNeg session o) = Unit {0}
+PartsMade s calls (ReqSyn session o) = Unit {0}
+PartsMade s calls (Negotiate session o) = Unit {0}
+PartsMade s calls (End session verdict) = Unit {0}
+PartsMade s calls (Wait session millis) = Unit {0}
+PartsMade s calls (Synch session o) = Unit {0}
+PartsMade s calls (Invalid session detail) = Unit {0}
+
+-- the message's parts are in range, so that it is decoded, and each flood in it was made
+pub record MessageMade (s : Setting) (calls : List FloodCall) (m : Message) : Type 0 where
+  pub is_message : IsMessage m
+  pub parts : PartsMade s calls m
+
+abbrev pub QueuedMade : Setting → List FloodCall → Queued → Type 0
+QueuedMade s calls (datagram link to m) = MessageMade s calls m
+QueuedMade s calls (dial stream to) = Unit {0}
+QueuedMade s calls (send stream m) = Unit {0}
+
+-- ---- more calls
+
+pub made_more : (s : Setting) (calls more : List FloodCall) (initiator : Address) (o : Objective) (locator : Option Locator) → Made s calls initiator o locator → Made s (calls ++ more) initiator o locator
+made_more s calls more initiator o locator m = record {
+  call = m.call;
+  among = Contains-append_left calls more m.call m.among;
+  member = m.member;
+  made_at = m.made_at;
+  address = m.address;
+  name = m.name;
+  value = m.value;
+  flags = m.flags;
+  loops = m.loops;
+  no_locator = m.no_locator;
+}
+
+pub parts_more : (s : Setting) (calls more : List FloodCall) (m : Message) → PartsMade s calls m → PartsMade s (calls ++ more) m
+parts_more s calls more (Flood session initiator ttl parts) p =
+    All-weaker (PartMade s calls initiator) (PartMade s (calls ++ more) initiator) (λ part. made_more s calls more initiator part.objective part.locator) parts p
+parts_more s calls more Noop p = tt
+parts_more s calls more (Discovery session initiator o) p = tt
+parts_more s calls more (Response session initiator ttl told o) p = tt
+parts_more s calls more (ReqNeg session o) p = tt
+parts_more s calls more (ReqSyn session o) p = tt
+parts_more s calls more (Negotiate session o) p = tt
+parts_more s calls more (End session verdict) p = tt
+parts_more s calls more (Wait session millis) p = tt
+parts_more s calls more (Synch session o) p = tt
+parts_more s calls more (Invalid session detail) p = tt
+
+pub message_more : (s : Setting) (calls more : List FloodCall) (m : Message) → MessageMade s calls m → MessageMade s (calls ++ more) m
+message_more s calls more m k = record { is_message = k.is_message; parts = parts_more s calls more m k.parts }
+
+pub queued_more : (s : Setting) (calls more : List FloodCall) (q : Queued) → QueuedMade s calls q → QueuedMade s (calls ++ more) q
+queued_more s calls more (datagram link to m) k = message_more s calls more m k
+queued_more s calls more (dial stream to) k = tt
+queued_more s calls more (send stream m) k = tt
+
+-- ---- what is queued
+
+pub along_made : (s : Setting) (calls : List FloodCall) (m : Message) (ways : List Way) → MessageMade s calls m → All (QueuedMade s calls) (along m ways)
+along_made s calls m [] k = All-nil (QueuedMade s calls)
+along_made s calls m (way ∷ ways) k = All-cons (QueuedMade s calls) (datagram way.link way.to m) (along m ways) k (along_made s calls m ways k)
+
+no_datagram_made : (s : Setting) (calls : List FloodCall) (q : Queued) → IsNoDatagram q → QueuedMade s calls q
+no_datagram_made s calls (datagram link to m) n = absurd n
+no_datagram_made s calls (dial stream to) n = tt
+no_datagram_made s calls (send stream m) n = tt
+
+pub none_made : (s : Setting) (calls : List FloodCall) (qs : List Queued) → All IsNoDatagram qs → All (QueuedMade s calls) qs
+none_made s calls qs all = All-weaker IsNoDatagram (QueuedMade s calls) (no_datagram_made s calls) qs all
+
+-- ---- loop counts that are lowered
+
+one_less : (a b : ℕ) → a ≤ b → a - 1 ≤ b
+one_less a b h = omega arith
+
+still_below : (a : ℕ) → a < 2 ^ 8 → a - 1 < 2 ^ 8
+still_below a h = omega arith
+
+pub objective_lowered : (o : Objective) → IsObjective o → IsObjective (lowered o)
+objective_lowered o k = record { name = k.name; flags = k.flags; loops = still_below o.loops k.loops; value = k.value }
+
+part_lowered : (s : Setting) (calls : List FloodCall) (initiator : Address) (part : FloodPart) → PartMade s calls initiator part
+    → PartMade s calls initiator (record part { objective = record part.objective { loops = part.objective.loops - 1 } })
+part_lowered s calls initiator part m = record {
+  call = m.call;
+  among = m.among;
+  member = m.member;
+  made_at = m.made_at;
+  address = m.address;
+  name = m.name;
+  value = m.value;
+  flags = m.flags;
+  loops = one_less part.objective.loops m.call.loops m.loops;
+  no_locator = m.no_locator;
+}
+
+pub parts_lowered : (s : Setting) (calls : List FloodCall) (initiator : Address) (parts : List FloodPart) → All (PartMade s calls initiator) parts
+    → All (PartMade s calls initiator) (first_loops parts (loops_of parts - 1))
+parts_lowered s calls initiator [] all = all
+parts_lowered s calls initiator (part ∷ parts) all =
+    All-cons (PartMade s calls initiator) (record part { objective = record part.objective { loops = part.objective.loops - 1 } }) parts
+    (part_lowered s calls initiator part (All-head (PartMade s calls initiator) part parts all)) (All-tail (PartMade s calls initiator) part parts all)
+
+flood_parts_lowered : (parts : List FloodPart) → AreFloodParts parts → AreFloodParts (first_loops parts (loops_of parts - 1))
+flood_parts_lowered [] k = k
+flood_parts_lowered (part ∷ parts) k = record {
+  some = k.some;
+  each = All-cons IsFloodPart (record part { objective = record part.objective { loops = part.objective.loops - 1 } }) parts
+      (lower (All-head IsFloodPart part parts k.each)) (All-tail IsFloodPart part parts k.each);
+} where
+  lower : IsFloodPart part → IsFloodPart (record part { objective = record part.objective { loops = part.objective.loops - 1 } })
+  lower p = record { objective = objective_lowered part.objective p.objective; locator = p.locator }
+
+-- a flood that is sent on
+pub flood_lowered : (s : Setting) (calls : List FloodCall) (session : ℕ) (initiator : Address) (ttl : ℕ) (parts : List FloodPart) → MessageMade s calls (Flood session initiator ttl parts)
+    → MessageMade s calls (Flood session initiator ttl (first_loops parts (loops_of parts - 1)))
+flood_lowered s calls session initiator ttl parts k = record {
+  is_message = (k.is_message.0, k.is_message.1, k.is_message.2, flood_parts_lowered parts k.is_message.3);
+  parts = parts_lowered s calls initiator parts k.parts;
+}
+
+-- a discovery that is sent on
+pub discovery_lowered : (s : Setting) (calls : List FloodCall) (session : ℕ) (initiator : Address) (o : Objective) → MessageMade s calls (Discovery session initiator o)
+    → MessageMade s calls (Discovery session initiator (lowered o))
+discovery_lowered s calls session initiator o k = record { is_message = (k.is_message.0, k.is_message.1, objective_lowered o k.is_message.2); parts = tt }
