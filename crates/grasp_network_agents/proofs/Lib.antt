@@ -1,0 +1,11 @@
+pub mod EachSeat
+pub mod Registering
+pub mod SameRegistered
+pub mod Serving
+pub mod Owned
+pub mod Hearing
+pub mod Tested
+pub mod OthersCalls
+pub mod Owning
+pub mod Staying
+pub mod Reserving

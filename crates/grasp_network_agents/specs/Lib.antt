@@ -1,0 +1,4 @@
+pub mod Owning
+pub mod Serving
+pub mod Staying
+pub mod Laws

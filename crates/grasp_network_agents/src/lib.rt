@@ -1,0 +1,6 @@
+//! Laws of the agents of prefixes in a network, which hold of every network that events lead to. No code runs here.
+#![tactic(auto)]
+
+mod laws;
+
+pub use laws::{agents_are_kept, agents_serve, own_sessions_stay, sessions_are_owned};
