@@ -1,0 +1,4 @@
+pub mod Drawing
+pub mod LinesWritten
+pub mod Rooting
+pub mod RoundsWritten

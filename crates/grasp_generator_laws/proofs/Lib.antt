@@ -1,0 +1,4 @@
+pub mod Drawn
+pub mod DrawnActs
+pub mod DrawnHeader
+pub mod LineEnds

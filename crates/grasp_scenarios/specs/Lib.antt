@@ -1,0 +1,4 @@
+pub mod Laws
+pub mod LineRuns
+pub mod Safe
+pub mod ScriptRuns

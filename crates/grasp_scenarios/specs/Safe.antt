@@ -1,0 +1,15 @@
+-- What is promised of each network that a script leads to.
+use Rattle.grasp_network.specs.Runs.{IsReached}
+use Rattle.grasp_network.specs.Setting.{Setting}
+use Rattle.grasp_network.specs.World.{WorldState}
+use Rattle.grasp_network_floods.specs.Real.{FloodsAreReal}
+use Rattle.grasp_network_talks.specs.Safe.{IsSafeTalks}
+
+pub record IsSafe (s : Setting) (w : WorldState) : Type 0 where
+  -- events lead to it from the first network of a good setting: whatever is proved of such networks is so of it
+  pub reached : IsReached s w
+  -- the steps of each negotiation are fewer than its loop count, and none where that is 0, and two sides that agree hold one objective, the
+  -- last that the side offered which didn't accept
+  pub talks : IsSafeTalks w
+  -- each flood that was read was flooded by its initiator
+  pub floods : FloodsAreReal w

@@ -1,0 +1,7 @@
+//! Scripts of networks that are run: what each line does in a network and how it is reported, the networks to which the lines of a
+//! script lead, and the text of their reports.
+#![tactic(auto)]
+
+mod laws;
+
+pub use laws::{each_run_is_safe, runs_of_lines_are_runs};
