@@ -1,5 +1,5 @@
 -- Plans of what is configured, one after the other.
-use Rattle.std.proofs.Common.{◌≡◌, refl, ap, ◌∙◌, sym, subst, ℕ, suc, ◌+◌, ◌<◌, ◌≤◌, arith, List, [], ◌∷◌, ◌++◌, map, take, length, slice_get, Option, Some, None}
+use Rattle.std.proofs.Common.{◌≡◌, refl, ap, ◌∙◌, sym, subst, ℕ, suc, ◌+◌, ◌<◌, arith, List, [], ◌∷◌, ◌++◌, map, take, length, slice_get, Some}
 use Rattle.grasp_config.specs.Laws.{IsInRange}
 use Rattle.grasp_config.specs.declared.config.BeaconConfig.{BeaconConfig}
 use Rattle.grasp_config.specs.declared.config.NodeConfig.{NodeConfig}

@@ -1,17 +1,17 @@
 -- What a run comes to.
-use Rattle.std.proofs.Common.{◌≡◌, ◌⊎◌, inl, inr, refl, sym, ap, ◌∙◌, subst, arith, ℕ, zero, suc, ◌+◌, ◌<◌, ◌≤◌, ◌≢◌, ◌==◌, true, false, List, [], ◌∷◌, length, map, slice_get, get_or, Option, Some, None, Result, Ok, Err}
+use Rattle.std.proofs.Common.{◌≡◌, ◌⊎◌, inl, inr, refl, sym, ap, ◌∙◌, subst, arith, ℕ, suc, ◌+◌, ◌<◌, ◌≤◌, ◌≢◌, ◌==◌, true, false, List, [], ◌∷◌, length, slice_get, get_or, Some, None, Result, Ok, Err}
 use Rattle.std.specs.Prelude.{IfOk}
 use Rattle.std.proofs.lemmas.Bool.Decides.{eqb_tells}
 use Rattle.grasp_cbor.specs.declared.memory.OutOfMemory.{OutOfMemory}
 use Rattle.std.proofs.lemmas.Option.{slice_get_within, slice_get_cases}
 use Rattle.grasp_core.specs.Node.{first_node}
 use Rattle.grasp_daemon.specs.Crew.{crew_of, crew_after, AgentsMade, AllMade}
-use Rattle.grasp_daemon.specs.History.{History, own_calls}
-use Rattle.grasp_daemon.specs.Runs.{Ran, EndsAs, RunsNode, workers_of, AllGoing}
+use Rattle.grasp_shared.specs.History.{History, own_calls}
+use Rattle.grasp_daemon.specs.Runs.{Ran, RunsNode, workers_of, AllGoing}
 use Rattle.grasp_daemon.specs.Seats.{SeatStands, SeatsStand}
 use Rattle.grasp_daemon.specs.Steps.{RanSeats}
 use Rattle.grasp_daemon.specs.Tells.{Told}
-use Rattle.grasp_daemon.specs.Workers.{AreCallsOf, after_calls}
+use Rattle.grasp_daemon.specs.Workers.{after_calls}
 use Rattle.grasp_daemon.specs.declared.daemon.Daemon.{Daemon}
 use Rattle.grasp_daemon.specs.declared.plan.DaemonPlan.{DaemonPlan}
 use Rattle.grasp_daemon.specs.declared.seat.Seat.{Seat}

@@ -1,12 +1,12 @@
 -- The parts of a turn.
-use Rattle.std.proofs.Common.{◌≡◌, refl, subst, ℕ, List, [], ◌∷◌, ◌++◌, Option}
+use Rattle.std.proofs.Common.{refl, subst, ℕ, List, [], ◌∷◌, Option}
 use Rattle.grasp_io.specs.Told.{Grows}
 use Rattle.grasp_core.specs.declared.node_core.NodeCore.{NodeCore}
 use Rattle.grasp_daemon.specs.Steps.{TakesIn, DrainsOut, Exchanges}
-use Rattle.grasp_daemon.specs.Tells.{LinksTold, Told, told, HandsOnly}
+use Rattle.grasp_daemon.specs.Tells.{LinksTold, told, HandsOnly}
 use Rattle.grasp_daemon.specs.Turns.{closings, asking_calls, loop_call, outputs_in, closed_again}
 use Rattle.grasp_types.specs.declared.traffic.Input.TheVariants as input
-use Rattle.grasp_daemon.proofs.Reaching.{adds_on}
+use Rattle.grasp_shared.proofs.Adding.{adds_on}
 use Rattle.grasp_daemon.proofs.Told.{hands_on}
 
 -- what the links gave, a drain, and a closing

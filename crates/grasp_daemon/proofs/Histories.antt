@@ -1,18 +1,12 @@
 -- Histories, call after call.
-use Rattle.std.proofs.Common.{◌≡◌, ◌≢◌, refl, sym, ap, subst, ◌∙◌, arith, ℕ, ◌+◌, ◌==◌, List, [], ◌∷◌, ◌++◌, length, append_assoc}
+use Rattle.std.proofs.Common.{◌≡◌, ◌≢◌, refl, sym, ap, ◌∙◌, arith, ℕ, ◌+◌, ◌==◌, List, [], ◌∷◌, ◌++◌, length, append_assoc}
 use Rattle.std.proofs.lemmas.Bool.{eq-eqb, ne_eqb}
 use Rattle.std.proofs.lemmas.List.{append-nil, length-append}
 use Rattle.std.proofs.lemmas.List.Elements.{filter-append}
 use Rattle.grasp_types.specs.declared.reply.Reply.{Reply}
 use Rattle.grasp_types.specs.declared.traffic.Input.TheVariants as input
-use Rattle.grasp_core.specs.Node.{NodeState}
-use Rattle.grasp_daemon.specs.History.{Entry, History, IsStep, IsLegalHistory, own_calls}
+use Rattle.grasp_shared.specs.History.{Entry, History, own_calls}
 use Rattle.grasp_daemon.specs.Turns.{Asking, got, nothing, no_memory, Turn, loop_call, asking_calls, turn_calls, all_turn_calls, last_reading}
-
--- one more call
-pub legal_more : (from n m : NodeState) (h : History) (e : Entry) → IsLegalHistory from h n → IsStep n e m → IsLegalHistory from (h ++ e ∷ []) m
-legal_more from n m [] e l s = (m, subst (λ x. IsStep x e m) l s, refl)
-legal_more from n m (x ∷ h) e l s = (l.0, l.1, legal_more l.0 n m h e l.2 s)
 
 -- ---- own calls
 

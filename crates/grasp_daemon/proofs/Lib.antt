@@ -1,15 +1,14 @@
+pub mod Calling
 pub mod Configured
 pub mod Ending
 pub mod Exchanging
 pub mod Histories
-pub mod KeptPlan
 pub mod Lining
 pub mod Lists
 pub mod MainRuns
 pub mod Opened
 pub mod Outcomes
 pub mod Pushed
-pub mod Reaching
 pub mod Reading
 pub mod Seating
 pub mod Told

@@ -1,5 +1,5 @@
 -- Places of a list.
-use Rattle.std.proofs.Common.{◌≡◌, ◌≢◌, refl, ap, ℕ, zero, suc, List, [], ◌∷◌, ◌++◌, slice_get, slice_set, Option, Some}
+use Rattle.std.proofs.Common.{◌≡◌, ◌≢◌, refl, ap, ℕ, zero, suc, List, [], ◌∷◌, ◌++◌, slice_get, slice_set, Some}
 use Rattle.std.specs.List.{AllByRecursion}
 
 module _ {A : Type 0} where

@@ -1,5 +1,5 @@
 -- What the program did, from what its parts did.
-use Rattle.std.proofs.Common.{◌≡◌, ◌≤◌, subst, ℕ, List, length, Option, Some, None, IfSome}
+use Rattle.std.proofs.Common.{◌≤◌, subst, ℕ, List, length, Option, Some, None, IfSome}
 use Rattle.std.specs.Io.KnownBytes.{Appends}
 use Rattle.grasp_config.specs.Config.{HasConfig, IsBadText}
 use Rattle.grasp_config.specs.Laws.{ConfigsAreInRange, IsInRange}

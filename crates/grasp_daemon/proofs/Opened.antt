@@ -1,5 +1,5 @@
 -- A node and its agents to which nothing has happened.
-use Rattle.std.proofs.Common.{◌≡◌, refl, sym, ap, ◌∙◌, subst, arith, ℕ, zero, suc, ◌+◌, ◌<◌, ◌≤◌, Bool, true, false, ◌||◌, List, [], ◌∷◌, ◌++◌, length, map, take, slice_get, Some, nat_lt, append_assoc}
+use Rattle.std.proofs.Common.{◌≡◌, refl, sym, ap, ◌∙◌, subst, arith, ℕ, zero, suc, ◌+◌, Bool, true, false, ◌||◌, List, [], ◌∷◌, ◌++◌, length, map, take, slice_get, Some, nat_lt, append_assoc}
 use Rattle.std.specs.Prelude.{option_map}
 use Rattle.std.proofs.lemmas.List.{map-append}
 use Rattle.std.proofs.lemmas.Bool.{ltb-false}
@@ -13,12 +13,12 @@ use Rattle.grasp_core.specs.Stands.{NodeStands}
 use Rattle.grasp_core.specs.declared.node_core.NodeCore.{NodeCore}
 use Rattle.grasp_core.specs.declared.plan.NodePlan.{NodePlan}
 use Rattle.grasp_daemon.specs.Crew.{beacons_from, readers_from}
-use Rattle.grasp_daemon.specs.History.{Reaches}
+use Rattle.grasp_shared.specs.History.{Reaches}
 use Rattle.grasp_daemon.specs.Seats.{first_seat, SeatStands, SeatsStand}
 use Rattle.grasp_daemon.specs.declared.plan.BeaconPlan.{BeaconPlan}
 use Rattle.grasp_daemon.specs.declared.seat.Seat.{Seat}
 use Rattle.grasp_daemon.specs.declared.worker.Worker.{Worker}
-use Rattle.grasp_daemon.specs.declared.worker.Worker.TheVariants.{Manager, Beacon, Reader}
+use Rattle.grasp_daemon.specs.declared.worker.Worker.TheVariants.{Beacon, Reader}
 
 left_false : (a b : Bool) → (a || b) ≡ false → a ≡ false
 left_false true b h = absurd (cc)

@@ -6,15 +6,15 @@ use Rattle.std.proofs.lemmas.Option.{slice_get_within}
 use Rattle.std.specs.List.{AllByRecursion}
 use Rattle.grasp_types.specs.declared.reply.Reply.{Reply}
 use Rattle.grasp_core.specs.declared.node_core.NodeCore.{NodeCore}
-use Rattle.grasp_daemon.specs.History.{Entry, History, Reaches, own_calls}
+use Rattle.grasp_shared.specs.History.{Entry, History, Reaches, own_calls}
 use Rattle.grasp_daemon.specs.Seats.{SeatStands, SeatsStand}
-use Rattle.grasp_daemon.specs.Steps.{Adds, agent_call, made_calls, SeatAfter, TakesTurn, SeatsGo, TakeTurns}
+use Rattle.grasp_daemon.specs.Steps.{agent_call, made_calls, SeatAfter, TakesTurn, SeatsGo, TakeTurns}
 use Rattle.grasp_daemon.specs.Workers.{next_input, after_turn, AreCallsOf, after_calls}
 use Rattle.grasp_daemon.specs.declared.seat.Seat.{Seat}
 use Rattle.grasp_daemon.specs.declared.worker.Worker.{Worker}
 use Rattle.grasp_daemon.proofs.Histories.{own_append, own_same, own_other, own_unmoved, length_more}
 use Rattle.grasp_daemon.proofs.Lists.{set_here, set_elsewhere, all_append}
-use Rattle.grasp_daemon.proofs.Reaching.{adds_on}
+use Rattle.grasp_shared.proofs.Adding.{adds_on}
 
 -- ---- one agent
 

@@ -1,13 +1,13 @@
 -- What is told, part after part.
-use Rattle.std.proofs.Common.{◌≡◌, ◌+◌, ◌≤◌, ◌⊎◌, inl, inr, ℕ, List, [], ◌∷◌, ◌++◌, Option, None, Some, ◌∙◌, sym, refl, ap, subst, arith, append_assoc, min}
+use Rattle.std.proofs.Common.{◌≤◌, inl, inr, ℕ, List, [], ◌∷◌, ◌++◌, Option, None, Some, ◌∙◌, refl, ap, subst, arith}
 use Rattle.grasp_io.specs.Faults.{Rose}
 use Rattle.grasp_io.specs.Told.{Stays, Grows, MayGrow}
-use Rattle.grasp_io.specs.Links.{Waits, Gives, Hands, IsAnswer}
+use Rattle.grasp_io.specs.Links.{Hands, IsAnswer}
 use Rattle.grasp_io.specs.declared.links.Sent.{Sent}
 use Rattle.grasp_io.specs.declared.links.Sent.TheVariants as sent
 use Rattle.grasp_types.specs.declared.traffic.Output.{Output}
 use Rattle.grasp_types.specs.declared.traffic.Output.TheVariants as output
-use Rattle.grasp_daemon.specs.Tells.{LinksTold, Told, HandsOver, HandsAll, AsksOnce, HandsOnly, TellsTurn, TellsTurns}
+use Rattle.grasp_daemon.specs.Tells.{LinksTold, Told, HandsOver, HandsAll, HandsOnly, TellsTurn, TellsTurns}
 use Rattle.grasp_daemon.specs.Turns.{Turn}
 
 module _ {A : Type 0} where

@@ -1,16 +1,15 @@
 -- Turn after turn.
-use Rattle.std.proofs.Common.{◌≡◌, refl, sym, ap, subst, ◌∙◌, arith, ℕ, ◌+◌, ◌≤◌, List, [], ◌∷◌, ◌++◌, length}
-use Rattle.std.proofs.lemmas.List.{append-nil}
+use Rattle.std.proofs.Common.{◌≡◌, refl, sym, ap, ◌∙◌, arith, ℕ, ◌+◌, ◌≤◌, List, [], ◌∷◌, ◌++◌, length}
 use Rattle.std.specs.List.{AllByRecursion}
 use Rattle.grasp_types.specs.declared.reply.Reply.{Reply}
 use Rattle.grasp_types.specs.declared.traffic.Input.TheVariants as input
 use Rattle.grasp_core.specs.Node.{NodeState}
 use Rattle.grasp_core.specs.declared.node_core.NodeCore.{NodeCore}
-use Rattle.grasp_daemon.specs.History.{Entry, History, Reaches, own_calls}
+use Rattle.grasp_shared.specs.History.{Entry, Reaches, own_calls}
 use Rattle.grasp_daemon.specs.Seats.{SeatsStand}
 use Rattle.grasp_daemon.specs.Steps.{DrainsOut, Exchanges, TakeTurns, Running, RanSeats}
 use Rattle.grasp_daemon.specs.Tells.{LinksTold, Told, told}
-use Rattle.grasp_daemon.specs.Turns.{Asking, got, nothing, no_memory, Turn, loop_call, asking_calls, turn_calls, all_turn_calls, last_reading}
+use Rattle.grasp_daemon.specs.Turns.{Asking, got, nothing, no_memory, Turn, loop_call, asking_calls, turn_calls, all_turn_calls}
 use Rattle.grasp_daemon.specs.declared.seat.Seat.{Seat}
 use Rattle.grasp_daemon.specs.declared.worker.Worker.{Worker}
 use Rattle.grasp_daemon.proofs.Histories.{own_append, own_other, own_unmoved, turn_own, turn_of_none, turns_more, last_more, length_more}

@@ -4,7 +4,7 @@ use Rattle.std.specs.Prelude.{◌≡◌, ◌≤◌, ℕ, ◌+◌, List, [], ◌�
 use Rattle.grasp_agent.specs.Announcing.{first_beacon, first_reader}
 use Rattle.grasp_pool.specs.Functions.{pool_of}
 use Rattle.grasp_pool.specs.declared.roots.RootPrefix.{RootPrefix}
-use Rattle.grasp_daemon.specs.History.{History, own_calls}
+use Rattle.grasp_shared.specs.History.{History, own_calls}
 use Rattle.grasp_daemon.specs.Manager.{first_manager}
 use Rattle.grasp_daemon.specs.Workers.{AreCallsOf, after_calls}
 use Rattle.grasp_daemon.specs.declared.plan.BeaconPlan.{BeaconPlan}

@@ -1,7 +1,6 @@
 pub mod Crew
 pub mod Exits
 pub mod Finish
-pub mod History
 pub mod Lines
 pub mod Manager
 pub mod Plans

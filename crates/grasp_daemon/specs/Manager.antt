@@ -1,5 +1,5 @@
 -- The agent that manages a node's prefixes, with what it is to want.
-use Rattle.std.specs.Prelude.{ℕ, ◌+◌, ◌-◌, Bool, true, false, ◌&&◌, is_some, is_none, if◌then◌else◌, List, Option, None, Some, Result, Ok, Err, length, replicate, slice_get, slice_set}
+use Rattle.std.specs.Prelude.{ℕ, ◌+◌, ◌-◌, ◌&&◌, is_some, is_none, if◌then◌else◌, List, Option, None, Some, Result, Ok, Err, length, replicate, slice_get, slice_set}
 use Rattle.grasp_agent.specs.Replies.{want_reply, after_want, after_reply}
 use Rattle.grasp_agent.specs.States.{AgentState, first_agent}
 use Rattle.grasp_agent.specs.declared.want.WantEnd.{WantEnd}

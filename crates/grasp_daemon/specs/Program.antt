@@ -1,5 +1,5 @@
 -- The program's one call: its words, what it reads, and what it makes of that.
-use Rattle.std.specs.Prelude.{◌≡◌, ◌≤◌, ℕ, Bool, false, List, [], ◌∷◌, Option, Some, IfSome, length, codes, bytes_eq}
+use Rattle.std.specs.Prelude.{◌≡◌, ◌≤◌, ℕ, Bool, false, List, [], ◌∷◌, Option, Some, IfSome, codes, bytes_eq}
 use Rattle.std.specs.Io.KnownBytes.{Appends}
 use Rattle.grasp_config.specs.Config.{HasConfig}
 use Rattle.grasp_config.specs.declared.config.NodeConfig.{NodeConfig}

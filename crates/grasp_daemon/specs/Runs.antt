@@ -5,7 +5,7 @@ use Rattle.grasp_cbor.specs.declared.memory.OutOfMemory.{OutOfMemory}
 use Rattle.grasp_types.specs.declared.reply.Reply.{Reply}
 use Rattle.grasp_core.specs.Node.{NodeState, first_node}
 use Rattle.grasp_daemon.specs.Crew.{crew_of, AgentsMade, AllMade, crew_after}
-use Rattle.grasp_daemon.specs.History.{History, IsLegalHistory, own_calls}
+use Rattle.grasp_shared.specs.History.{History, IsLegalHistory, own_calls}
 use Rattle.grasp_daemon.specs.Tells.{Told, TellsRun}
 use Rattle.grasp_daemon.specs.Turns.{Turn, loop_calls}
 use Rattle.grasp_daemon.specs.declared.daemon.Daemon.{Daemon}

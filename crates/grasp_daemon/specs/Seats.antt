@@ -1,8 +1,6 @@
 -- An agent at its place in the loop.
-use Rattle.std.specs.Prelude.{◌≡◌, ◌≤◌, ◌+◌, ℕ, Bool, true, false, All, List, [], ◌∷◌, ◌++◌, length, slice_get, Option, None, Some, map}
-use Rattle.grasp_types.specs.declared.reply.Reply.{Reply}
-use Rattle.grasp_core.specs.Node.{NodeState}
-use Rattle.grasp_daemon.specs.History.{Entry, History, own_calls}
+use Rattle.std.specs.Prelude.{◌≡◌, ◌≤◌, ◌+◌, ℕ, false, List, length, slice_get, Some}
+use Rattle.grasp_shared.specs.History.{History, own_calls}
 use Rattle.grasp_daemon.specs.Workers.{AreCallsOf, after_calls}
 use Rattle.grasp_daemon.specs.declared.seat.Seat.{Seat}
 use Rattle.grasp_daemon.specs.declared.worker.Worker.{Worker}

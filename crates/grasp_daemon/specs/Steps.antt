@@ -4,20 +4,16 @@ use Rattle.std.specs.Prelude.{◌≡◌, ◌≤◌, ◌<◌, ◌+◌, ℕ, true,
 use Rattle.grasp_types.specs.declared.reply.Reply.{Reply}
 use Rattle.grasp_types.specs.declared.traffic.Input.{Input}
 use Rattle.grasp_types.specs.declared.traffic.Input.TheVariants as input
-use Rattle.grasp_types.specs.declared.traffic.Output.{Output}
 use Rattle.grasp_core.specs.Node.{NodeState}
 use Rattle.grasp_core.specs.declared.node_core.NodeCore.{NodeCore}
-use Rattle.grasp_daemon.specs.History.{Entry, History, IsLegalHistory, Reaches, own_calls}
+use Rattle.grasp_shared.specs.Adding.{Adds}
+use Rattle.grasp_shared.specs.History.{Entry, History, IsLegalHistory, Reaches, own_calls}
 use Rattle.grasp_daemon.specs.Seats.{SeatStands, SeatsStand}
 use Rattle.grasp_daemon.specs.Tells.{LinksTold, Told, AsksOnce, HandsOnly, TellsTurn, TellsTurns, TellsRun}
 use Rattle.grasp_daemon.specs.Turns.{Asking, got, Turn, turn_calls, all_turn_calls, loop_calls, loop_call, asking_calls, closed_again, outputs_in, closings, last_reading}
 use Rattle.grasp_daemon.specs.Workers.{next_input, after_turn}
 use Rattle.grasp_daemon.specs.declared.seat.Seat.{Seat}
 use Rattle.grasp_daemon.specs.declared.worker.Worker.{Worker}
-
--- whatever history led to the core before, that history and then these calls lead to it afterwards
-abbrev pub Adds : NodeCore → History → NodeCore → Type 0
-Adds old calls new = (from : NodeState) (history : History) → Reaches from history old → Reaches from (history ++ calls) new
 
 -- ---- the links
 

@@ -6,7 +6,7 @@ use Rattle.grasp_types.specs.declared.traffic.Input.{Input}
 use Rattle.grasp_types.specs.declared.traffic.Input.TheVariants as input
 use Rattle.grasp_types.specs.declared.traffic.Output.{Output}
 use Rattle.grasp_types.specs.declared.traffic.Output.TheVariants as output
-use Rattle.grasp_daemon.specs.History.{Entry, History}
+use Rattle.grasp_shared.specs.History.{Entry, History}
 
 -- what asking the links came to: an input, with the node's reply to it, nothing, or want of memory
 pub data Asking : Type 0 where

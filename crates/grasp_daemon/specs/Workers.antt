@@ -1,12 +1,11 @@
 -- The agents of a node: the call that each makes next, and what its reply makes of it.
-use Rattle.std.specs.Prelude.{◌≡◌, ℕ, List, [], ◌∷◌}
+use Rattle.std.specs.Prelude.{◌≡◌, [], ◌∷◌}
 use Rattle.grasp_agent.specs.Announcing.{beacon_call, after_beacon, reader_call, after_keep}
 use Rattle.grasp_agent.specs.Calls.{next_call}
-use Rattle.grasp_types.specs.declared.call.Call.{Call}
 use Rattle.grasp_types.specs.declared.reply.Reply.{Reply}
 use Rattle.grasp_types.specs.declared.traffic.Input.{Input}
 use Rattle.grasp_types.specs.declared.traffic.Input.TheVariants as input
-use Rattle.grasp_daemon.specs.History.{History}
+use Rattle.grasp_shared.specs.History.{History}
 use Rattle.grasp_daemon.specs.Manager.{ready_manager, manager_after}
 use Rattle.grasp_daemon.specs.declared.worker.Worker.{Worker}
 use Rattle.grasp_daemon.specs.declared.worker.Worker.TheVariants.{Manager, Beacon, Reader}

@@ -2,7 +2,7 @@
 
 ghost use Rattle.std.specs.Prelude.{◌≡◌, ◌+◌, ℕ, List, []};
 ghost use Rattle.grasp_core.specs.Node.{NodeState};
-ghost use Rattle.grasp_daemon.specs.History.{Reaches};
+ghost use Rattle.grasp_shared.specs.History.{Reaches};
 ghost use Rattle.grasp_daemon.specs.Seats.{SeatsStand};
 ghost use Rattle.grasp_daemon.specs.Steps.{Running, RanSeats};
 ghost use Rattle.grasp_daemon.specs.Tells.{Told, links_told, told};

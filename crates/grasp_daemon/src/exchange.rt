@@ -1,14 +1,13 @@
 //! What a turn exchanges with the links.
 
 ghost use Rattle.std.specs.Prelude.{◌≡◌, [], if◌then◌else◌};
-ghost use Rattle.grasp_cbor.specs.Bytes.{AllBytes};
-ghost use Rattle.grasp_core.specs.Fed.{HasBytes};
 ghost use Rattle.grasp_daemon.specs.Steps.{TakesIn, GivesIn, DrainsOut, Exchanges};
 ghost use Rattle.grasp_daemon.specs.Tells.{HandsOnly, links_told, told};
 ghost use Rattle.grasp_daemon.specs.Turns.{opened_in, is_away, closings, outputs_in};
 
 use grasp_core::NodeCore;
 use grasp_io::{Asked, Clock, Links};
+use grasp_shared::note_bytes;
 use grasp_types::{Input, Output, Reply};
 
 /// A turn drains at most so many outputs.
@@ -56,24 +55,6 @@ fn away_of(stream: Option<u64>, reply: &Reply) -> Option<u64>
     ensures { closings result ≡ (if is_away reply.now then closings stream else []) }
 {
     if is_away(reply) { stream } else { None }
-}
-
-/// The bytes of an input are bytes.
-fn note_bytes(input: &Input)
-    ensures { HasBytes input.now }
-{
-    match input {
-        Input::Datagram { bytes, .. } => note_slice(bytes.bytes()),
-        Input::Bytes { bytes, .. } => note_slice(bytes.bytes()),
-        Input::Api { .. } | Input::Opened { .. } | Input::Closed { .. } | Input::Drain { .. } => (),
-    }
-}
-
-/// Bytes are bytes.
-fn note_slice(bytes: &[u8])
-    ensures { AllBytes bytes.now }
-{
-    let _count = bytes.len();
 }
 
 /// The stream that a peer opened.

@@ -4,7 +4,7 @@ ghost use Rattle.std.specs.Prelude.{◌≡◌, ◌<◌, ◌++◌, [], ◌∷◌,
 ghost use Rattle.grasp_core.specs.Node.{first_node};
 ghost use Rattle.grasp_core.specs.Plan.{is_bad_plan};
 ghost use Rattle.grasp_daemon.specs.Crew.{crew_with, beacons_from, readers_from};
-ghost use Rattle.grasp_daemon.specs.History.{Reaches};
+ghost use Rattle.grasp_shared.specs.History.{Reaches};
 ghost use Rattle.grasp_daemon.specs.Seats.{first_seat, SeatsStand};
 
 use crate::daemon::Daemon;

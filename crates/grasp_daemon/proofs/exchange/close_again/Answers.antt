@@ -1,4 +1,4 @@
-use Rattle.std.proofs.Common.{◌≡◌, subst, sym, ap, ◌∷◌, []}
+use Rattle.std.proofs.Common.{subst, sym}
 use Rattle.grasp_types.specs.declared.traffic.Output.TheVariants as output
 use Rattle.grasp_daemon.specs.Tells.{LinksTold, HandsOnly, links_told}
 use Rattle.grasp_daemon.specs.Turns.{closings}

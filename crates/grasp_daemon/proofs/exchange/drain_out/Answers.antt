@@ -1,5 +1,5 @@
 use Rattle.grasp_types.specs.declared.traffic.Input.TheVariants as input
-use Rattle.grasp_daemon.proofs.Reaching.{step_adds}
+use Rattle.grasp_shared.proofs.Adding.{step_adds}
 use Rattle.grasp_daemon.proofs.exchange.drain_out.Goals as goal
 
 pub returns : goal.returns

@@ -1,6 +1,6 @@
-use Rattle.std.proofs.Common.{ap, ◌∙◌, cond, [], List}
+use Rattle.std.proofs.Common.{ap, ◌∙◌, cond, []}
 use Rattle.grasp_daemon.specs.Turns.{closings, is_away}
-use Rattle.grasp_daemon.proofs.Reaching.{step_adds}
+use Rattle.grasp_shared.proofs.Adding.{step_adds}
 use Rattle.grasp_daemon.proofs.exchange.give_in.Goals as goal
 
 pub returns : goal.returns

@@ -1,4 +1,4 @@
-use Rattle.std.proofs.Common.{◌≡◌, ◌+◌, take, arith, subst, sym, ◌∙◌, ap, ◌++◌, ◌∷◌, [], List}
+use Rattle.std.proofs.Common.{◌≡◌, ◌+◌, take, subst, sym, ◌∙◌, ap, ◌++◌, ◌∷◌, []}
 use Rattle.std.proofs.lemmas.List.{take_more}
 use Rattle.grasp_daemon.specs.Tells.{LinksTold, HandsOnly, links_told}
 use Rattle.grasp_daemon.proofs.Told.{hands_on, one_sent}

@@ -1,6 +1,6 @@
 use Rattle.std.proofs.Common.{refl}
 use Rattle.grasp_daemon.specs.Turns.{got, nothing, no_memory}
-use Rattle.grasp_daemon.proofs.Reaching.{adds_nothing}
+use Rattle.grasp_shared.proofs.Adding.{adds_nothing}
 use Rattle.grasp_daemon.proofs.exchange.take_in.Goals as goal
 
 pub returns-in-Got : goal.returns-in-Got

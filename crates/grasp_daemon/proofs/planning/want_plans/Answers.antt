@@ -1,7 +1,5 @@
-use Rattle.std.proofs.Common.{refl, length, subst}
-use Rattle.std.proofs.lemmas.List.{take_all}
+use Rattle.std.proofs.Common.{refl, length}
 use Rattle.std.proofs.lemmas.Option.{slice_get_read}
-use Rattle.grasp_daemon.specs.Plans.{AreWantsOf}
 use Rattle.grasp_daemon.proofs.Configured.{want_planned}
 use Rattle.grasp_daemon.proofs.planning.want_plans.Goals as goal
 

@@ -1,4 +1,3 @@
-use Rattle.std.proofs.Common.{◌≡◌}
 use Rattle.grasp_io.specs.Faults.{Rose}
 use Rattle.grasp_daemon.proofs.Outcomes.{Ends, ends_well, ends_badly, ends_large}
 use Rattle.grasp_daemon.proofs.program.node_main.Goals as goal

@@ -1,7 +1,7 @@
 use Rattle.std.proofs.Common.{◌≡◌, arith, subst}
 use Rattle.grasp_daemon.specs.Steps.{Running}
 use Rattle.grasp_daemon.specs.Tells.{LinksTold, links_told, told}
-use Rattle.grasp_daemon.proofs.Turning.{began, ended}
+use Rattle.grasp_daemon.proofs.Turning.{ended}
 use Rattle.grasp_daemon.proofs.daemon.Daemon.run.Goals as goal
 
 pub loop-turn-preserved : goal.loop-turn-preserved

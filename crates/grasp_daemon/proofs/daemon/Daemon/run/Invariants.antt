@@ -1,6 +1,6 @@
 use Rattle.std.proofs.Common.{[], List}
 use Rattle.grasp_core.specs.Node.{NodeState}
-use Rattle.grasp_daemon.specs.History.{Reaches}
+use Rattle.grasp_shared.specs.History.{Reaches}
 use Rattle.grasp_daemon.specs.Seats.{SeatsStand}
 use Rattle.grasp_daemon.specs.Steps.{Running}
 use Rattle.grasp_daemon.specs.Tells.{told, links_told}

@@ -1,10 +1,12 @@
-use Rattle.std.proofs.Common.{◌≡◌, ◌∙◌, ap, subst, sym, Some, ◌∷◌, []}
+use Rattle.std.proofs.Common.{◌∙◌, ap, subst, sym, Some, ◌∷◌, []}
 use Rattle.grasp_types.specs.declared.traffic.Input.{Input}
 use Rattle.grasp_core.specs.Fed.{HasBytes}
 use Rattle.grasp_daemon.specs.declared.seat.Seat.{Seat}
-use Rattle.grasp_daemon.specs.Steps.{Adds, agent_call}
-use Rattle.grasp_daemon.specs.Workers.{next_input, answered}
-use Rattle.grasp_daemon.proofs.Reaching.{step_adds, call_has_bytes}
+use Rattle.grasp_shared.specs.Adding.{Adds}
+use Rattle.grasp_daemon.specs.Steps.{agent_call}
+use Rattle.grasp_daemon.specs.Workers.{answered}
+use Rattle.grasp_shared.proofs.Adding.{step_adds}
+use Rattle.grasp_daemon.proofs.Calling.{call_has_bytes}
 use Rattle.grasp_daemon.proofs.seat.Seat.turn.Goals as goal
 
 pub returns-in-Ok : goal.returns-in-Ok

@@ -1,0 +1,6 @@
+//! Passes of one node, on one thread, with ample memory. The crate tested has no tests of its own, so that it
+//! is proved once.
+#![tactic(auto)]
+
+#[cfg(test)]
+mod passes;
