@@ -3,7 +3,8 @@
 #![tactic(auto)]
 
 use grasp_daemon::{Status, finish, node_main, print_text, text_for};
-use grasp_io::{FileSource, MioLinks, StdClock, StdSink, random_seed};
+use grasp_io::{FileSource, Links, MioLinks, StdClock, StdSink, random_seed};
+use grasp_trace::Traced;
 use std::env;
 use std::io::ErrorKind;
 use std::process::ExitCode;
@@ -26,26 +27,38 @@ fn answer(rt: &HostRuntime, words: &[String]) -> Status {
     }
 }
 
-/// Runs a node with a seed of the machine's.
+/// Runs a node with a seed of the machine's. Where the environment has GRASP_TRACE, what its links give and take is written to
+/// standard error.
 fn run(rt: &HostRuntime, words: &[String]) -> Status {
     let Some(seed) = random_seed(rt) else {
         return Status::ReadFault;
     };
+    let mut links = MioLinks::new(rt, rt.alloc());
+    if env::var(rt, "GRASP_TRACE").is_err() {
+        let status = run_over(rt, words, seed, &mut links);
+        links.settle();
+        return status;
+    }
+    let mut traced = Traced::new(rt.alloc(), links, StdSink::new(rt.stderr()));
+    let status = run_over(rt, words, seed, &mut traced);
+    traced.into_links().settle();
+    status
+}
+
+/// Runs a node over these links.
+fn run_over<L: Links>(rt: &HostRuntime, words: &[String], seed: [u8; 32], links: &mut L) -> Status {
     let mut source = FileSource::open(rt, file(words));
     let mut sink = StdSink::new(rt.stdout());
-    let mut links = MioLinks::new(rt, rt.alloc());
     let mut clock = StdClock::new(rt);
-    let status = node_main(
+    node_main(
         rt.alloc(),
         words,
         &mut source,
         &mut sink,
-        &mut links,
+        links,
         &mut clock,
         seed,
-    );
-    links.settle();
-    status
+    )
 }
 
 /// The path of the configuration, or none.
