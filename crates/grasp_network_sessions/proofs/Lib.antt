@@ -1,0 +1,10 @@
+pub mod Lasting
+pub mod LastingSteps
+pub mod Differing
+pub mod StepsDiffer
+pub mod NetworksDiffer
+pub mod FirstMoves
+pub mod EndsSeen
+pub mod TalksSeen
+pub mod NetworksSeen
+pub mod Finding

@@ -1,0 +1,33 @@
+-- The sessions of the nodes of a network and their streams: each session that was made is that of one side of one stream (RFC 8990, section 2.5.5).
+use Rattle.std.specs.Prelude.{◌≡◌, ℕ, Some, slice_get}
+use Rattle.grasp_session.specs.Messages.{Side}
+use Rattle.grasp_session.specs.Runs.{WasMade}
+use Rattle.grasp_session.specs.Sessions.{SessionState, Sessions}
+use Rattle.grasp_types.specs.declared.session.Kind.TheVariants.{Negotiation}
+use Rattle.grasp_network.specs.Runs.{IsReached}
+use Rattle.grasp_network.specs.Setting.{Setting}
+use Rattle.grasp_network.specs.Talks.{TalkState, end_at}
+use Rattle.grasp_network.specs.Views.{session_of_end}
+use Rattle.grasp_network.specs.World.{Seat, WorldState, seat_at, end_of}
+use Rattle.grasp_network_talks.specs.Negotiations.{IsNegotiation}
+
+-- no two sessions that were made had one stream; sessions have different numbers
+abbrev pub StreamsDiffer : Sessions → Type 0
+StreamsDiffer z = (x y : SessionState) → WasMade z x → WasMade z y → x.stream ≡ y.stream → x.number ≡ y.number
+
+-- the session is that of this side of a stream of the network; where it is a negotiation, the stream is one
+pub record HasItsStream (w : WorldState) (node : ℕ) (seat : Seat) (x : SessionState) : Type 0 where
+  pub place : ℕ
+  pub talk : TalkState
+  pub side : Side
+  pub stands : slice_get w.talks place ≡ Some talk
+  pub ends : end_at talk side ≡ Some (end_of node seat x.stream)
+  pub found : session_of_end w (end_at talk side) ≡ Some x
+  pub role : x.view.role ≡ side
+  pub request : x.view.kind ≡ Negotiation → IsNegotiation talk
+
+-- so it is in every network that events lead to, of each session that a node has made
+pub record SessionsHaveStreams : Type 0 where
+  pub differ : (s : Setting) (w : WorldState) → IsReached s w → (node : ℕ) (seat : Seat) → seat_at w node ≡ Some seat → StreamsDiffer seat.core.sessions
+  pub each : (s : Setting) (w : WorldState) → IsReached s w → (node : ℕ) (seat : Seat) → seat_at w node ≡ Some seat
+      → (x : SessionState) → WasMade seat.core.sessions x → HasItsStream w node seat x
