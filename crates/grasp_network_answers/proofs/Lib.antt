@@ -1,0 +1,15 @@
+pub mod Longer
+pub mod Caching
+pub mod Keeping
+pub mod Calling
+pub mod Asking
+pub mod Hearing
+pub mod Discovering
+pub mod Stepping
+pub mod Real
+pub mod Noting
+pub mod Telling
+pub mod Networks
+pub mod Sourcing
+pub mod Answering
+pub mod Finding

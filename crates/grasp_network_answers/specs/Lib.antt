@@ -1,0 +1,3 @@
+pub mod Locators
+pub mod Sources
+pub mod Laws
