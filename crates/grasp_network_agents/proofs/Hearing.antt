@@ -1,4 +1,4 @@
--- What comes from peers leaves the sessions of agent 1 as they are, and whose each session is.
+-- While messages come from peers the sessions of agent 1 go on, and each session is whose it may be.
 use Rattle.std.proofs.Common.{◌≡◌, refl, sym, subst, arith, ℕ, ◌+◌, zero, suc, Bool, true, false, cond, not, ◌&&◌, nat_le, List, [], ◌∷◌, length, Option, None, Some, Result, Ok, Err}
 use Rattle.grasp_asa.specs.Answers.{value_offered}
 use Rattle.grasp_cbor.specs.DataItem.{DataItem}
@@ -84,7 +84,7 @@ listens : (n : NodeState) (stream session : ℕ) (o : Objective) (r : Result Han
 unfolding with_sessions
 listens n stream session o (Ok h) e =
     starts n.sessions n.reading (untaken stream session o) h e (λ f. absurd (omega (arith, f)))
-    (record { own = λ f. absurd (omega (arith, f)); foreign = λ f g. absurd (f refl); untaken = λ f. refl })
+    (record { owned = record { own = λ f. absurd (omega (arith, f)); foreign = λ f g. absurd (f refl); untaken = λ f. refl }; unsaid = λ f. (refl, refl) })
 listens n stream session o (Err refused) e = answers n stream (End session (declined_for busy))
 
 requests : (n : NodeState) (stream session : ℕ) (o : Objective) → SameAt n (hear_request n stream session o).node

@@ -2,6 +2,7 @@ pub mod EachSeat
 pub mod Registering
 pub mod SameRegistered
 pub mod Serving
+pub mod GoingOn
 pub mod Owned
 pub mod Hearing
 pub mod Tested

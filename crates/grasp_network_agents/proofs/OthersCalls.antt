@@ -1,5 +1,5 @@
--- The calls of other agents leave the sessions of agent 1 as they are, and whose each session is.
-use Rattle.std.proofs.Common.{◌≡◌, ◌≢◌, refl, sym, ap, ◌∙◌, subst, arith, ℕ, zero, suc, ◌<◌, ◌==◌, ◌&&◌, nat_lt, Bool, true, false, cond, List, [], ◌∷◌, ◌++◌, Option, None, Some, Result, Ok, Err, bytes_eq, slice_index_or}
+-- While other agents call the sessions of agent 1 go on, and each session is whose it may be.
+use Rattle.std.proofs.Common.{◌≡◌, ◌≢◌, refl, sym, ◌∙◌, subst, arith, ℕ, zero, suc, ◌<◌, ◌==◌, ◌&&◌, nat_lt, Bool, true, false, cond, List, [], ◌∷◌, ◌++◌, Option, None, Some, Result, Ok, Err, bytes_eq}
 use Rattle.std.proofs.lemmas.Bool.{eqb-true, and_parts}
 use Rattle.std.proofs.lemmas.Slice.Eq.{bytes_eq-Decides}
 use Rattle.grasp_agent.specs.Calls.{objective_name}
@@ -12,12 +12,15 @@ use Rattle.grasp_core.specs.RegistryCalls.{declines_for, without_agent, without_
 use Rattle.grasp_core.specs.SessionCalls.{after_polling, with_adopted, begun_by, requested, negotiated, synchronized}
 use Rattle.grasp_core.specs.Sound.{IsNode}
 use Rattle.grasp_core.specs.Step.{MayCall, after_call, Calls}
-use Rattle.grasp_core.specs.Tests.{poll_tests, request_tests, synchronize_tests, negotiation_tests}
+use Rattle.grasp_core.specs.Refusals.{early}
+use Rattle.grasp_core.specs.Tests.{act_tests, poll_tests, request_tests, synchronize_tests, negotiation_tests}
 use Rattle.grasp_discovery.specs.declared.answers.Find.{Find}
 use Rattle.grasp_discovery.specs.declared.answers.Find.TheVariants as find
 use Rattle.grasp_session.proofs.Streams.{is_least}
-use Rattle.grasp_session.specs.Sessions.{Sessions, session_at, begun_state, start_reply, after_start, stream_reply, after_remove, untaken_reply, untaken_above_reply, owner_reply}
-use Rattle.grasp_session.specs.Transcript.{SayStep, SayWait, SayEnd, SayInvalid, request_of}
+use Rattle.grasp_session.specs.Sessions.{Sessions, session_at, after_say, begun_state, start_reply, after_start, stream_reply, after_remove, untaken_reply, untaken_above_reply, owner_reply}
+use Rattle.grasp_session.specs.Transcript.{Saying, SayStep, SayWait, SayEnd, SayInvalid, request_of}
+use Rattle.grasp_session.specs.declared.answer.Act.{Act}
+use Rattle.grasp_session.specs.declared.answer.Act.TheVariants as act
 use Rattle.grasp_session.specs.declared.answer.SessionRefused.{SessionRefused}
 use Rattle.grasp_types.specs.declared.address.Locator.{Locator}
 use Rattle.grasp_types.specs.declared.call.Call.{Call}
@@ -31,11 +34,10 @@ use Rattle.grasp_types.specs.declared.session.Handle.{Handle}
 use Rattle.grasp_types.specs.declared.session.Kind.{Kind}
 use Rattle.grasp_types.specs.declared.session.Kind.TheVariants.{Negotiation, Synchronization}
 use Rattle.grasp_types.specs.declared.session.Progress.TheVariants as progress
-use Rattle.grasp_network_agents.specs.Owning.{IsOwned}
 use Rattle.grasp_network_agents.proofs.Hearing.{SameAt}
-use Rattle.grasp_network_agents.proofs.Owned.{Same, self, and_then, IsOthersAt, others_at, leaves, says, starts, adopts}
+use Rattle.grasp_network_agents.proofs.Owned.{IsClear, Same, self, and_then, IsOthersAt, others_at, stays_others, leaves, says, starts, adopts}
 use Rattle.grasp_network_agents.proofs.Registering.{Has}
-use Rattle.grasp_network_agents.proofs.Tested.{none_of, number_above, other_name, owns}
+use Rattle.grasp_network_agents.proofs.Tested.{none_of, number_above, other_name, Owns, owns, acts_in, owner_is}
 use Rattle.grasp_session.proofs.Tables.{state_slot}
 
 -- ---- declines
@@ -70,14 +72,14 @@ others_for z (name ∷ names) = others_both z (declines_of z name) (declines_for
 
 stay_others : (y z : Sessions) (ds : List Declining) → Same y z → AreOthers y ds → AreOthers z ds
 stay_others y z [] s a = tt
-stay_others y z (d ∷ ds) s a = (ap (λ l. slice_index_or l d.handle.place None) s.sketches_same ∙ a.0, stay_others y z ds s a.1)
+stay_others y z (d ∷ ds) s a = (stays_others y z d.handle.place s a.0, stay_others y z ds s a.1)
 
 one_declines : (n : NodeState) (d : Declining) → IsOthersAt n.sessions d.handle.place → SameAt n (after_decline n d)
 unfolding begin_closing with_sessions queue_up
 one_declines n d e = by_test (may_decline n d.handle) where
   by_test : (b : Bool) → SameAt n (cond b (declined n d) (removed n d.handle))
-  by_test true = says n.sessions n.reading d.handle (SayEnd (declined_for unlistened))
-  by_test false = leaves n.sessions d.handle (session_at n.sessions d.handle) e
+  by_test true = says n.sessions n.reading d.handle (SayEnd (declined_for unlistened)) (λ x f. e x (state_slot n.sessions d.handle x f)) (λ x f g. tt)
+  by_test false = leaves n.sessions d.handle (session_at n.sessions d.handle) refl e
 
 pub declines_same : (n : NodeState) (ds : List Declining) → AreOthers n.sessions ds → SameAt n (after_declines n ds)
 unfolding after_declines
@@ -100,7 +102,7 @@ one_without n asa None other e = self n.sessions
 one_without n asa (Some h) other e =
     let l = is_least n.sessions (λ x. x.owner == asa) h e in
     closes_same n (with_sessions n (after_remove n.sessions h)) (stream_reply n.sessions h)
-    (leaves n.sessions h (session_at n.sessions h) (others_at n.sessions h.place l.state l.place (λ f. other (sym (eqb-true l.state.owner asa l.passes) ∙ f))))
+    (leaves n.sessions h (session_at n.sessions h) refl (others_at n.sessions h.place l.state l.place (λ f. other (sym (eqb-true l.state.owner asa l.passes) ∙ f))))
 
 all_without : (count : ℕ) (n : NodeState) (asa : ℕ) → asa ≢ 1 → SameAt n (without_sessions count n asa)
 unfolding without_sessions
@@ -119,12 +121,11 @@ looks_same n asa name kind loops timeout find.NotYet = self n.sessions
 looks_same n asa name kind loops timeout find.Nothing = self n.sessions
 
 module _ (n : NodeState) (asa : ℕ) (is : IsNode n) (other : asa ≢ 1) (h : Has objective_name n.registrations) where
-  begun_owned : (kind : Kind) (timeout number : ℕ) (o : Objective) → 0 < asa → (request_of (begun_state n.reading number (begun_by n asa kind timeout o)).view).name ≢ objective_name
-      → IsOwned (begun_state n.reading number (begun_by n asa kind timeout o))
-  begun_owned kind timeout number o above named = record {
-    own = λ e. absurd (other e);
-    foreign = λ e f. named;
-    untaken = λ e. absurd (omega (arith, e, above));
+  begun_clear : (kind : Kind) (timeout number : ℕ) (o : Objective) → 0 < asa → (request_of (begun_state n.reading number (begun_by n asa kind timeout o)).view).name ≢ objective_name
+      → IsClear (begun_state n.reading number (begun_by n asa kind timeout o))
+  begun_clear kind timeout number o above named = record {
+    owned = record { own = λ e. absurd (other e); foreign = λ e f. named; untaken = λ e. absurd (omega (arith, e, above)) };
+    unsaid = λ e. absurd (omega (arith, e, above));
   }
 
   requests_same : (kind : Kind) (timeout : ℕ) (o : Objective) (peer : Locator) → 0 < asa
@@ -132,7 +133,7 @@ module _ (n : NodeState) (asa : ℕ) (is : IsNode n) (other : asa ≢ 1) (h : Ha
   unfolding with_sessions with_draw dial_record queue_up
   requests_same kind timeout o peer above named = by_start (start_reply n.sessions) refl where
     by_start : (r : Result Handle SessionRefused) → start_reply n.sessions ≡ r → Same n.sessions (after_start n.sessions n.reading (begun_by n asa kind timeout o) r)
-    by_start (Ok x) e = starts n.sessions n.reading (begun_by n asa kind timeout o) x e other (begun_owned kind timeout x.number o above (named x.number))
+    by_start (Ok x) e = starts n.sessions n.reading (begun_by n asa kind timeout o) x e other (begun_clear kind timeout x.number o above (named x.number))
     by_start (Err refused) e = self n.sessions
 
   adopts_same : (name : List ℕ) → 0 < asa → name ≢ objective_name → (o : Option Handle) → untaken_reply n.sessions name ≡ o → SameAt n (with_adopted (with_mark n asa name true) asa o)
@@ -143,11 +144,20 @@ module _ (n : NodeState) (asa : ℕ) (is : IsNode n) (other : asa ≢ 1) (h : Ha
       let q = and_parts (l.state.owner == 0) (bytes_eq (request_of l.state.view).name name) l.passes in
       let same : (request_of l.state.view).name ≡ name = (bytes_eq-Decides (request_of l.state.view).name name).0 q.1 in
       adopts n.sessions asa x l.state l.at (not_one l.state.owner (eqb-true l.state.owner 0 q.0)) other
-      (λ o. record { own = λ f. absurd (other f); foreign = λ f g i. named (sym same ∙ i); untaken = λ f. absurd (omega (arith, f, above)) })
+      (λ c. record {
+        owned = record { own = λ f. absurd (other f); foreign = λ f g i. named (sym same ∙ i); untaken = λ f. absurd (omega (arith, f, above)) };
+        unsaid = λ f. absurd (omega (arith, f, above));
+      })
+
+  says_same : (x : Handle) (s : Saying) → 0 < asa → Owns n.sessions asa x → Same n.sessions (after_say n.sessions n.reading x s)
+  says_same x s above o = says n.sessions n.reading x s (λ y e f. other (sym (owner_is n.sessions asa x o y e) ∙ f)) (λ y e f. let own : y.owner ≡ asa = owner_is n.sessions asa x o y e in absurd (omega (arith, own, f, above)))
+
+  acts_same : (x : Handle) (a : Act) (s : Saying) → early (act_tests n asa x a) ≡ Ok tt → Same n.sessions (after_say n.sessions n.reading x s)
+  acts_same x a s e = let t = none_of (act_tests n asa x a) e in says_same x s (number_above n asa is t.asa) (acts_in n.sessions asa x a t.session)
 
   polls_same : (x : Handle) (a : ApiAnswer) → IsOthersAt n.sessions x.place → SameAt n (after_polling n x (Ok a))
   unfolding with_sessions
-  polls_same x (answer.Polled (progress.Ended outcome)) e = leaves n.sessions x (session_at n.sessions x) e
+  polls_same x (answer.Polled (progress.Ended outcome)) e = leaves n.sessions x (session_at n.sessions x) refl e
   polls_same x (answer.Polled (progress.Turn o)) e = self n.sessions
   polls_same x (answer.Polled progress.NotYet) e = self n.sessions
   polls_same x a e = self n.sessions
@@ -169,10 +179,10 @@ module _ (n : NodeState) (asa : ℕ) (is : IsNode n) (other : asa ≢ 1) (h : Ha
       let t = none_of (negotiation_tests n asa name) m.0 in
       adopts_same name (number_above n asa is t.asa) (other_name n asa name is h other t.yours) (untaken_reply n.sessions name) refl
   others_answered (call.StopListenNegotiate name) a m = declines_same (with_mark n asa name false) (declines_of n.sessions name) (above_others n.sessions name 64 0)
-  others_answered (call.NegotiateStep x value) a m = says n.sessions n.reading x (SayStep value)
-  others_answered (call.NegotiateWait x millis) a m = says n.sessions n.reading x (SayWait millis)
-  others_answered (call.EndNegotiate x verdict) a m = says n.sessions n.reading x (SayEnd verdict)
-  others_answered (call.SendInvalid x detail) a m = says n.sessions n.reading x (SayInvalid detail)
+  others_answered (call.NegotiateStep x value) a m = acts_same x act.Step (SayStep value) m.0
+  others_answered (call.NegotiateWait x millis) a m = acts_same x act.Wait (SayWait millis) m.0
+  others_answered (call.EndNegotiate x verdict) a m = acts_same x act.End (SayEnd verdict) m.0
+  others_answered (call.SendInvalid x detail) a m = acts_same x act.Invalid (SayInvalid detail) m.0
   others_answered (call.Poll x) a m =
       let p = owns n.sessions asa x (none_of (poll_tests n asa x) m.0).session in
       polls_same x a (others_at n.sessions x.place p.session (state_slot n.sessions x p.session p.at) (λ e. other (sym p.owner ∙ e)))

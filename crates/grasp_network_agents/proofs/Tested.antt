@@ -6,14 +6,16 @@ use Rattle.std.proofs.lemmas.List.Elements.{All-head, All-tail}
 use Rattle.grasp_agent.specs.Calls.{objective_name}
 use Rattle.grasp_asa.specs.Registrations.{is_numbered}
 use Rattle.grasp_asa.specs.declared.entry.Agent.{Agent}
-use Rattle.grasp_session.specs.Sessions.{SessionState, Sessions, session_at, session_owned, if_owner}
+use Rattle.grasp_network.proofs.Here.{some_same}
+use Rattle.grasp_session.specs.Sessions.{SessionState, Sessions, session_at, session_owned, if_owner, check_reply}
+use Rattle.grasp_session.specs.declared.answer.Act.{Act}
 use Rattle.grasp_types.specs.declared.refusal.ApiRefused.{ApiRefused}
 use Rattle.grasp_types.specs.declared.refusal.ApiRefused.TheVariants as api
 use Rattle.grasp_types.specs.declared.session.Handle.{Handle}
 use Rattle.grasp_core.specs.Node.{NodeState}
 use Rattle.grasp_core.specs.Refusals.{Test, first_that, early_tests, early}
 use Rattle.grasp_core.specs.Sound.{IsNode}
-use Rattle.grasp_core.specs.Tests.{no_asa, not_yours}
+use Rattle.grasp_core.specs.Tests.{no_asa, not_yours, checked}
 use Rattle.grasp_network_agents.proofs.Registering.{Has, no_other}
 
 abbrev NoneHold : List Test → Type 0
@@ -73,3 +75,13 @@ owns z asa h e = by_state (session_at z h) refl where
   by_state : (o : Option SessionState) → session_at z h ≡ o → Owns z asa h
   by_state None f = absurd (true≢false (sym (ap (λ o. is_none (if_owner (λ (x : SessionState). x.owner) asa o)) f) ∙ e))
   by_state (Some x) f = by_owner x f (x.owner == asa) refl (sym (ap (λ o. is_none (if_owner (λ (x : SessionState). x.owner) asa o)) f) ∙ e)
+
+-- the session in which an agent may act
+pub acts_in : (z : Sessions) (asa : ℕ) (h : Handle) (a : Act) → checked (check_reply z asa h a) api.NoSession ≡ false → Owns z asa h
+acts_in z asa h a e = by_owned (session_owned z asa h) refl where
+  by_owned : (o : Option SessionState) → session_owned z asa h ≡ o → Owns z asa h
+  by_owned None f = let none : checked (check_reply z asa h a) api.NoSession ≡ true = rw f refl in absurd (true≢false (sym none ∙ e))
+  by_owned (Some x) f = owns z asa h (ap is_none f)
+
+pub owner_is : (z : Sessions) (asa : ℕ) (h : Handle) → Owns z asa h → (x : SessionState) → session_at z h ≡ Some x → x.owner ≡ asa
+owner_is z asa h o x e = ap (λ (s : SessionState). s.owner) (some_same x o.session (sym e ∙ o.at)) ∙ o.owner

@@ -8,6 +8,8 @@ use Rattle.grasp_network.specs.Setting.{Setting}
 use Rattle.grasp_network.specs.World.{Seat, WorldState, seat_at}
 use Rattle.grasp_types.specs.declared.reply.Reply.{Reply}
 use Rattle.grasp_types.specs.declared.traffic.Input.{Input}
+use Rattle.grasp_core.specs.Begin.{begin}
+use Rattle.grasp_network_agents.specs.GoingOn.{OwnGoOn, GoneAreOwned}
 use Rattle.grasp_network_agents.specs.Owning.{OwnsItsSessions}
 use Rattle.grasp_network_agents.specs.Serving.{OfEachSeat, Serves}
 use Rattle.grasp_network_agents.specs.Staying.{IsOthers, OwnStay}
@@ -28,3 +30,13 @@ OwnSessionsStay = (s : Setting) (w : WorldState) → IsReached s w → (node : �
 -- what each agent has reserved is exactly what its giving entries offer, each once; an offer that isn't made yet is that of its entry
 abbrev pub AgentsAreKept : Type 0
 AgentsAreKept = (s : Setting) (w : WorldState) → IsReached s w → OfEachSeat (λ n a. IsKept a) w
+
+-- in these sessions it has said nothing then; and so it is of what every step begins with
+pub record OwnSessionsGoOn : Type 0 where
+  pub steps : (s : Setting) (w : WorldState) → IsReached s w → (node : ℕ) (seat : Seat) → seat_at w node ≡ Some seat
+      → (now : ℕ) (i : Input) (x : Coming) (r : Reply) (after : NodeState) → IsOthers i → NodeStep seat.core now i x r after → OwnGoOn seat.core.sessions after.sessions
+  pub begins : (n : NodeState) (now : ℕ) → OwnGoOn n.sessions (begin n now).sessions
+
+-- each session that is no longer live was whose it might be
+abbrev pub GoneSessionsAreOwned : Type 0
+GoneSessionsAreOwned = (s : Setting) (w : WorldState) → IsReached s w → OfEachSeat (λ n a. GoneAreOwned n.sessions) w

@@ -3,4 +3,7 @@
 
 mod laws;
 
-pub use laws::{agents_are_kept, agents_serve, own_sessions_stay, sessions_are_owned};
+pub use laws::{
+    agents_are_kept, agents_serve, gone_sessions_are_owned, own_sessions_go_on, own_sessions_stay,
+    sessions_are_owned,
+};
