@@ -12,7 +12,7 @@ use Rattle.grasp_session.specs.declared.answer.Received.{Received}
 use Rattle.grasp_session.specs.declared.answer.Received.TheVariants.{Kept, Ignored, Bad}
 use Rattle.grasp_types.specs.declared.message.Message.{Message}
 use Rattle.grasp_types.specs.declared.message.Message.TheVariants.{ReqNeg, Negotiate, Wait, End, Synch, Invalid}
-use Rattle.grasp_network_agents.specs.GoingOn.{IsHeard, AreHeard, Overhears}
+use Rattle.grasp_network_agents.specs.GoingOn.{IsHeard, AreHeard, OnlyHears}
 
 -- ---- what was heard, one thing after the other
 
@@ -24,20 +24,20 @@ deeds_both : (v : Transcript) (ds es : List Deed) → after_deeds v (ds ++ es) �
 deeds_both v [] es = refl
 deeds_both v (d ∷ ds) es = deeds_both (after_deed v d) ds es
 
-pub nothing_heard : (v : Transcript) → Overhears v v
+pub nothing_heard : (v : Transcript) → OnlyHears v v
 nothing_heard v = record { deeds = []; heard = tt; after = refl }
 
-pub hears_then : (u v w : Transcript) → Overhears u v → Overhears v w → Overhears u w
+pub hears_then : (u v w : Transcript) → OnlyHears u v → OnlyHears v w → OnlyHears u w
 hears_then u v w a b = record {
   deeds = a.deeds ++ b.deeds;
   heard = heard_both a.deeds b.deeds a.heard b.heard;
   after = b.after ∙ (ap (λ x. after_deeds x b.deeds) a.after ∙ sym (deeds_both u a.deeds b.deeds));
 }
 
-pub kept_heard : (v : Transcript) (now : ℕ) (m : Message) → receive v m ≡ Kept → Overhears v (with_kept v now m)
+pub kept_heard : (v : Transcript) (now : ℕ) (m : Message) → receive v m ≡ Kept → OnlyHears v (with_kept v now m)
 kept_heard v now m e = record { deeds = Gets now m ∷ []; heard = (tt, tt); after = sym (gets_kept v now m e) }
 
-pub mark_heard : (v : Transcript) (mark : Mark) → is_going v ≡ true → Overhears v (with_mark v mark)
+pub mark_heard : (v : Transcript) (mark : Mark) → is_going v ≡ true → OnlyHears v (with_mark v mark)
 mark_heard v mark e = record { deeds = Suffers mark ∷ []; heard = (tt, tt); after = sym (suffers_mark v mark e) }
 
 -- ---- what is so of each of them is so of all
@@ -69,7 +69,7 @@ module _ (P : Transcript → Transcript → Type 0) (is : IsHearing P) where
   all_heard v [] h = is.same v
   all_heard v (d ∷ ds) h = is.both v (after_deed v d) (after_deeds (after_deed v d) ds) (one_heard v d h.0) (all_heard (after_deed v d) ds h.1)
 
-  pub hearing : (v w : Transcript) → Overhears v w → P v w
+  pub hearing : (v w : Transcript) → OnlyHears v w → P v w
   hearing v w o = subst (P v) (sym o.after) (all_heard v o.deeds o.heard)
 
 -- ---- the same request, kind and role
@@ -97,7 +97,7 @@ alike_hearing = record {
   marks = λ v mark e. record { role = refl; kind = refl; session = refl; request = refl };
 }
 
-pub heard_alike : (v w : Transcript) → Overhears v w → Alike v w
+pub heard_alike : (v w : Transcript) → OnlyHears v w → Alike v w
 heard_alike v w o = hearing Alike alike_hearing v w o
 
 -- ---- what is known before is an earlier part, and what came since is all of the peer
@@ -124,7 +124,7 @@ trailing_hearing = record {
   marks = λ v mark e. (refl, trails_same v.role (known v));
 }
 
-pub heard_trails : (v w : Transcript) → Overhears v w → Trails v.role (known v) (known w)
+pub heard_trails : (v w : Transcript) → OnlyHears v w → Trails v.role (known v) (known w)
 heard_trails v w o = (hearing IsTrailing trailing_hearing v w o).1
 
 -- this side's offers are the same in what trails
@@ -139,16 +139,16 @@ trails_spoken side v [] t = ap (spoken side) t
 trails_spoken side v (x ∷ c) (inl e) = ap (spoken side) e
 trails_spoken side v (x ∷ c) (inr t) = trails_spoken side v c t.1 ∙ sym (ap (λ b. cond b (x.message ∷ spoken side c) (spoken side c)) (is_side-other side x.side t.0))
 
-pub heard_offered : (v w : Transcript) → Overhears v w → has_offered v.role (known w) ≡ has_offered v.role (known v)
+pub heard_offered : (v w : Transcript) → OnlyHears v w → has_offered v.role (known w) ≡ has_offered v.role (known v)
 heard_offered v w o = sym (trails_offered v.role (known v) (known w) (heard_trails v w o))
 
-pub heard_spoken : (v w : Transcript) → Overhears v w → spoken v.role (known w) ≡ spoken v.role (known v)
+pub heard_spoken : (v w : Transcript) → OnlyHears v w → spoken v.role (known w) ≡ spoken v.role (known v)
 heard_spoken v w o = sym (trails_spoken v.role (known v) (known w) (heard_trails v w o))
 
-pub heard_offer : (v w : Transcript) → Overhears v w → my_offer w ≡ my_offer v
+pub heard_offer : (v w : Transcript) → OnlyHears v w → my_offer w ≡ my_offer v
 heard_offer v w o = ap (λ s. newest_offer_by s (known w)) (heard_alike v w o).role ∙ sym (trails_offer v.role (known v) (known w) (heard_trails v w o))
 
-pub heard_unanswered : (v w : Transcript) → Overhears v w → answered v.role (known w) ≡ false → answered v.role (known v) ≡ false
+pub heard_unanswered : (v w : Transcript) → OnlyHears v w → answered v.role (known w) ≡ false → answered v.role (known v) ≡ false
 heard_unanswered v w o e = trails_unanswered v.role (known v) (known w) (heard_trails v w o) e
 
 -- ---- a session with an outcome
@@ -164,10 +164,10 @@ over_hearing = record {
   marks = λ v mark e g. absurd (true≢false (sym e ∙ g));
 }
 
-pub heard_over : (v w : Transcript) → Overhears v w → is_going v ≡ false → w ≡ v
+pub heard_over : (v w : Transcript) → OnlyHears v w → is_going v ≡ false → w ≡ v
 heard_over v w o = hearing StaysOver over_hearing v w o
 
-pub heard_going : (v w : Transcript) → Overhears v w → is_going w ≡ true → is_going v ≡ true
+pub heard_going : (v w : Transcript) → OnlyHears v w → is_going w ≡ true → is_going v ≡ true
 heard_going v w o e = by_test (is_going v) refl where
   by_test : (b : Bool) → is_going v ≡ b → is_going v ≡ true
   by_test true f = f
@@ -223,7 +223,7 @@ quiet_hearing = record {
 }
 
 -- nothing that counts comes to it then
-pub heard_quiet : (v w : Transcript) → Overhears v w → IsQuiet v → known w ≡ known v
+pub heard_quiet : (v w : Transcript) → OnlyHears v w → IsQuiet v → known w ≡ known v
 heard_quiet v w o q = (hearing StaysQuiet quiet_hearing v w o q).0
 
 -- the newest message that counts is an end: the session has an outcome
@@ -242,19 +242,19 @@ over_by role (x ∷ es) e = by_message x.message e where
 pub end_over : (v : Transcript) → ended (known v) ≡ true → is_going v ≡ false
 end_over v e = and_right (is_none v.mark) (not (is_over v.entries)) (ap not (over_by v.role v.entries e))
 
-pub heard_ended : (v w : Transcript) → Overhears v w → ended (known v) ≡ true → w ≡ v
+pub heard_ended : (v w : Transcript) → OnlyHears v w → ended (known v) ≡ true → w ≡ v
 heard_ended v w o e = heard_over v w o (end_over v e)
 
 -- where the turn was this end's, nothing that counts has come
-pub heard_turn : (v w : Transcript) → Overhears v w → turn (known v) ≡ v.role → known w ≡ known v
+pub heard_turn : (v w : Transcript) → OnlyHears v w → turn (known v) ≡ v.role → known w ≡ known v
 heard_turn v w o e = heard_quiet v w o (inr (ap (is_side v.role) e ∙ same_side v.role))
 
 -- where the turn was this end's, it is so still
-pub heard_mine : (v w : Transcript) → Overhears v w → is_mine v ≡ true → is_mine w ≡ true
+pub heard_mine : (v w : Transcript) → OnlyHears v w → is_mine v ≡ true → is_mine w ≡ true
 heard_mine v w o e = ap (λ s. is_side s (turn (known w))) (heard_alike v w o).role ∙ (ap (λ c. is_side v.role (turn c)) (heard_quiet v w o (inr e)) ∙ e)
 
 -- and where it is the peer's, it was so before
-pub heard_theirs : (v w : Transcript) → Overhears v w → is_mine w ≡ false → is_mine v ≡ false
+pub heard_theirs : (v w : Transcript) → OnlyHears v w → is_mine w ≡ false → is_mine v ≡ false
 heard_theirs v w o e = by_test (is_mine v) refl where
   by_test : (b : Bool) → is_mine v ≡ b → is_mine v ≡ false
   by_test true f = absurd (true≢false (sym (heard_mine v w o f) ∙ e))

@@ -19,7 +19,7 @@ use Rattle.grasp_session.specs.declared.begin.Begin.{Begin}
 use Rattle.grasp_types.specs.declared.message.Message.{Message}
 use Rattle.grasp_types.specs.declared.session.Handle.{Handle}
 use Rattle.grasp_network_agents.proofs.GoingOn.{Alike, nothing_heard, hears_then, kept_heard, mark_heard, kept_alike, kept_trails, trails_offered}
-use Rattle.grasp_network_agents.specs.GoingOn.{Overhears, IsOverheard, OwnGoOn, IsOwnedGone, GoneAreOwned}
+use Rattle.grasp_network_agents.specs.GoingOn.{OnlyHears, OnlyHeard, OwnGoOn, IsOwnedGone, GoneAreOwned}
 use Rattle.grasp_network_agents.specs.Owning.{IsOwned, AreOwned}
 
 -- ---- whose each session is
@@ -54,10 +54,10 @@ pub record Same (z w : Sessions) : Type 0 where
   pub goes_on : OwnGoOn z w
   pub clear : AreClear z → AreClear w
 
-overheard_self : (x : SessionState) → IsOverheard x x
+overheard_self : (x : SessionState) → OnlyHeard x x
 overheard_self x = record { number = refl; owner = refl; stream = refl; view = nothing_heard x.view }
 
-overheard_then : (x y z : SessionState) → IsOverheard x y → IsOverheard y z → IsOverheard x z
+overheard_then : (x y z : SessionState) → OnlyHeard x y → OnlyHeard y z → OnlyHeard x z
 overheard_then x y z a b = record {
   number = b.number ∙ a.number;
   owner = b.owner ∙ a.owner;
@@ -78,10 +78,10 @@ self z = record {
 
 go_then : (x y z : Sessions) → OwnGoOn x y → OwnGoOn y z → OwnGoOn x z
 go_then x y z a b = record { stay = stays; were = came; gone = λ s i. b.gone s (a.gone s i); left = λ s own i. a.left s own (b.left s own i) } where
-  stays : (place : ℕ) (s : SessionState) → IsAt x place s → s.owner ≡ 1 → (u : SessionState) × IsAt z place u × IsOverheard s u
+  stays : (place : ℕ) (s : SessionState) → IsAt x place s → s.owner ≡ 1 → (u : SessionState) × IsAt z place u × OnlyHeard s u
   stays place s at own = let t = a.stay place s at own in let u = b.stay place t.0 t.1 (t.2.owner ∙ own) in (u.0, u.1, overheard_then s t.0 u.0 t.2 u.2)
 
-  came : (place : ℕ) (u : SessionState) → IsAt z place u → u.owner ≡ 1 → (s : SessionState) × IsAt x place s × IsOverheard s u
+  came : (place : ℕ) (u : SessionState) → IsAt z place u → u.owner ≡ 1 → (s : SessionState) × IsAt x place s × OnlyHeard s u
   came place u at own = let t = b.were place u at own in let s = a.were place t.0 t.1 (sym t.2.owner ∙ own) in (s.0, s.1, overheard_then s.0 t.0 u s.2 t.2)
 
 pub and_then : (x y z : Sessions) → Same x y → Same y z → Same x z
@@ -91,8 +91,8 @@ and_then x y z a b = record { goes_on = go_then x y z a.goes_on b.goes_on; clear
 
 -- agent 1 has there what it had, and has said nothing in it
 record PlaceGoes (o v : Option SessionState) : Type 0 where
-  stay : (x : SessionState) → o ≡ Some x → x.owner ≡ 1 → (y : SessionState) × (v ≡ Some y) × IsOverheard x y
-  were : (y : SessionState) → v ≡ Some y → y.owner ≡ 1 → (x : SessionState) × (o ≡ Some x) × IsOverheard x y
+  stay : (x : SessionState) → o ≡ Some x → x.owner ≡ 1 → (y : SessionState) × (v ≡ Some y) × OnlyHeard x y
+  were : (y : SessionState) → v ≡ Some y → y.owner ≡ 1 → (x : SessionState) × (o ≡ Some x) × OnlyHeard x y
 
 -- agent 1 has nothing there
 abbrev NoneOwn : Option SessionState → Type 0
@@ -110,20 +110,20 @@ at_none o x e other = subst NoneOwn (sym e) (one_none x other)
 others_go : (o v : Option SessionState) → NoneOwn o → NoneOwn v → PlaceGoes o v
 others_go o v a b = record { stay = λ x e own. absurd (a x e own); were = λ y e own. absurd (b y e own) }
 
-view_goes : (x : SessionState) (w : Transcript) → (x.owner ≡ 1 → Overhears x.view w) → PlaceGoes (Some x) (Some (with_transcript x w))
+view_goes : (x : SessionState) (w : Transcript) → (x.owner ≡ 1 → OnlyHears x.view w) → PlaceGoes (Some x) (Some (with_transcript x w))
 view_goes x w h = record { stay = stays; were = came } where
-  same : x.owner ≡ 1 → IsOverheard x (with_transcript x w)
+  same : x.owner ≡ 1 → OnlyHeard x (with_transcript x w)
   same own = record { number = refl; owner = refl; stream = refl; view = h own }
 
-  stays : (y : SessionState) → Some x ≡ Some y → y.owner ≡ 1 → (u : SessionState) × (Some (with_transcript x w) ≡ Some u) × IsOverheard y u
+  stays : (y : SessionState) → Some x ≡ Some y → y.owner ≡ 1 → (u : SessionState) × (Some (with_transcript x w) ≡ Some u) × OnlyHeard y u
   stays y e own =
       let is : x ≡ y = some_state x y e in
-      (with_transcript x w, refl, subst (λ (s : SessionState). IsOverheard s (with_transcript x w)) is (same (ap (λ (s : SessionState). s.owner) is ∙ own)))
+      (with_transcript x w, refl, subst (λ (s : SessionState). OnlyHeard s (with_transcript x w)) is (same (ap (λ (s : SessionState). s.owner) is ∙ own)))
 
-  came : (u : SessionState) → Some (with_transcript x w) ≡ Some u → u.owner ≡ 1 → (y : SessionState) × (Some x ≡ Some y) × IsOverheard y u
+  came : (u : SessionState) → Some (with_transcript x w) ≡ Some u → u.owner ≡ 1 → (y : SessionState) × (Some x ≡ Some y) × OnlyHeard y u
   came u e own =
       let is : with_transcript x w ≡ u = some_state (with_transcript x w) u e in
-      (x, refl, subst (IsOverheard x) is (same (ap (λ (s : SessionState). s.owner) is ∙ own)))
+      (x, refl, subst (OnlyHeard x) is (same (ap (λ (s : SessionState). s.owner) is ∙ own)))
 
 -- what is no longer live is so still, and what joined it was not of agent 1
 record GoneGrow (a b : List SessionState) : Type 0 where
@@ -145,24 +145,24 @@ set z made p gone v = record { made = made; places = slice_set z.places p v; gon
 module _ (z : Sessions) (made p : ℕ) (gone : List SessionState) (v : Option SessionState) where
   set_goes : PlaceGoes (slice_index_or z.places p None) v → GoneGrow z.gone gone → OwnGoOn z (set z made p gone v)
   set_goes here grow = record { stay = stays; were = came; gone = grow.gone; left = grow.left } where
-    at_place : (q : ℕ) (x : SessionState) → q ≡ p → IsAt z q x → x.owner ≡ 1 → (y : SessionState) × IsAt (set z made p gone v) q y × IsOverheard x y
+    at_place : (q : ℕ) (x : SessionState) → q ≡ p → IsAt z q x → x.owner ≡ 1 → (y : SessionState) × IsAt (set z made p gone v) q y × OnlyHeard x y
     at_place q x e at own =
         let at_p : IsAt z p x = subst (λ k. IsAt z k x) e at in
         let y = here.stay x at_p own in
         (y.0, subst (λ k. IsAt (set z made p gone v) k y.0) (sym e) (get_or-set_same z.places p v None (at_below z.places p x at_p) ∙ y.1), y.2)
 
-    by_place : (q : ℕ) (x : SessionState) → IsAt z q x → x.owner ≡ 1 → (((q == p) ≡ true) × (q ≡ p)) ⊎ (((q == p) ≡ false) × (q ≢ p)) → (y : SessionState) × IsAt (set z made p gone v) q y × IsOverheard x y
+    by_place : (q : ℕ) (x : SessionState) → IsAt z q x → x.owner ≡ 1 → (((q == p) ≡ true) × (q ≡ p)) ⊎ (((q == p) ≡ false) × (q ≢ p)) → (y : SessionState) × IsAt (set z made p gone v) q y × OnlyHeard x y
     by_place q x at own (inl i) = at_place q x i.1 at own
     by_place q x at own (inr i) = (x, get_or-set_other z.places p q v None i.1 ∙ at, overheard_self x)
 
-    stays : (q : ℕ) (x : SessionState) → IsAt z q x → x.owner ≡ 1 → (y : SessionState) × IsAt (set z made p gone v) q y × IsOverheard x y
+    stays : (q : ℕ) (x : SessionState) → IsAt z q x → x.owner ≡ 1 → (y : SessionState) × IsAt (set z made p gone v) q y × OnlyHeard x y
     stays q x at own = by_place q x at own (eqb_tells q p)
 
-    by_set : (q : ℕ) (y : SessionState) → y.owner ≡ 1 → ((q ≡ p) × (v ≡ Some y)) ⊎ ((q ≢ p) × IsAt z q y) → (x : SessionState) × IsAt z q x × IsOverheard x y
+    by_set : (q : ℕ) (y : SessionState) → y.owner ≡ 1 → ((q ≡ p) × (v ≡ Some y)) ⊎ ((q ≢ p) × IsAt z q y) → (x : SessionState) × IsAt z q x × OnlyHeard x y
     by_set q y own (inl i) = let x = here.were y i.1 own in (x.0, subst (λ k. IsAt z k x.0) (sym i.0) x.1, x.2)
     by_set q y own (inr i) = (y, i.1, overheard_self y)
 
-    came : (q : ℕ) (y : SessionState) → IsAt (set z made p gone v) q y → y.owner ≡ 1 → (x : SessionState) × IsAt z q x × IsOverheard x y
+    came : (q : ℕ) (y : SessionState) → IsAt (set z made p gone v) q y → y.owner ≡ 1 → (x : SessionState) × IsAt z q x × OnlyHeard x y
     came q y at own = by_set q y own (set_some z.places p v q y at)
 
   pub set_clear : ((y : SessionState) → v ≡ Some y → IsClear y) → ((x : SessionState) → Contains gone x → IsOwnedGone x) → AreClear z → AreClear (set z made p gone v)
@@ -199,7 +199,7 @@ leaving_owner : (x : SessionState) → is_leaving x ≡ true → x.owner ≢ 1
 leaving_owner x e f = let g : x.owner ≡ 0 = eqb-true x.owner 0 (and_parts (x.owner == 0) (not (is_going x.view)) e).0 in omega (arith, f, g)
 
 module _ (z : Sessions) (h : Handle) (x : SessionState) (w : Transcript) (e : session_at z h ≡ Some x) where
-  pub changes_go : (x.owner ≡ 1 → Overhears x.view w) → OwnGoOn z (changed z h (with_transcript x w))
+  pub changes_go : (x.owner ≡ 1 → OnlyHears x.view w) → OwnGoOn z (changed z h (with_transcript x w))
   changes_go o = by_test (is_leaving (with_transcript x w)) refl where
     by_test : (b : Bool) → is_leaving (with_transcript x w) ≡ b → OwnGoOn z (cond b (left z h (with_transcript x w)) (with_place z h.place (Some (with_transcript x w))))
     by_test true l =
@@ -218,7 +218,7 @@ module _ (z : Sessions) (h : Handle) (x : SessionState) (w : Transcript) (e : se
     by_test true = set_clear z z.made h.place (with_transcript x w ∷ z.gone) None no_clear (one_gone (with_transcript x w) z.gone now_clear c.gone) c
     by_test false = set_clear z z.made h.place z.gone (Some (with_transcript x w)) (λ y f. one_clear (with_transcript x w) y now_clear f) c.gone c
 
-  changes : (x.owner ≡ 1 → Overhears x.view w) → Changes x w → Same z (changed z h (with_transcript x w))
+  changes : (x.owner ≡ 1 → OnlyHears x.view w) → Changes x w → Same z (changed z h (with_transcript x w))
   changes o a = record { goes_on = changes_go o; clear = changes_clear a }
 
 -- a mark

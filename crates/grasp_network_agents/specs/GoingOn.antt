@@ -18,27 +18,27 @@ AreHeard [] = Unit {0}
 AreHeard (d ∷ ds) = IsHeard d × AreHeard ds
 
 -- this end has said nothing since: messages came, or the session was ended from outside
-pub record Overhears (v w : Transcript) : Type 0 where
+pub record OnlyHears (v w : Transcript) : Type 0 where
   pub deeds : List Deed
   pub heard : AreHeard deeds
   pub after : w ≡ after_deeds v deeds
 
 -- it is the same session, in which this end has said nothing since
-pub record IsOverheard (x y : SessionState) : Type 0 where
+pub record OnlyHeard (x y : SessionState) : Type 0 where
   pub number : y.number ≡ x.number
   pub owner : y.owner ≡ x.owner
   pub stream : y.stream ≡ x.stream
-  pub view : Overhears x.view y.view
+  pub view : OnlyHears x.view y.view
 
--- agent 1 has the same live sessions, at their places, and has said nothing in them; and those that it has no longer are the same
+-- agent 1 has the same live sessions, at their places, and has said nothing in them; and the same are no longer live
 pub record OwnGoOn (z w : Sessions) : Type 0 where
-  pub stay : (place : ℕ) (x : SessionState) → IsAt z place x → x.owner ≡ 1 → (y : SessionState) × IsAt w place y × IsOverheard x y
-  pub were : (place : ℕ) (y : SessionState) → IsAt w place y → y.owner ≡ 1 → (x : SessionState) × IsAt z place x × IsOverheard x y
+  pub stay : (place : ℕ) (x : SessionState) → IsAt z place x → x.owner ≡ 1 → (y : SessionState) × IsAt w place y × OnlyHeard x y
+  pub were : (place : ℕ) (y : SessionState) → IsAt w place y → y.owner ≡ 1 → (x : SessionState) × IsAt z place x × OnlyHeard x y
   pub gone : (x : SessionState) → Contains z.gone x → Contains w.gone x
   pub left : (x : SessionState) → x.owner ≡ 1 → Contains w.gone x → Contains z.gone x
 
--- a session that is no longer live: where agent 1 didn't own it, its request names another objective than PrefixManager, or no agent
--- had taken it and this end, which listened, made no step in it
+-- a session that is no longer live: one of another agent names another objective than PrefixManager; in one that no agent had taken this
+-- end listened and made no step
 pub record IsOwnedGone (x : SessionState) : Type 0 where
   pub foreign : x.owner ≢ 0 → x.owner ≢ 1 → (request_of x.view).name ≢ objective_name
   pub untaken : x.owner ≡ 0 → (x.view.role ≡ Far) × (has_offered Far (known x.view) ≡ false)

@@ -31,7 +31,7 @@ OwnSessionsStay = (s : Setting) (w : WorldState) → IsReached s w → (node : �
 abbrev pub AgentsAreKept : Type 0
 AgentsAreKept = (s : Setting) (w : WorldState) → IsReached s w → OfEachSeat (λ n a. IsKept a) w
 
--- in these sessions it has said nothing then; and so it is of what every step begins with
+-- whatever comes but a call of agent 1, its sessions go on and it says nothing in them; so it is when a step begins
 pub record OwnSessionsGoOn : Type 0 where
   pub steps : (s : Setting) (w : WorldState) → IsReached s w → (node : ℕ) (seat : Seat) → seat_at w node ≡ Some seat
       → (now : ℕ) (i : Input) (x : Coming) (r : Reply) (after : NodeState) → IsOthers i → NodeStep seat.core now i x r after → OwnGoOn seat.core.sessions after.sessions

@@ -21,8 +21,8 @@ use Rattle.grasp_network_floods.specs.Sought.{IsOfSearch, DiscoveriesAreSought}
 
 -- ---- what was answered
 
--- the answer is one with this locator to a discovery that looks for this: the locator is that of the node that answered, the discovery was
--- of this name and this use, and the node had the name registered with F_DISC and the flag of this use
+-- a node with this locator gave this answer: the discovery was of this topic, and the node had the name registered with F_DISC and the
+-- flag of this use
 pub record IsAnswerWith (s : Setting) (topic : Topic) (locator : Locator) (a : DiscoveryAnswer) : Type 0 where
   pub member : Member
   pub answered_by : numbered s.members a.node ≡ Some member
@@ -81,12 +81,12 @@ LooksFor session initiator topic (Invalid number detail) = ⊥
 abbrev pub WasLookedFor : WorldState → ℕ → Address → Topic → Type 0
 WasLookedFor w session initiator topic = Any (λ d. LooksFor session initiator topic d.message) w.datagrams
 
--- the locators that are told were answered to discoveries that look for this; without a divert it is one
+-- a direct answer tells one locator, a divert any number; each was answered to a discovery that looks for this
 abbrev pub TellsAnswered : Setting → WorldState → Topic → Answer → Type 0
 TellsAnswered s w topic (Locators locators) = (locator : Locator) × (locators ≡ locator ∷ []) × WasAnswered s w topic locator
 TellsAnswered s w topic (Divert locators) = All (WasAnswered s w topic) locators
 
--- a response of this session number and this initiator tells what was answered to discoveries that look for what they look for
+-- a discovery of this session number and initiator was sent, and each locator told was answered to one that looks for the same
 pub record IsResponseReal (s : Setting) (w : WorldState) (session : ℕ) (initiator : Address) (told : Answer) : Type 0 where
   pub topic : Topic
   pub looked_for : WasLookedFor w session initiator topic

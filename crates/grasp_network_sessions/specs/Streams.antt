@@ -11,11 +11,11 @@ use Rattle.grasp_network.specs.Views.{session_of_end}
 use Rattle.grasp_network.specs.World.{Seat, WorldState, seat_at, end_of}
 use Rattle.grasp_network_talks.specs.Negotiations.{IsNegotiation}
 
--- no two sessions that were made had one stream; sessions have different numbers
+-- two sessions that were made on one stream have one number
 abbrev pub StreamsDiffer : Sessions → Type 0
 StreamsDiffer z = (x y : SessionState) → WasMade z x → WasMade z y → x.stream ≡ y.stream → x.number ≡ y.number
 
--- the session is that of this side of a stream of the network; where it is a negotiation, the stream is one
+-- the session is that of a side of a stream of the network; where it is a negotiation, so is the stream
 pub record HasItsStream (w : WorldState) (node : ℕ) (seat : Seat) (x : SessionState) : Type 0 where
   pub place : ℕ
   pub talk : TalkState

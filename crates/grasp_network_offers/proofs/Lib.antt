@@ -1,0 +1,15 @@
+pub mod Known
+pub mod Places
+pub mod Entries
+pub mod Going
+pub mod Begun
+pub mod Standing
+pub mod Replacing
+pub mod Deciding
+pub mod Turning
+pub mod Dropping
+pub mod Leaving
+pub mod Coming
+pub mod Making
+pub mod Calling
+pub mod Agents
