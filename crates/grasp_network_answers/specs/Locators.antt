@@ -117,7 +117,7 @@ pub record ResponsesAreReal (s : Setting) (w : WorldState) : Type 0 where
   pub sent : OfEachTalk (λ t. (side : Side) → All (IsMessageReal s w) (sent_by t side).sent) w.talks
   pub queued : (node : ℕ) (seat : Seat) → seat_at w node ≡ Some seat → All (IsQueuedReal s w) seat.core.queue
 
--- the one search of this session number and this initiator looks for this
+-- a search of this session number and initiator looks for this topic, and no other one of these for another
 pub record IsTheSearch (w : WorldState) (k : DiscoveriesAreSought w) (session : ℕ) (initiator : Address) (topic : Topic) : Type 0 where
   pub is_search : Any (IsOfSearch w session initiator topic) k.sought
   pub only : (other : Topic) → Any (IsOfSearch w session initiator other) k.sought → other ≡ topic
