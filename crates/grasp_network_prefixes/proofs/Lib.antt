@@ -1,0 +1,14 @@
+pub mod Speech
+pub mod Standing
+pub mod Places
+pub mod OwnSessions
+pub mod Listing
+pub mod EntryOffers
+pub mod QuietSteps
+pub mod QuietKeeps
+pub mod Givers
+pub mod AgentSteps
+pub mod AgentOffers
+pub mod AgentKeeps
+pub mod FirstPrefixes
+pub mod Safe

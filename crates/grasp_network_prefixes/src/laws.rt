@@ -1,0 +1,29 @@
+//! The prefixes in a network. They say nothing at run time.
+
+ghost use Rattle.grasp_network_prefixes.specs.Apart.{PrefixesStayApart};
+
+use grasp_core::ties_are_kept;
+use grasp_network_agents::{
+    agents_are_kept, gone_sessions_are_owned, own_sessions_go_on, sessions_are_owned,
+};
+use grasp_network_offers::{agents_give, agents_move};
+use grasp_network_sessions::sessions_have_streams;
+use grasp_network_streams::streams_are_ready;
+use grasp_network_talks::{negotiations_are_in_order, negotiations_are_known};
+
+/// Prefixes that are held by different nodes never overlap, and an offer whose outcome isn't known stays reserved or in doubt.
+pub fn prefixes_stay_apart()
+    ensures { PrefixesStayApart }
+{
+    ties_are_kept();
+    streams_are_ready();
+    agents_are_kept();
+    sessions_are_owned();
+    gone_sessions_are_owned();
+    own_sessions_go_on();
+    agents_give();
+    agents_move();
+    sessions_have_streams();
+    negotiations_are_known();
+    negotiations_are_in_order();
+}

@@ -1,0 +1,6 @@
+//! Laws of the prefixes in a network, which hold of every network that events lead to. No code runs here.
+#![tactic(auto)]
+
+mod laws;
+
+pub use laws::prefixes_stay_apart;
