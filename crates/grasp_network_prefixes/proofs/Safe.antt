@@ -98,7 +98,7 @@ module _ (l : Grounds) (s : Setting) where
 
   -- ---- each network
 
-  stand : (w : WorldState) → IsReached s w → PrefixesStand w
+  pub stand : (w : WorldState) → IsReached s w → PrefixesStand w
   stand w r = parts_keep s PrefixesStand (record {
     steps = λ x e c v p k o is step q. steps x e c v p k o is step q;
     wants = λ x e p k fit. quiet_keeps l s x (after_none s x e) p (wants_go_on l s x e fit) k;
