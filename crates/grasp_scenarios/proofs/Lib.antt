@@ -1,1 +1,3 @@
+pub mod MoreLines
+pub mod OneRun
 pub mod RunLaws

@@ -12,6 +12,7 @@ use Rattle.grasp_network.specs.declared.plan.WorldPlan.{WorldPlan}
 use Rattle.grasp_network_floods.specs.Laws.{ReadFloodsAreReal}
 use Rattle.grasp_network_script.specs.declared.line.LineAct.{LineAct}
 use Rattle.grasp_network_script.specs.declared.line.LineAct.TheVariants as act
+use Rattle.grasp_network_prefixes.specs.Apart.{PrefixesStayApart}
 use Rattle.grasp_network_talks.specs.Safe.{TalksAreSafe}
 use Rattle.grasp_scenarios.specs.Laws.{RunsOfLinesAreRuns, EachRunIsSafe}
 use Rattle.grasp_scenarios.specs.LineRuns.{LineRun, placed_event, MayComeOut, after_act, after_line}
@@ -42,7 +43,7 @@ runs_are_runs s w (x ∷ xs) h =
 
 -- ---- safety
 
-act_reached : (s : Setting) (w : WorldState) (a : LineAct) (c : Choice) → IsReached s w → MayComeOut s w a c → IsReached s (after_act s w a c)
+pub act_reached : (s : Setting) (w : WorldState) (a : LineAct) (c : Choice) → IsReached s w → MayComeOut s w a c → IsReached s (after_act s w a c)
 act_reached s w (act.Event e) c r h = reached_more s w (placed_event w e) c r h
 act_reached s w (act.State node) c r h = r
 
@@ -54,9 +55,10 @@ first_reached plan good = record { good = scripts_are_good plan good; happenings
 pub record Grounds : Type 0 where
   pub talks : TalksAreSafe
   pub floods : ReadFloodsAreReal
+  pub prefixes : PrefixesStayApart
 
 is_safe : (s : Setting) (w : WorldState) → Grounds → IsReached s w → IsSafe s w
-is_safe s w k r = record { reached = r; talks = k.talks.reached s w r; floods = k.floods.reached s w r }
+is_safe s w k r = record { reached = r; talks = k.talks.reached s w r; floods = k.floods.reached s w r; prefixes = k.prefixes.reached s w r }
 
 all_safe : Grounds → (s : Setting) (w : WorldState) (xs : List LineRun) → IsReached s w → MayRunAll s w xs → All (IsSafe s) (networks_from s w xs)
 unfolding MayRunAll networks_from

@@ -3,6 +3,7 @@ use Rattle.grasp_network.specs.Runs.{IsReached}
 use Rattle.grasp_network.specs.Setting.{Setting}
 use Rattle.grasp_network.specs.World.{WorldState}
 use Rattle.grasp_network_floods.specs.Real.{FloodsAreReal}
+use Rattle.grasp_network_prefixes.specs.Apart.{PrefixesAreSafe}
 use Rattle.grasp_network_talks.specs.Safe.{IsSafeTalks}
 
 pub record IsSafe (s : Setting) (w : WorldState) : Type 0 where
@@ -13,3 +14,6 @@ pub record IsSafe (s : Setting) (w : WorldState) : Type 0 where
   pub talks : IsSafeTalks w
   -- each flood that was read was flooded by its initiator
   pub floods : FloodsAreReal w
+  -- prefixes that are held by different nodes don't overlap, what may still be accepted is held by none, and an offer of unknown outcome stays
+  -- reserved or in doubt
+  pub prefixes : PrefixesAreSafe w

@@ -4,4 +4,4 @@
 
 mod laws;
 
-pub use laws::{each_run_is_safe, runs_of_lines_are_runs};
+pub use laws::{each_run_is_safe, runs_of_lines_are_runs, runs_or_stops, texts_agree};
