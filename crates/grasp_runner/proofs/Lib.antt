@@ -1,0 +1,9 @@
+pub mod Counted
+pub mod Ends
+pub mod Fitting
+pub mod Holding
+pub mod NumberedTexts
+pub mod Passed
+pub mod Placing
+pub mod Summing
+pub mod Telling

@@ -1,0 +1,101 @@
+-- What a network that goes on has, and the events of lines in it.
+use Rattle.std.proofs.Common.{◌≡◌, ◌<◌, ◌≤◌, refl, sym, ap, ◌∙◌, subst, arith, ℕ, zero, suc, ◌-◌, Bool, List, [], ◌∷◌, length, Some, Result, Ok, Err}
+use Rattle.std.specs.List.{slice_get}
+use Rattle.grasp_types.specs.declared.call.Call.{Call}
+use Rattle.grasp_network.proofs.GoodPlans.{count_numbers, member_count, not_zero}
+use Rattle.grasp_network.proofs.Opened.{map_length}
+use Rattle.grasp_network.specs.Events.{IsFit}
+use Rattle.grasp_network.specs.Plans.{IsNode}
+use Rattle.grasp_network.specs.Setting.{Setting, numbered, numbers_from, script_locator, script_setting}
+use Rattle.grasp_network.specs.World.{Seat, WorldState, seat_at}
+use Rattle.grasp_network.specs.declared.event.Event.{Event}
+use Rattle.grasp_network.specs.declared.event.Event.TheVariants as event
+use Rattle.grasp_network.specs.declared.plan.WorldPlan.{WorldPlan}
+use Rattle.grasp_network.specs.declared.report.Report.{Report}
+use Rattle.grasp_network.specs.declared.report.WorldStop.{WorldStop}
+use Rattle.grasp_network.specs.declared.report.WorldStop.TheVariants as stop
+use Rattle.grasp_network_script.specs.declared.line.LineAct.{LineAct}
+use Rattle.grasp_network_script.specs.declared.line.LineAct.TheVariants as act
+use Rattle.grasp_scenarios.specs.LineRuns.{placed_call, placed_event}
+use Rattle.grasp_simulator.proofs.SeatLists.{seats_length}
+use Rattle.grasp_simulator.specs.Contract.{going, Answers, MeetsEvent}
+use Rattle.grasp_simulator.specs.WorldStands.{WorldStands, HasNode, IsSeat}
+use Rattle.grasp_simulator.specs.WorldSteps.{IsAsked, Stepped}
+use Rattle.grasp_simulator.specs.declared.world.World.{World}
+use Rattle.grasp_runner.specs.Lines.{CanRun, EventAnswers, MeetsLine, RunsEvent, network_at}
+use Rattle.grasp_runner.proofs.Fitting.{event_fits}
+
+-- ---- how many nodes there are
+
+pub plan_members : (p : WorldPlan) → length (script_setting p).members ≡ p.nodes
+unfolding script_setting
+plan_members p = member_count p
+
+plan_peers : (p : WorldPlan) → length (script_setting p).peers ≡ p.nodes
+unfolding script_setting
+plan_peers p = map_length script_locator (numbers_from 1 p.nodes) ∙ count_numbers 1 p.nodes
+
+pub seats_here : (code : World) (s : Setting) (w : WorldState) → WorldStands code (network_at s w) → length w.seats ≡ length s.members
+seats_here code s w h = sym (seats_length code.seats.items w.seats h.stands.keeps.seats) ∙ h.count
+
+peers_here : (code : World) (s : Setting) (w : WorldState) → WorldStands code (network_at s w) → length s.peers ≡ length s.members
+peers_here code s w h = subst (λ (x : Setting). length x.peers ≡ length x.members) (sym h.stands.keeps.setting) (plan_peers code.plan ∙ sym (plan_members code.plan))
+
+-- ---- nodes
+
+-- the node of a number, among so many
+pub record IsThere (w : WorldState) (node : ℕ) : Type 0 where
+  pub seat : Seat
+  pub here : seat_at w node ≡ Some seat
+
+seat_found : (seats : List Seat) (i : ℕ) → i < length seats → (seat : Seat) × (slice_get seats i ≡ Some seat)
+seat_found [] i few = absurd (omega (arith, few))
+seat_found (x ∷ xs) zero few = (x, refl)
+seat_found (x ∷ xs) (suc i) few = seat_found xs i (omega (arith, few))
+
+pub node_there : (code : World) (s : Setting) (w : WorldState) (node : ℕ) → WorldStands code (network_at s w) → IsNode (length s.members) node → IsThere w node
+node_there code s w node h n =
+    let least : 1 ≤ node = n.least in
+    let most : node ≤ length s.members = n.most in
+    let found = seat_found w.seats (node - 1) (omega (arith, least, most, seats_here code s w h)) in
+    record { seat = found.0; here = rw (not_zero node least) found.1 }
+
+pub has_node : (code : World) (s : Setting) (w : WorldState) (node : ℕ) → WorldStands code (network_at s w) → IsNode (length s.members) node → HasNode code node
+has_node code s w node h n = record { network = network_at s w; stands = h; is_node = n }
+
+-- ---- events
+
+pub fit_here : (code : World) (s : Setting) (w : WorldState) (e : Event) → MeetsLine code s w (act.Event e) → IsFit s w (placed_event w e)
+fit_here code s w e h = event_fits s w e (seats_here code s w h.stands) (peers_here code s w h.stands) h.fit
+
+-- the placed event is that of the network
+abbrev pub IsPlaced : World → Event → Event → Type 0
+IsPlaced code e placed = (s : Setting) (w : WorldState) → MeetsLine code s w (act.Event e) → placed ≡ placed_event w e
+
+meets_placed : (code : World) (s : Setting) (w : WorldState) (e placed : Event) → placed ≡ placed_event w e → MeetsLine code s w (act.Event e) → MeetsEvent (WorldStands code) (network_at s w) placed
+meets_placed code s w e placed is h = record { stands = h.stands; fit = subst (λ (x : Event). IsFit s w x) (sym is) (fit_here code s w e h) }
+
+pub asked_placed : (code : World) (e placed : Event) → CanRun code (act.Event e) → IsPlaced code e placed → IsAsked code placed
+asked_placed code e placed can is =
+    record { network = network_at can.setting can.network; meets = meets_placed code can.setting can.network e placed (is can.setting can.network can.meets) can.meets }
+
+answered : (new : World) (s : Setting) (w : WorldState) (e placed : Event) (r : Result Report WorldStop) → placed ≡ placed_event w e → Answers (WorldStands new) s (going w) placed r → EventAnswers new s w e r
+answered new s w e placed (Ok report) is h = subst (λ (x : Event). Answers (WorldStands new) s (going w) x (Ok report)) is h
+answered new s w e placed (Err why) is h = (subst (λ (x : Event). Answers (WorldStands new) s (going w) x (Err why)) is h).may_stop
+
+pub runs_placed : (code new : World) (e placed : Event) (r : Result Report WorldStop) → IsPlaced code e placed → Stepped code new placed r → RunsEvent code new e r
+runs_placed code new e placed r is stepped =
+    λ s w h. answered new s w e placed r (is s w h) (stepped (network_at s w) (meets_placed code s w e placed (is s w h) h))
+
+-- there was no memory
+pub runs_starved : (code new : World) (e : Event) → RunsEvent code new e (Err stop.OutOfMemory)
+runs_starved code new e = λ s w h. tt
+
+-- a call with the place of its session
+pub placed_api : (code : World) (e : Event) (node asa : ℕ) (call placed : Call) (hold : Bool) → e ≡ event.Api node asa call hold
+    → ((s : Setting) (w : WorldState) (seat : Seat) → IsSeat code node s w seat → placed ≡ placed_call w node call)
+    → (s : Setting) (w : WorldState) → MeetsLine code s w (act.Event e) → event.Api node asa placed hold ≡ placed_event w e
+placed_api code e node asa call placed hold is places s w h =
+    let met : MeetsLine code s w (act.Event (event.Api node asa call hold)) = subst (λ (x : Event). MeetsLine code s w (act.Event x)) is h in
+    let there : IsThere w node = node_there code s w node met.stands met.fit.0 in
+    ap (λ (x : Call). event.Api node asa x hold) (places s w there.seat (record { stands = met.stands; here = there.here })) ∙ sym (ap (placed_event w) is)

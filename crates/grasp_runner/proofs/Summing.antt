@@ -1,0 +1,80 @@
+-- The summary of a run.
+use Rattle.std.proofs.Common.{◌≡◌, refl, sym, ap, ◌∙◌, subst, ℕ, List, [], ◌∷◌, ◌++◌, length, Option}
+use Rattle.std.specs.Io.KnownBytes.{Appends}
+use Rattle.grasp_io.specs.Known.{AppendsFront}
+use Rattle.grasp_network.specs.Runs.{world_of}
+use Rattle.grasp_network.specs.Setting.{script_setting}
+use Rattle.grasp_network.specs.World.{WorldState}
+use Rattle.grasp_network.specs.declared.plan.WorldPlan.{WorldPlan}
+use Rattle.grasp_network.specs.declared.report.Report.{Report}
+use Rattle.grasp_network_script.specs.Scripts.{IsScript}
+use Rattle.grasp_network_script.specs.declared.line.Line.{Line}
+use Rattle.grasp_network_script.specs.declared.script.Script.{Script}
+use Rattle.grasp_scenarios.specs.Laws.{EachRunIsSafe}
+use Rattle.grasp_scenarios.specs.ScriptRuns.{network_after}
+use Rattle.grasp_scenarios.specs.Stops.{SendsTooMuch, TextSendsTooMuch}
+use Rattle.grasp_scenarios.specs.Summary.{Counts, IsSummary, counts_line, counts_of, last_network, reports_of}
+use Rattle.grasp_simulator.specs.declared.world.World.{World}
+use Rattle.grasp_runner.specs.Scripts.{IsRead}
+use Rattle.grasp_runner.specs.Tallies.{HasCounted, HasNodes, IsCounted, IsSummaryLine, IsTally, TellsCounts, counted_of}
+use Rattle.grasp_runner.specs.Written.{Writes, Begins}
+use Rattle.grasp_runner.specs.declared.summary.Counts.{Counts as CountsCode}
+use Rattle.grasp_runner.specs.declared.tally.Tally.{Tally}
+use Rattle.grasp_runner.proofs.Ends.{runs_safely}
+use Rattle.grasp_runner.proofs.Placing.{plan_members}
+
+-- the network after the lines has the nodes of the plan
+pub has_nodes : (script : Script) (code : World) (tally : Tally) (plan : WorldPlan) → HasCounted script.plan script.lines code tally → plan ≡ script.plan → HasNodes code plan.nodes
+has_nodes script code tally plan h same = record {
+  setting = script_setting script.plan;
+  network = network_after (script_setting script.plan) (world_of script.plan) h.run;
+  stands = h.has_run.stands;
+  count = ap (λ (p : WorldPlan). p.nodes) same ∙ sym (plan_members script.plan);
+}
+
+made : ℕ → ℕ → ℕ → ℕ → ℕ → ℕ → ℕ → Counts
+made n e a d b h t = record { nodes = n; events = e; agreed = a; declined = d; broken = b; held = h; doubt = t }
+
+same_made : (n1 n2 e1 e2 a1 a2 d1 d2 b1 b2 h1 h2 t1 t2 : ℕ) → n1 ≡ n2 → e1 ≡ e2 → a1 ≡ a2 → d1 ≡ d2 → b1 ≡ b2 → h1 ≡ h2 → t1 ≡ t2
+    → made n1 e1 a1 d1 b1 h1 t1 ≡ made n2 e2 a2 d2 b2 h2 t2
+same_made n1 n2 e1 e2 a1 a2 d1 d2 b1 b2 h1 h2 t1 t2 n e a d b h t =
+    ap (λ (x : ℕ). made x e1 a1 d1 b1 h1 t1) n ∙ ap (λ (x : ℕ). made n2 x a1 d1 b1 h1 t1) e ∙ ap (λ (x : ℕ). made n2 e2 x d1 b1 h1 t1) a ∙ ap (λ (x : ℕ). made n2 e2 a2 x b1 h1 t1) d
+    ∙ ap (λ (x : ℕ). made n2 e2 a2 d2 x h1 t1) b ∙ ap (λ (x : ℕ). made n2 e2 a2 d2 b2 x t1) h ∙ ap (λ (x : ℕ). made n2 e2 a2 d2 b2 h2 x) t
+
+counts_same : (code : World) (tally : Tally) (c : CountsCode) (plan : WorldPlan) (nodes : ℕ) (rs : List Report) (last : WorldState) → IsTally tally rs → TellsCounts code nodes tally c → nodes ≡ plan.nodes
+    → c.held ≡ (counts_of plan rs last).held → c.doubt ≡ (counts_of plan rs last).doubt → counted_of c ≡ counts_of plan rs last
+unfolding made
+counts_same code tally c plan nodes rs last is tells same held doubt =
+    let own : IsTally c.tally rs = subst (λ (t : Tally). IsTally t rs) (sym tells.tally_is) is in
+    let k : Counts = counts_of plan rs last in
+    same_made c.nodes k.nodes c.tally.events k.events c.tally.agreed k.agreed c.tally.declined k.declined c.tally.broken k.broken c.held k.held c.doubt k.doubt
+    (tells.nodes_are ∙ same) own.events own.agreed own.declined own.broken held doubt
+
+pub is_counted : EachRunIsSafe → (script : Script) (code : World) (tally : Tally) (c : CountsCode) (plan : WorldPlan) → IsRead script → HasCounted script.plan script.lines code tally → TellsCounts code plan.nodes tally c
+    → plan ≡ script.plan → IsCounted script.plan script.lines c
+is_counted safe script code tally c plan read h tells same =
+    let last : WorldState = network_after (script_setting script.plan) (world_of script.plan) h.run in
+    record {
+      run = h.run;
+      is_run = h.has_run.is_run;
+      safely = runs_safely safe script h.run read h.has_run.may_run;
+      is = counts_same code tally c script.plan plan.nodes (reports_of script.plan h.run) last h.is tells (ap (λ (p : WorldPlan). p.nodes) same)
+          (tells.held (script_setting script.plan) last h.has_run.stands) (tells.doubt (script_setting script.plan) last h.has_run.stands);
+    }
+
+pub summary_line : (number : ℕ) (script : Script) (c : CountsCode) (line : List ℕ) → IsCounted script.plan script.lines c → line ≡ counts_line number (counted_of c) ++ 10 ∷ [] → IsSummaryLine number script.plan script.lines line
+summary_line number script c line h told = record { run = h.run; is_run = h.is_run; safely = h.safely; told = told ∙ ap (λ (k : Counts). counts_line number k ++ 10 ∷ []) h.is }
+
+is_summary : (text : List ℕ) (number : ℕ) (script : Script) (line : List ℕ) → IsScript text script.plan script.lines → IsSummaryLine number script.plan script.lines line → IsSummary text number line
+is_summary text number script line read h = record { plan = script.plan; lines = script.lines; script = read; run = h.run; is_run = h.is_run; safely = h.safely; told = h.told }
+
+pub summary_written : (text : List ℕ) (number : ℕ) (script : Script) (line bytes : List ℕ) (a b : Option (List ℕ)) → IsScript text script.plan script.lines → IsSummaryLine number script.plan script.lines line → bytes ≡ line
+    → Appends a b bytes → Writes (IsSummary text number) a b
+summary_written text number script line bytes a b read h same w = record { output = line; made = is_summary text number script line read h; written = subst (Appends a b) same w }
+
+pub summary_begun : (text : List ℕ) (number : ℕ) (script : Script) (line bytes : List ℕ) (a b : Option (List ℕ)) → IsScript text script.plan script.lines → IsSummaryLine number script.plan script.lines line → bytes ≡ line
+    → AppendsFront a b bytes → Begins (IsSummary text number) a b
+summary_begun text number script line bytes a b read h same w = record { output = line; made = is_summary text number script line read h; written = subst (AppendsFront a b) same w }
+
+pub text_stops : (text : List ℕ) (script : Script) → IsScript text script.plan script.lines → SendsTooMuch script.plan script.lines → TextSendsTooMuch text
+text_stops text script read h = record { plan = script.plan; lines = script.lines; script = read; stops = h }

@@ -1,0 +1,70 @@
+-- Lines that are run, and their reports.
+use Rattle.std.proofs.Common.{◌≡◌, sym, ap, ◌∙◌, subst, ℕ, List, length, Some, Result, Ok, Err}
+use Rattle.grasp_agent.specs.States.{AgentState}
+use Rattle.grasp_network.specs.Plans.{IsNode}
+use Rattle.grasp_network.specs.Setting.{Setting}
+use Rattle.grasp_network.specs.Visits.{no_choice}
+use Rattle.grasp_network.specs.World.{Seat, WorldState, seat_at}
+use Rattle.grasp_network.specs.declared.event.Event.{Event}
+use Rattle.grasp_network.specs.declared.report.Report.{Report}
+use Rattle.grasp_network.specs.declared.report.WorldStop.{WorldStop}
+use Rattle.grasp_network.specs.declared.report.WorldStop.TheVariants as stop
+use Rattle.grasp_network_script.specs.Reports.{told_report, told_state}
+use Rattle.grasp_network_script.specs.declared.line.LineAct.{LineAct}
+use Rattle.grasp_network_script.specs.declared.line.LineAct.TheVariants as act
+use Rattle.grasp_scenarios.specs.LineRuns.{event_told, seat_told}
+use Rattle.grasp_simulator.specs.WorldStands.{WorldStands, LendsAgent}
+use Rattle.grasp_simulator.specs.declared.world.World.{World}
+use Rattle.grasp_runner.specs.Lines.{LineMayStop, LookAnswers, MeetsLine, RunsAct, RunsEvent, RunsLook, TellsEvent, network_at}
+use Rattle.grasp_runner.proofs.Placing.{IsThere, node_there, seats_here}
+
+-- ---- events
+
+stops_so : (s : Setting) (w : WorldState) (a : LineAct) (why : WorldStop) → why ≡ stop.OutOfMemory → LineMayStop s w a why
+stops_so s w a why is = subst (LineMayStop s w a) (sym is) tt
+
+event_stop : (code new : World) (text : List ℕ) (e : Event) (why : WorldStop) → RunsEvent code new e (Err why) → RunsAct code new text (act.Event e) (Err why)
+event_stop code new text e stop.TooMuch runs = λ s w h. runs s w h
+event_stop code new text e stop.OutOfMemory runs = λ s w h. tt
+
+-- the event stopped the network
+pub event_stops : (code new : World) (text : List ℕ) (a : LineAct) (e : Event) (why : WorldStop) → a ≡ act.Event e → RunsEvent code new e (Err why) → RunsAct code new text a (Err why)
+event_stops code new text a e why is runs = subst (λ (x : LineAct). RunsAct code new text x (Err why)) (sym is) (event_stop code new text e why runs)
+
+event_runs : (code new : World) (text : List ℕ) (e : Event) (report : Report) (r : Result (List ℕ) WorldStop) → RunsEvent code new e (Ok report) → TellsEvent text report r → RunsAct code new text (act.Event e) r
+event_runs code new text e report (Ok told) runs tells = λ s w h.
+    let d = runs s w h in
+    record { choice = d.choice; comes = d.occurs; told_is = tells ∙ ap (event_told text) d.report_is; stands = d.stands }
+event_runs code new text e report (Err why) runs tells = λ s w h. stops_so s w (act.Event e) why tells
+
+-- it is reported
+pub event_tells : (code new : World) (text : List ℕ) (a : LineAct) (e : Event) (report : Report) (r : Result (List ℕ) WorldStop) → a ≡ act.Event e → RunsEvent code new e (Ok report) → TellsEvent text report r → RunsAct code new text a r
+event_tells code new text a e report r is runs tells = subst (λ (x : LineAct). RunsAct code new text x r) (sym is) (event_runs code new text e report r runs tells)
+
+pub tells_report : (text : List ℕ) (report : Report) (told : List ℕ) → told ≡ told_report text report → TellsEvent text report (Ok told)
+unfolding event_told
+tells_report text report told is = is
+
+-- ---- looks
+
+pub look_node : (code : World) (s : Setting) (w : WorldState) (node : ℕ) → MeetsLine code s w (act.State node) → IsThere w node
+look_node code s w node h = node_there code s w node h.stands h.fit
+
+seat_is : (text told : List ℕ) (w : WorldState) (node : ℕ) (seat : Seat) (agent : AgentState) → seat_at w node ≡ Some seat → agent ≡ seat.agent → told ≡ told_state text agent.pool → told ≡ seat_told text (seat_at w node)
+unfolding seat_told
+seat_is text told w node seat agent here is e = e ∙ ap (λ (a : AgentState). told_state text a.pool) is ∙ sym (ap (seat_told text) here)
+
+pub looks : (code : World) (text told : List ℕ) (node : ℕ) (agent : AgentState) → LendsAgent code node agent → told ≡ told_state text agent.pool → RunsLook code text node (Ok told)
+looks code text told node agent lends e = λ s w h.
+    let there : IsThere w node = look_node code s w node h in
+    seat_is text told w node there.seat agent there.here (lends s w there.seat (record { stands = h.stands; here = there.here })) e
+
+look_runs : (code : World) (text : List ℕ) (node : ℕ) (r : Result (List ℕ) WorldStop) → RunsLook code text node r → RunsAct code code text (act.State node) r
+look_runs code text node (Ok told) runs = λ s w h. record { choice = no_choice; comes = member s w h; told_is = runs s w h; stands = h.stands } where
+  member : (s : Setting) (w : WorldState) (h : MeetsLine code s w (act.State node)) → IsNode (length w.seats) node
+  member s w h = subst (λ (n : ℕ). IsNode n node) (sym (seats_here code s w h.stands)) h.fit
+look_runs code text node (Err why) runs = λ s w h. stops_so s w (act.State node) why (runs s w h)
+
+-- a node is shown
+pub look_tells : (code : World) (text : List ℕ) (a : LineAct) (node : ℕ) (r : Result (List ℕ) WorldStop) → a ≡ act.State node → RunsLook code text node r → RunsAct code code text a r
+look_tells code text a node r is runs = subst (λ (x : LineAct). RunsAct code code text x r) (sym is) (look_runs code text node r runs)

@@ -1,0 +1,46 @@
+//! Lines of scripts that are run.
+
+ghost use Rattle.grasp_network_script.specs.declared.line.LineAct.TheVariants as act;
+ghost use Rattle.grasp_runner.specs.Lines.{CanRun, RunsLine, RunsLook, TellsEvent};
+
+use crate::events::run_event;
+use grasp_cbor::{Chars, OutOfMemory};
+use grasp_network::{Report, WorldStop};
+use grasp_network_script::{Line, LineAct, told_report, told_state};
+use grasp_simulator::World;
+use std::alloc::Global;
+
+/// Runs a line in a network, and answers its report, without a line end. After an `Err` nothing is said of the network.
+pub fn run_line(alloc: Global, world: &mut World, line: &Line) -> Result<Chars, WorldStop>
+    requires { CanRun world.old line.now.act }
+    ensures { RunsLine world.old world.new line.now result }
+{
+    match &line.act {
+        LineAct::Event(event) => match run_event(world, event) {
+            Ok(report) => event_told(alloc, &line.text, &report),
+            Err(stop) => Err(stop),
+        },
+        LineAct::State { node } => look(alloc, world, &line.text, *node),
+    }
+}
+
+/// The report of an event.
+fn event_told(alloc: Global, text: &Chars, report: &Report) -> Result<Chars, WorldStop>
+    ensures { TellsEvent text.now report.now result }
+{
+    match told_report(alloc, text, report) {
+        Ok(told) => Ok(told),
+        Err(OutOfMemory) => Err(WorldStop::OutOfMemory),
+    }
+}
+
+/// What is told of a node.
+fn look(alloc: Global, world: &World, text: &Chars, node: u8) -> Result<Chars, WorldStop>
+    requires { CanRun world.now (act.State node) }
+    ensures { RunsLook world.now text.now node result }
+{
+    match told_state(alloc, text, world.agent(node)) {
+        Ok(told) => Ok(told),
+        Err(OutOfMemory) => Err(WorldStop::OutOfMemory),
+    }
+}
