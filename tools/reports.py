@@ -93,6 +93,8 @@ def read_head(lines, where=""):
         words = text.split(" ")
         if at == 1 and re.fullmatch(f"nodes {NODE}", text):
             nodes = int(words[1])
+        elif at == 2 and re.fullmatch("size [1-9][0-9]{3}", text) and 2048 <= int(words[1]) <= 8192:
+            continue
         elif at > 1 and text == "start":
             return nodes, links, at
         elif at > 1 and re.fullmatch(f"link {NODE}(?: {NODE}){{1,16}}", text):

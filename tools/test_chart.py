@@ -1,10 +1,9 @@
 #!/usr/bin/env python3
-"""Checks tools/chart.py: the arrows of runs whose reports are known, the refusals, and the picture in docs.
+"""Checks tools/chart.py: the arrows of runs whose reports are known, the refusals, the examples and the picture in docs.
 
 usage: python3 tools/test_chart.py
 
-The runs are written out here as reports, some of them of worlds with more nodes and calls than grasp_replay has so far.
-In their lines @K stands for the address of node K, {DIGITS} for 20010db80000, four digits and sixteen zeros, and PM for
+The runs are written out here as reports. In their lines @K stands for the address of node K, {DIGITS} for 20010db80000, four digits and sixteen zeros, and PM for
 'PrefixManager.
 """
 import pathlib
@@ -352,9 +351,23 @@ class Pictures(unittest.TestCase):
         drawn = chart.chart(written_out(AGREEMENT), None, "examples/agreement.script")
         self.assertEqual((HERE.parent / "docs" / "agreement.svg").read_text(), drawn)
 
-    def test_agreement_is_of_the_example(self):
-        script = (HERE.parent / "examples" / "agreement.script").read_text().split("start\n")[1].splitlines()
-        self.assertEqual([line.split(" = ")[0] for line in AGREEMENT.splitlines()], script)
+    def test_agreement_is_the_example(self):
+        reports = (HERE.parent / "examples" / "agreement.reports").read_bytes()
+        self.assertEqual(written_out(AGREEMENT), reports)
+
+    def test_examples(self):
+        """Each example is drawn with its script's header, line by line, and no arrow or delivery is left untold."""
+        scripts = sorted((HERE.parent / "examples").glob("*.script"))
+        self.assertEqual(len(scripts), 7)
+        for script in scripts:
+            head, lines = script.read_text().split("start\n")
+            reports = script.with_suffix(".reports").read_bytes()
+            titles = [group.find("{http://www.w3.org/2000/svg}title").text for group in groups_of(reports.decode(), script.read_bytes())]
+            self.assertEqual(titles, reports.decode().splitlines())
+            for line, title in zip(lines.splitlines(), titles, strict=True):
+                self.assertTrue(title.startswith(line + " "), title)
+            picture = chart.chart(reports, head.encode() + b"start\n")
+            self.assertNotIn('class="untold', picture)
 
 
 class Refusals(unittest.TestCase):
@@ -386,6 +399,10 @@ class Refusals(unittest.TestCase):
         self.refuses(b"nodes 2\nlink 1 3\nstart\n", "bad header in line 2")
         self.refuses(b"nodes 2\nlink 1 1\nstart\n", "bad header in line 2")
         self.refuses(b"nodes 65\nstart\n", "bad header in line 1")
+        self.refuses(b"nodes 2\nsize 2047\nstart\n", "bad header in line 2")
+        self.refuses(b"nodes 2\nlink 1 2\nsize 4096\nstart\n", "bad header in line 3")
+        self.assertEqual(chart.chart(b"nodes 2\nsize 4096\nlink 1 2\nstart\narrive 1 = nothing\n"),
+                         chart.chart(b"nodes 2\nlink 1 2\nstart\narrive 1 = nothing\n").replace('data-line="4"', 'data-line="5"').replace(">4</text>", ">5</text>"))
         self.refuses(b"nodes 2\nlink 1 2\nstart\napi 3 0 asa 'a = asa 2\n", "unknown node in line 4")
         self.refuses(AGENTS.encode(), "bad header in line 1 of the script", b"start\n")
         self.refuses(AGENTS.encode(), "header without start in line 2 of the script", b"nodes 2\n")

@@ -13,10 +13,6 @@ mod pools;
 #[cfg(test)]
 mod registrations;
 #[cfg(test)]
-mod scripts;
-#[cfg(test)]
 mod sessions;
 #[cfg(test)]
 mod tasks;
-#[cfg(test)]
-mod worlds;

@@ -16,8 +16,8 @@ use Rattle.grasp_text.specs.Line.{line_of, IsLineOf}
 use Rattle.grasp_text.specs.Reading.{Parsed}
 use Rattle.grasp_text.specs.Words.{words_of}
 use Rattle.grasp_text.proofs.Lines.{line_only, line_none, line_place}
-use Rattle.grasp_script.specs.Script.{lines_of}
-use Rattle.grasp_script.proofs.Splitting.{no_line}
+use Rattle.grasp_network_script.specs.Scripts.{text_lines}
+use Rattle.grasp_network_script.proofs.Splitting.{no_line}
 use Rattle.grasp_wire.specs.Laws.{encoded}
 use Rattle.grasp_tasks.specs.Ending.{status_of}
 use Rattle.grasp_tasks.specs.Pack.{CanPack, IsPacked, IsRefused, StopsAt, Packs}
@@ -33,7 +33,7 @@ use Rattle.grasp_tasks.proofs.Tasks.{pack_made}
 -- the lines before the rest were packed, so many
 pub record HasPacked (limit : ℕ) (input rest output : List ℕ) (count : ℕ) : Type 0 where
   pub messages : List Message
-  pub lines : lines_of input ≡ map line_of messages ++ lines_of rest
+  pub lines : text_lines input ≡ map line_of messages ++ text_lines rest
   pub can : All (CanPack limit) messages
   pub output_is : output ≡ encoded messages
   pub count_is : count ≡ length messages
@@ -53,12 +53,12 @@ all_one : (limit : ℕ) (m : Message) → CanPack limit m → All (CanPack limit
 all_one limit m can = search rules
 
 more_packed : (limit : ℕ) (input rest text others output more : List ℕ) (count : ℕ) → HasPacked limit input rest output count
-    → lines_of rest ≡ text ∷ lines_of others → IsPacked limit text output more → HasPacked limit input others more (count + 1)
+    → text_lines rest ≡ text ∷ text_lines others → IsPacked limit text output more → HasPacked limit input others more (count + 1)
 more_packed limit input rest text others output more count h lines p =
     let is_line : IsLineOf (line_of p.message) p.message = subst (λ (t : List ℕ). IsLineOf t p.message) p.is_line.spelled p.is_line in
     record {
       messages = h.messages ++ p.message ∷ [];
-      lines = h.lines ∙ ap (λ ls. map line_of h.messages ++ ls) (lines ∙ ap (λ t. t ∷ lines_of others) p.is_line.spelled) ∙ sym (map_more h.messages p.message (lines_of others));
+      lines = h.lines ∙ ap (λ ls. map line_of h.messages ++ ls) (lines ∙ ap (λ t. t ∷ text_lines others) p.is_line.spelled) ∙ sym (map_more h.messages p.message (text_lines others));
       can = All-append (CanPack limit) h.messages (p.message ∷ []) h.can (all_one limit p.message (record { is_line = is_line; sendable = p.sendable }));
       output_is = p.appended ∙ ap (λ o. o ++ shortest (item_of p.message)) h.output_is ∙ sym (encoded_more h.messages p.message);
       count_is = ap (λ n. n + 1) h.count_is ∙ sym (length-append h.messages (p.message ∷ []));
@@ -69,21 +69,21 @@ all_packed limit input [] output count h none = record { messages = h.messages; 
 all_packed limit input (b ∷ rest) output count h none = absurd (omega (arith, none))
 
 packed_to : (limit : ℕ) (input rest text others output more : List ℕ) (count : ℕ) (finding : Finding) → HasPacked limit input rest output count
-    → lines_of rest ≡ text ∷ lines_of others → (more ≡ output) × IsRefused limit text (count + 1) finding → Packs limit input more (Some finding)
+    → text_lines rest ≡ text ∷ text_lines others → (more ≡ output) × IsRefused limit text (count + 1) finding → Packs limit input more (Some finding)
 packed_to limit input rest text others output more count finding h lines p = record {
   messages = h.messages;
-  others = lines_of rest;
+  others = text_lines rest;
   lines = h.lines;
   can = h.can;
   output_is = p.0 ∙ h.output_is;
-  stops = record { text = text; others = lines_of others; first = lines; refused = subst (λ (n : ℕ). IsRefused limit text (n + 1) finding) h.count_is p.1 };
+  stops = record { text = text; others = text_lines others; first = lines; refused = subst (λ (n : ℕ). IsRefused limit text (n + 1) finding) h.count_is p.1 };
 }
 
 -- while a line is left, fewer were packed than there are bytes
-room_for_one : (limit : ℕ) (input rest output text : List ℕ) (others : List (List ℕ)) (count : ℕ) → HasPacked limit input rest output count → lines_of rest ≡ text ∷ others
+room_for_one : (limit : ℕ) (input rest output text : List ℕ) (others : List (List ℕ)) (count : ℕ) → HasPacked limit input rest output count → text_lines rest ≡ text ∷ others
     → count + 1 ≤ length input
 room_for_one limit input rest output text others count h left =
-    omega (arith, few_lines input, h.count_is, ap length h.lines, length-append (map line_of h.messages) (lines_of rest), length-map h.messages line_of, ap length left)
+    omega (arith, few_lines input, h.count_is, ap length h.lines, length-append (map line_of h.messages) (text_lines rest), length-map h.messages line_of, ap length left)
 
 -- ---- every input is packed up to its end or to a finding
 
@@ -154,7 +154,7 @@ packs_on limit before (text ∷ lines) = packs_line limit before text lines (pac
 pub begins_to_pack : (limit : ℕ) (input rest output : List ℕ) (count : ℕ) (start now : Option (List ℕ)) → HasPacked limit input rest output count → AppendsFront start now output
     → Begins (PackMakes limit input) start now
 begins_to_pack limit input rest output count start now h front =
-    let on = packs_on limit count (lines_of rest) in
+    let on = packs_on limit count (text_lines rest) in
     let all = h.messages ++ on.messages in
     let packs : Packs limit input (encoded all) on.finding = record {
       messages = all;
@@ -186,13 +186,13 @@ none_packing limit input start held none = record { output = []; packed = none_p
 
 -- one more line, whose encoding the piece is
 next_packed : (limit : ℕ) (input rest text others output old bytes piece : List ℕ) (count : ℕ) → HasPacked limit input rest output count
-    → lines_of rest ≡ text ∷ lines_of others → old ≡ [] → IsPacked limit text old bytes → piece ≡ bytes → HasPacked limit input others (output ++ piece) (count + 1)
+    → text_lines rest ≡ text ∷ text_lines others → old ≡ [] → IsPacked limit text old bytes → piece ≡ bytes → HasPacked limit input others (output ++ piece) (count + 1)
 next_packed limit input rest text others output old bytes piece count h lines none p same =
     let encoding : piece ≡ shortest (item_of p.message) = same ∙ p.appended ∙ ap (λ o. o ++ shortest (item_of p.message)) none in
     more_packed limit input rest text others output (output ++ piece) count h lines (record { message = p.message; is_line = p.is_line; sendable = p.sendable; appended = ap (λ b. output ++ b) encoding })
 
 pub more_packing : (limit : ℕ) (input rest text others : List ℕ) (start now later : Option (List ℕ)) (held more old bytes piece : List ℕ) (count : ℕ) → IsPacking limit input rest start now held count
-    → lines_of rest ≡ text ∷ lines_of others → old ≡ [] → IsPacked limit text old bytes → piece ≡ bytes → Passes now later more (held ++ piece)
+    → text_lines rest ≡ text ∷ text_lines others → old ≡ [] → IsPacked limit text old bytes → piece ≡ bytes → Passes now later more (held ++ piece)
     → IsPacking limit input others start later more (count + 1)
 more_packing limit input rest text others start now later held more old bytes piece count h lines none p same passes = record {
   output = h.output ++ piece;
@@ -207,7 +207,7 @@ begun_packing limit input rest start now held count h = begins_to_pack limit inp
 
 -- likewise where a write of the next message fails
 pub begun_next : (limit : ℕ) (input rest text others : List ℕ) (start now later : Option (List ℕ)) (held old bytes piece : List ℕ) (count : ℕ) → IsPacking limit input rest start now held count
-    → lines_of rest ≡ text ∷ lines_of others → old ≡ [] → IsPacked limit text old bytes → piece ≡ bytes → AppendsFront now later (held ++ piece)
+    → text_lines rest ≡ text ∷ text_lines others → old ≡ [] → IsPacked limit text old bytes → piece ≡ bytes → AppendsFront now later (held ++ piece)
     → Begins (PackMakes limit input) start later
 begun_next limit input rest text others start now later held old bytes piece count h lines none p same front =
     begins_to_pack limit input others (h.output ++ piece) (count + 1) start later (next_packed limit input rest text others h.output old bytes piece count h.packed lines none p same)
@@ -228,7 +228,7 @@ written_all limit input rest start now later held count h none appended =
 -- and all before the line that is refused
 
 pub written_to_finding : (limit : ℕ) (input rest text others : List ℕ) (start now later : Option (List ℕ)) (held : List ℕ) (count : ℕ) (finding : Finding)
-    → IsPacking limit input rest start now held count → lines_of rest ≡ text ∷ lines_of others → IsRefused limit text (count + 1) finding
+    → IsPacking limit input rest start now held count → text_lines rest ≡ text ∷ text_lines others → IsRefused limit text (count + 1) finding
     → Appends now later held → Writes (PackMakes limit input) start later (status.Finding finding)
 written_to_finding limit input rest text others start now later held count finding h lines refused appended = record {
   output = h.output;
@@ -238,5 +238,5 @@ written_to_finding limit input rest text others start now later held count findi
 
 -- while a line is left, fewer were packed than there are bytes
 pub room_for_next : (limit : ℕ) (input rest : List ℕ) (start now : Option (List ℕ)) (held text : List ℕ) (others : List (List ℕ)) (count : ℕ) → IsPacking limit input rest start now held count
-    → lines_of rest ≡ text ∷ others → count + 1 ≤ length input
+    → text_lines rest ≡ text ∷ others → count + 1 ≤ length input
 room_for_next limit input rest start now held text others count h left = room_for_one limit input rest h.output text others count h.packed left

@@ -5,37 +5,42 @@ use Rattle.std.proofs.lemmas.List.Elements.{All-head, All-tail}
 use Rattle.grasp_cbor.specs.Bytes.{AllBytes}
 use Rattle.grasp_cbor.specs.Shortest.{shortest}
 use Rattle.grasp_cbor.proofs.HeadBytes.{AllBytes-back}
+use Rattle.grasp_generator.specs.Generator.{script_of}
 use Rattle.grasp_types.specs.Message.{item_of}
 use Rattle.grasp_types.specs.declared.message.Message.{Message}
 use Rattle.grasp_text.specs.Line.{line_of, IsLineOf, CanBegin}
 use Rattle.grasp_text.specs.Place.{IsPlace, IsUnfit}
 use Rattle.grasp_text.specs.Words.{words_of, joined}
 use Rattle.grasp_text.proofs.Lines.{line_one}
-use Rattle.grasp_script.specs.Report.{header_text}
-use Rattle.grasp_script.proofs.Beginnings.{one_script}
+use Rattle.grasp_network.specs.declared.plan.WorldPlan.{WorldPlan}
+use Rattle.grasp_network_script.specs.declared.line.Line.{Line}
+use Rattle.grasp_network_script.proofs.ScriptLaws.{one_script, no_bad_line}
+use Rattle.grasp_scenarios.specs.Laws.{TextsAgree, RunsOrStops}
+use Rattle.grasp_scenarios.specs.ScriptRuns.{Replays}
+use Rattle.grasp_scenarios.specs.Stops.{IsStoppedText, SendsTooMuch, TextSendsTooMuch}
 use Rattle.grasp_wire.specs.Laws.{encoded}
 use Rattle.grasp_cbor.specs.declared.walker.FaultName.{FaultName}
 use Rattle.grasp_cbor.specs.declared.walker.FaultName.TheVariants as name
 use Rattle.grasp_wire.specs.Reads.{named}
 use Rattle.grasp_wire.specs.Stream.{Divides, RestKind, waiting, too_long, not_message, faulty, IsRest}
 use Rattle.grasp_wire.specs.Wire.{AreWireForms}
-use Rattle.grasp_world.specs.World.{first_world}
 use Rattle.grasp_wire.proofs.Dividing.{one_division, one_kind}
 use Rattle.grasp_wire.proofs.Joins.{divides_alone, divides_more}
 use Rattle.grasp_wire.proofs.ReadingOn.{nothing_waits}
 use Rattle.grasp_tasks.specs.Laws.{AreLines, IsWholeInput, TasksAreFunctions, WholeInputsEndWell}
 use Rattle.grasp_tasks.specs.Pack.{CanPack, IsRefused, StopsAt, Packs}
 use Rattle.grasp_tasks.specs.Ending.{status_of}
-use Rattle.grasp_tasks.specs.Replay.{reports_from, Replays}
+use Rattle.grasp_tasks.specs.Gen.{Summarizes, Overruns}
+use Rattle.grasp_tasks.specs.Replay.{Stops, IsShortScript}
 use Rattle.grasp_tasks.specs.Show.{Shows, shown, truncated, rest_finding}
-use Rattle.grasp_tasks.specs.Task.{ShowMakes, PackMakes, ReplayMakes, Makes, IsOfInput, IsDone, IsBadScript}
+use Rattle.grasp_tasks.specs.Task.{ShowMakes, PackMakes, ReplayMakes, GenMakes, Makes, RunsTooFar, IsOfInput, IsBadScript}
 use Rattle.grasp_tasks.specs.Written.{Writes}
 use Rattle.grasp_tasks.specs.declared.exit.Finding.{Finding}
 use Rattle.grasp_tasks.specs.declared.exit.Finding.TheVariants.{Cut, Truncated, BadText, TooLong}
 use Rattle.grasp_tasks.specs.declared.exit.Status.{Status}
 use Rattle.grasp_tasks.specs.declared.exit.Status.TheVariants as status
 use Rattle.grasp_tasks.specs.declared.task.Task.{Task}
-use Rattle.grasp_tasks.specs.declared.task.Task.TheVariants.{Show, Pack, Replay}
+use Rattle.grasp_tasks.specs.declared.task.Task.TheVariants.{Show, Pack, Replay, Gen}
 use Rattle.grasp_tasks.specs.declared.unfinished.Unfinished.{Unfinished}
 
 -- a stream divides in one way
@@ -175,11 +180,6 @@ packs_one limit input a b f g x y =
 packs_whole : (limit : ℕ) (ms : List Message) (input : List ℕ) → AreLines limit input ms → Packs limit input (encoded ms) None
 packs_whole limit ms input l = record { messages = ms; others = []; lines = l.lines ∙ sym (append-nil (map line_of ms)); can = l.can; output_is = refl; stops = refl }
 
--- a script is run in one way
-
-replays_one : (input a b : List ℕ) → Replays input a → Replays input b → a ≡ b
-replays_one input a b x y = x.output_is ∙ ap (λ ls. header_text ++ reports_from first_world ls) (one_script input x.lines y.lines x.script y.script) ∙ sym y.output_is
-
 -- the status is that of a finding, or of none, of which P holds
 pub record HasFinding (P : Option Finding → Type 0) (s : Status) : Type 0 where
   pub finding : Option Finding
@@ -206,42 +206,118 @@ pack_finding limit input output status.WriteFault x = absurd x
 pack_finding limit input output status.OutOfMemory x = absurd x
 pack_finding limit input output status.TooLarge x = absurd x
 
--- `replay` ends well
-replay_ok : (input output : List ℕ) (s : Status) → ReplayMakes input output s → (s ≡ status.Ok) × Replays input output
-replay_ok input output status.Ok x = (refl, x)
-replay_ok input output (status.Finding f) x = absurd x
-replay_ok input output status.Usage x = absurd x
-replay_ok input output (status.BadScript line) x = absurd x
-replay_ok input output status.ReadFault x = absurd x
-replay_ok input output status.WriteFault x = absurd x
-replay_ok input output status.OutOfMemory x = absurd x
-replay_ok input output status.TooLarge x = absurd x
+-- a run ends well, with what P says, or it is cut off, as Q says
+abbrev EndsOrStops : (P Q : List ℕ → Type 0) → List ℕ → Status → Type 0
+EndsOrStops P Q output s = ((s ≡ status.Ok) × P output) ⊎ ((s ≡ status.TooLarge) × Q output)
+
+replay_end : (input output : List ℕ) (s : Status) → ReplayMakes input output s → EndsOrStops (Replays input) (Stops input) output s
+replay_end input output status.Ok x = inl (refl, x)
+replay_end input output status.TooLarge x = inr (refl, x)
+replay_end input output (status.Finding f) x = absurd x
+replay_end input output status.Usage x = absurd x
+replay_end input output (status.BadScript line) x = absurd x
+replay_end input output status.ReadFault x = absurd x
+replay_end input output status.WriteFault x = absurd x
+replay_end input output status.OutOfMemory x = absurd x
+
+-- what is written of a drawn script whose run is cut off: nothing
+abbrev NothingOf : ℕ → List ℕ → Type 0
+NothingOf number output = (output ≡ []) × Overruns number
+
+gen_end : (number : ℕ) (output : List ℕ) (s : Status) → GenMakes number output s → EndsOrStops (Summarizes number) (NothingOf number) output s
+gen_end number output status.Ok x = inl (refl, x)
+gen_end number output status.TooLarge x = inr (refl, x)
+gen_end number output (status.Finding f) x = absurd x
+gen_end number output status.Usage x = absurd x
+gen_end number output (status.BadScript line) x = absurd x
+gen_end number output status.ReadFault x = absurd x
+gen_end number output status.WriteFault x = absurd x
+gen_end number output status.OutOfMemory x = absurd x
+
+-- where each has one output, and none of both, there is one output with one status
+ends_one : (P Q : List ℕ → Type 0) (a b : List ℕ) (s t : Status) → (P a → P b → a ≡ b) → (Q a → Q b → a ≡ b) → (P a → Q b → ⊥) → (P b → Q a → ⊥)
+    → EndsOrStops P Q a s → EndsOrStops P Q b t → (a ≡ b) × (s ≡ t)
+ends_one P Q a b s t ends stops not_both not_either (inl x) (inl y) = (ends x.1 y.1, x.0 ∙ sym y.0)
+ends_one P Q a b s t ends stops not_both not_either (inr x) (inr y) = (stops x.1 y.1, x.0 ∙ sym y.0)
+ends_one P Q a b s t ends stops not_both not_either (inl x) (inr y) = absurd (not_both x.1 y.1)
+ends_one P Q a b s t ends stops not_both not_either (inr x) (inl y) = absurd (not_either y.1 x.1)
+
+-- a run that is cut off sends too much
+pub too_much : (input output : List ℕ) → Stops input output → TextSendsTooMuch input
+too_much input output x = record { plan = x.plan; lines = x.lines; script = x.script; stops = x.stopped.stops }
+
+stopped_one : TextsAgree → (input a b : List ℕ) → Stops input a → Stops input b → a ≡ b
+stopped_one k input a b x y =
+    let one = one_script input x.plan y.plan x.lines y.lines x.script y.script in
+    let at_plan : IsStoppedText x.plan y.lines b = subst (λ (p : WorldPlan). IsStoppedText p y.lines b) (sym one.0) y.stopped in
+    k.stopped x.plan x.lines a b x.stopped (subst (λ (ls : List Line). IsStoppedText x.plan ls b) (sym one.1) at_plan)
 
 same_status : (s t : Status) (f g : Option Finding) → s ≡ status_of f → t ≡ status_of g → f ≡ g → s ≡ t
 same_status s t f g is_s is_t e = is_s ∙ ap status_of e ∙ sym is_t
 
-pub tasks_are_functions : TasksAreFunctions
-tasks_are_functions Show limit input a b s t some bytes x y =
+show_one : (limit : ℕ) (input a b : List ℕ) (s t : Status) → AllBytes input → ShowMakes limit input a s → ShowMakes limit input b t → (a ≡ b) × (s ≡ t)
+show_one limit input a b s t bytes x y =
     let p = show_finding limit input a s x in
     let q = show_finding limit input b t y in
     let one = shows_one limit input a b p.finding q.finding bytes p.holds q.holds in
     (one.0, same_status s t p.finding q.finding p.is q.is one.1)
-tasks_are_functions Pack limit input a b s t some bytes x y =
+
+pack_one : (limit : ℕ) (input a b : List ℕ) (s t : Status) → PackMakes limit input a s → PackMakes limit input b t → (a ≡ b) × (s ≡ t)
+pack_one limit input a b s t x y =
     let p = pack_finding limit input a s x in
     let q = pack_finding limit input b t y in
     let one = packs_one limit input a b p.finding q.finding p.holds q.holds in
     (one.0, same_status s t p.finding q.finding p.is q.is one.1)
-tasks_are_functions Replay limit input a b s t some bytes x y =
-    let p = replay_ok input a s x in
-    let q = replay_ok input b t y in
-    (replays_one input a b p.1 q.1, p.0 ∙ sym q.0)
+
+replay_one : TextsAgree → RunsOrStops → (input a b : List ℕ) (s t : Status) → ReplayMakes input a s → ReplayMakes input b t → (a ≡ b) × (s ≡ t)
+replay_one k j input a b s t x y =
+    ends_one (Replays input) (Stops input) a b s t (k.replays input a b) (stopped_one k input a b) (λ ends stops. j.replays input a ends (too_much input b stops))
+    (λ ends stops. j.replays input b ends (too_much input a stops)) (replay_end input a s x) (replay_end input b t y)
+
+gen_one : TextsAgree → RunsOrStops → (number : ℕ) (a b : List ℕ) (s t : Status) → GenMakes number a s → GenMakes number b t → (a ≡ b) × (s ≡ t)
+gen_one k j number a b s t x y =
+    ends_one (Summarizes number) (NothingOf number) a b s t (k.summaries (script_of number) number a b) (λ p q. p.0 ∙ sym q.0) (λ ends stops. j.summaries (script_of number) number a ends stops.1)
+    (λ ends stops. j.summaries (script_of number) number b ends stops.1) (gen_end number a s x) (gen_end number b t y)
+
+pub tasks_are_functions : TextsAgree → RunsOrStops → TasksAreFunctions
+tasks_are_functions k j Show limit input a b s t some bytes x y = show_one limit input a b s t bytes x y
+tasks_are_functions k j Pack limit input a b s t some bytes x y = pack_one limit input a b s t x y
+tasks_are_functions k j Replay limit input a b s t some bytes x y = replay_one k j input a b s t x y
+tasks_are_functions k j (Gen number) limit input a b s t some bytes x y = gen_one k j number a b s t x y
+
+-- the run of a short script doesn't send too much
+short_runs : (input : List ℕ) (plan : WorldPlan) (lines : List Line) → IsShortScript input plan lines → ¬ TextSendsTooMuch input
+short_runs input plan lines short x =
+    let one = one_script input x.plan plan x.lines lines x.script short.script in
+    let at_plan : SendsTooMuch plan x.lines = subst (λ (p : WorldPlan). SendsTooMuch p x.lines) one.0 x.stops in
+    short.fits (subst (λ (ls : List Line). SendsTooMuch plan ls) one.1 at_plan)
+
+pub whole_runs : (task : Task) (limit : ℕ) (input : List ℕ) → RunsTooFar task input → ¬ IsWholeInput task limit input
+whole_runs Show limit input far whole = far
+whole_runs Pack limit input far whole = far
+whole_runs Replay limit input far whole = short_runs input whole.0 whole.1 whole.2 far
+whole_runs (Gen number) limit input far whole = whole far
+
+-- what is made with this status stops no whole run
+pub stops_too_far : (task : Task) (limit : ℕ) (input output : List ℕ) → Makes task limit input output status.TooLarge → RunsTooFar task input
+stops_too_far Show limit input output x = absurd x
+stops_too_far Pack limit input output x = absurd x
+stops_too_far Replay limit input output x = too_much input output x
+stops_too_far (Gen number) limit input output x = x.1
+
+well_unless : (P Q : List ℕ → Type 0) (output : List ℕ) (s : Status) → EndsOrStops P Q output s → ¬ Q output → s ≡ status.Ok
+well_unless P Q output s (inl x) not = x.0
+well_unless P Q output s (inr x) not = absurd (not x.1)
 
 pub whole_inputs_end_well : WholeInputsEndWell
 whole_inputs_end_well Show limit input output ended some bytes whole x =
-    (tasks_are_functions Show limit input output (shown whole.0) ended status.Ok some bytes x (shows_whole limit whole.0 input some whole.1)).1
+    (show_one limit input output (shown whole.0) ended status.Ok bytes x (shows_whole limit whole.0 input some whole.1)).1
 whole_inputs_end_well Pack limit input output ended some bytes whole x =
-    (tasks_are_functions Pack limit input output (encoded whole.0) ended status.Ok some bytes x (packs_whole limit whole.0 input whole.1)).1
-whole_inputs_end_well Replay limit input output ended some bytes whole x = (replay_ok input output ended x).0
+    (pack_one limit input output (encoded whole.0) ended status.Ok x (packs_whole limit whole.0 input whole.1)).1
+whole_inputs_end_well Replay limit input output ended some bytes whole x =
+    well_unless (Replays input) (Stops input) output ended (replay_end input output ended x) (λ stops. whole_runs Replay limit input (too_much input output stops) whole)
+whole_inputs_end_well (Gen number) limit input output ended some bytes whole x =
+    well_unless (Summarizes number) (NothingOf number) output ended (gen_end number output ended x) (λ stops. whole stops.1)
 
 -- no finding of a task is want of memory
 
@@ -274,18 +350,8 @@ makes_found Show limit input output s x =
 makes_found Pack limit input output s x =
     let p = pack_finding limit input output s x in
     subst IsOfInput (sym p.is) (stop_found limit (length p.holds.messages) p.holds.others p.finding p.holds.stops)
-makes_found Replay limit input output s x = subst IsOfInput (sym (replay_ok input output s x).0) tt
-
--- what a task makes is done once it is written
-
-finding_done : (f : Option Finding) → IsDone (status_of f)
-finding_done None = tt
-finding_done (Some f) = tt
-
-pub makes_done : (task : Task) (limit : ℕ) (input output : List ℕ) (s : Status) → Makes task limit input output s → IsDone s
-makes_done Show limit input output s x = let p = show_finding limit input output s x in subst IsDone (sym p.is) (finding_done p.finding)
-makes_done Pack limit input output s x = let p = pack_finding limit input output s x in subst IsDone (sym p.is) (finding_done p.finding)
-makes_done Replay limit input output s x = subst IsDone (sym (replay_ok input output s x).0) tt
+makes_found Replay limit input output s x = elim (replay_end input output s x) [ inl e ↦ subst IsOfInput (sym e.0) tt | inr e ↦ subst IsOfInput (sym e.0) tt ]
+makes_found (Gen number) limit input output s x = elim (gen_end number output s x) [ inl e ↦ subst IsOfInput (sym e.0) tt | inr e ↦ subst IsOfInput (sym e.0) tt ]
 
 -- the status of what `show` found
 pub show_made : (limit : ℕ) (input output : List ℕ) (f : Option Finding) (s : Status) → s ≡ status_of f → Shows limit input output f → ShowMakes limit input output s
@@ -311,7 +377,8 @@ written_whole P task named limit input before after (Ok s) some bytes is makes w
 written_whole P task named limit input before after (Err e) some bytes is makes w = tt
 
 -- no line of a whole input is bad
-pub no_bad_line : (task : Task) (limit : ℕ) (input : List ℕ) (line : ℕ) → IsBadScript task input line → ¬ IsWholeInput task limit input
-no_bad_line Show limit input line bad whole = bad
-no_bad_line Pack limit input line bad whole = bad
-no_bad_line Replay limit input line bad whole = bad.1 whole.0 whole.1.script
+pub no_bad_input : (task : Task) (limit : ℕ) (input : List ℕ) (line : ℕ) → IsBadScript task input line → ¬ IsWholeInput task limit input
+no_bad_input Show limit input line bad whole = bad
+no_bad_input Pack limit input line bad whole = bad
+no_bad_input Replay limit input line bad whole = no_bad_line input whole.0 whole.1 line whole.2.script bad.0
+no_bad_input (Gen number) limit input line bad whole = bad

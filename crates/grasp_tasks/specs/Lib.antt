@@ -1,5 +1,6 @@
 pub mod Ending
 pub mod Finish
+pub mod Gen
 pub mod Laws
 pub mod Limits
 pub mod Pack
@@ -7,5 +8,6 @@ pub mod Replay
 pub mod Show
 pub mod Step
 pub mod Task
+pub mod Unfinished
 pub mod Words
 pub mod Written

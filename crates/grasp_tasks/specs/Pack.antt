@@ -1,11 +1,11 @@
 -- What `pack` makes of its input.
 use Rattle.std.specs.Prelude.{◌≡◌, ◌<◌, ℕ, ◌+◌, List, [], ◌∷◌, ◌++◌, Option, None, Some, All, length, map}
 use Rattle.grasp_cbor.specs.Shortest.{shortest}
+use Rattle.grasp_network_script.specs.Scripts.{text_lines}
 use Rattle.grasp_types.specs.Message.{item_of}
 use Rattle.grasp_types.specs.declared.message.Message.{Message}
 use Rattle.grasp_text.specs.Line.{line_of, IsLineOf, IsNoLine}
 use Rattle.grasp_text.specs.Place.{IsPlace}
-use Rattle.grasp_script.specs.Script.{lines_of}
 use Rattle.grasp_wire.specs.Laws.{encoded, IsSendable}
 use Rattle.grasp_tasks.specs.declared.exit.Finding.{Finding}
 use Rattle.grasp_tasks.specs.declared.exit.Finding.TheVariants.{Cut, Truncated, BadText, TooLong}
@@ -57,7 +57,7 @@ pub record CanPack (limit : ℕ) (message : Message) : Type 0 where
 pub record Packs (limit : ℕ) (input output : List ℕ) (finding : Option Finding) : Type 0 where
   pub messages : List Message
   pub others : List (List ℕ)
-  pub lines : lines_of input ≡ map line_of messages ++ others
+  pub lines : text_lines input ≡ map line_of messages ++ others
   pub can : All (CanPack limit) messages
   pub output_is : output ≡ encoded messages
   pub stops : StopsAt limit (length messages) others finding

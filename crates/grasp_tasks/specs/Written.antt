@@ -4,7 +4,7 @@ use Rattle.std.specs.Io.KnownBytes.{Appends}
 use Rattle.grasp_io.specs.Known.{AppendsFront}
 use Rattle.grasp_tasks.specs.declared.exit.Status.{Status}
 use Rattle.grasp_tasks.specs.declared.unfinished.Unfinished.{Unfinished}
-use Rattle.grasp_tasks.specs.declared.unfinished.Unfinished.TheVariants.{TooLarge, BadScript, OutOfMemory, WriteFault}
+use Rattle.grasp_tasks.specs.declared.unfinished.Unfinished.TheVariants.{TooLarge, BadScript, TooMuch, OutOfMemory, WriteFault}
 
 -- an output that P has with this status was written after what was written before
 pub record Writes (P : List ℕ → Status → Type 0) (before after : Option (List ℕ)) (ended : Status) : Type 0 where
@@ -25,3 +25,4 @@ IsStop OutOfMemory = ⊤
 IsStop WriteFault = ⊤
 IsStop TooLarge = ⊥
 IsStop (BadScript line) = ⊥
+IsStop TooMuch = ⊥

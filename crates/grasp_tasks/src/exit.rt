@@ -38,7 +38,8 @@ pub enum Status {
     WriteFault,
     /// There was no memory for the call.
     OutOfMemory,
-    /// The input has more than 16,777,216 bytes, or it is to be run as a script and has more than 200,000 lines.
+    /// The input has more than 16,777,216 bytes, or it is to be run as a script and has more than 200,000 lines: then nothing
+    /// was written. Or a script that was run sends more than may be sent: then what it reports before that was written.
     TooLarge,
 }
 
@@ -77,7 +78,7 @@ pub fn fault_line(alloc: Global, status: &Status) -> Result<Chars, OutOfMemory>
     match status {
         Status::Ok => Ok(Chars::new(alloc)),
         Status::Finding(finding) => finding_line(alloc, finding),
-        Status::Usage => Chars::of(alloc, "usage: grasp_replay show|pack|replay"),
+        Status::Usage => Chars::of(alloc, "usage: grasp_replay show|pack|replay|gen N"),
         Status::BadScript { line } => numbered(alloc, "bad script in line", *line),
         Status::ReadFault => Chars::of(alloc, "read fault"),
         Status::WriteFault => Chars::of(alloc, "write fault"),

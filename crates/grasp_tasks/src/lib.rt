@@ -1,8 +1,9 @@
 //! The tasks of the tool for GRASP (RFC 8990): `show` writes a line for each message of a stream, `pack` a message for
-//! each line, and `replay` what each event of a script of two nodes comes to. One call, `replay_main`, does all of it over
-//! any source and sink.
+//! each line, `replay` what each line of a script of a network comes to, and `gen` what the run of a script came to that is
+//! drawn from a number. One call, `replay_main`, does all of it over any source and sink.
 #![tactic(auto)]
 
+mod drawn;
 mod ending;
 mod exit;
 mod laws;

@@ -1,13 +1,13 @@
 // The lines of a text.
 ghost use Rattle.std.specs.Prelude.{◌≡◌, ◌≢◌, ◌<◌, ◌∷◌, [], length};
-ghost use Rattle.grasp_script.specs.Script.{lines_of};
+ghost use Rattle.grasp_network_script.specs.Scripts.{text_lines};
 
 use memchr::memchr;
 
 /// The first line, without its line feed, and what comes behind it.
 pub fn split_line(text: &[u8]) -> (&[u8], &[u8])
     requires { text.now ≢ [] }
-    ensures first { lines_of text.now ≡ result.0.now ∷ lines_of result.1.now }
+    ensures first { text_lines text.now ≡ result.0.now ∷ text_lines result.1.now }
     ensures less { length result.1.now < length text.now }
 {
     match memchr(b'\n', text) {
@@ -18,7 +18,7 @@ pub fn split_line(text: &[u8]) -> (&[u8], &[u8])
 
 /// How many lines the text has.
 pub fn count_lines(text: &[u8]) -> u64
-    ensures { result ≡ length (lines_of text.now) }
+    ensures { result ≡ length (text_lines text.now) }
 {
     let mut rest = text;
     let mut count = 0;

@@ -1,4 +1,4 @@
-use Rattle.grasp_script.proofs.Splitting.{line_before, one_line}
+use Rattle.grasp_network_script.proofs.Splitting.{line_before, one_line}
 use Rattle.grasp_tasks.proofs.Counting.{has_bytes}
 use Rattle.grasp_tasks.proofs.lines.split_line.Goals as goal
 

@@ -5,7 +5,7 @@ use Rattle.grasp_tasks.proofs.program.replay_main.Goals as goal
 
 -- how the program ends, as `run` tells it
 ends : (g : _) (c : goal.After-run g)
-    → Ends (Rose (g.S.Source.faults c.args.source.now) (g.S.Source.faults c.run.new.source)) (Rose (g.K.Sink.faults c.args.sink.now) (g.K.Sink.faults c.run.new.sink)) c.in-Some.task 2048
+    → Ends (Rose (g.S.Source.faults c.args.source.now) (g.S.Source.faults c.run.new.source)) (Rose (g.K.Sink.faults c.args.sink.now) (g.K.Sink.faults c.run.new.sink)) (c.run.new.sink ≡ c.args.sink.now) c.in-Some.task 2048
     (g.S.Source.left c.args.source.now) (g.K.Sink.written c.args.sink.now) (g.K.Sink.written c.run.new.sink) c.run.result
 ends g c = record {
   no_usage = c.run.ensures.no_usage;
@@ -25,14 +25,14 @@ returns-in-Some-clause-small g c = λ task e.
 pub returns-in-Some-clause-complete : goal.returns-in-Some-clause-complete
 returns-in-Some-clause-complete g c = λ task e.
     let same : c.in-Some.task ≡ task = cc (c.in-Some.ensures, e) in
-    rw (← same) (ends_as_told _ _ c.in-Some.task 2048 _ _ _ c.run.result (ends g c))
+    rw (← same) (ends_as_told _ _ _ c.in-Some.task 2048 _ _ _ c.run.result (ends g c))
 
 pub returns-in-Some-clause-complete_large : goal.returns-in-Some-clause-complete_large
 returns-in-Some-clause-complete_large g c = λ task e.
     let same : c.in-Some.task ≡ task = cc (c.in-Some.ensures, e) in
-    rw (← same) (ends_too_large _ _ c.in-Some.task 2048 _ _ _ c.run.result (ends g c))
+    rw (← same) (ends_too_large _ _ _ c.in-Some.task 2048 _ _ _ c.run.result (ends g c))
 
 pub returns-in-Some-clause-complete_whole : goal.returns-in-Some-clause-complete_whole
 returns-in-Some-clause-complete_whole g c = λ task e.
     let same : c.in-Some.task ≡ task = cc (c.in-Some.ensures, e) in
-    rw (← same) (ends_whole _ _ c.in-Some.task 2048 _ _ _ c.run.result (ends g c) c.run.ensures.whole)
+    rw (← same) (ends_whole _ _ _ c.in-Some.task 2048 _ _ _ c.run.result (ends g c) c.run.ensures.whole)

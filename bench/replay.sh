@@ -1,0 +1,47 @@
+#!/bin/sh
+# Times `grasp_replay gen` and `grasp_replay replay`.
+#
+#   bench/replay.sh
+#
+# It needs the Rattle kit's `rt` and python3. The files that it makes are in a folder of /tmp. It prints seconds of processor
+# time, the best of five runs each: for the 20,000 events of `gen 7`, and for `replay` of scripts of 50,000, 100,000 and
+# 200,000 lines, which are made by the rule of the drawn ones.
+set -eu
+here=$(cd "$(dirname "$0")" && pwd)
+work=$(mktemp -d)
+trap 'rm -rf "$work"' EXIT
+
+(cd "$here/../crates/grasp_replay" && rt run -- --version)
+program=$here/../crates/grasp_replay/out/grasp_replay
+
+# A script of so many rounds, of 25 lines each.
+script() {
+    PYTHONPATH=$here/../fuzz python3 -B -c '
+import sys
+from fuzz_scripts import drawn
+head, lines = drawn(7, int(sys.argv[1]))
+print("\n".join(head + lines))' "$1" >"$2"
+}
+
+# The least processor time of five calls of a program with this input.
+best() {
+    python3 - "$@" <<'PYTHON'
+import resource, subprocess, sys
+best = None
+for _ in range(5):
+    before = resource.getrusage(resource.RUSAGE_CHILDREN)
+    with open(sys.argv[1], "rb") as data:
+        done = subprocess.run(sys.argv[2:], stdin=data, stdout=subprocess.DEVNULL)
+    after = resource.getrusage(resource.RUSAGE_CHILDREN)
+    assert done.returncode == 0, done.returncode
+    spent = after.ru_utime + after.ru_stime - before.ru_utime - before.ru_stime
+    best = spent if best is None else min(best, spent)
+print(f"{best:.3f}")
+PYTHON
+}
+
+echo "gen 7: $(best /dev/null "$program" gen 7) s"
+for rounds in 1999 3999 7999; do
+    script "$rounds" "$work/script"
+    echo "replay of $(wc -l <"$work/script") lines: $(best "$work/script" "$program" replay) s"
+done
