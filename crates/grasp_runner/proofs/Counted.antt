@@ -1,15 +1,14 @@
 -- What is counted of a run.
-use Rattle.std.proofs.Common.{◌≡◌, ◌<◌, ◌≤◌, ◌+◌, ◌-◌, ◌^◌, refl, sym, ap, ◌∙◌, subst, arith, ℕ, cond, Bool, true, false, List, [], ◌∷◌, ◌++◌, append_assoc, length, length-append, take, drop, Some, Result, Ok, Err}
+use Rattle.std.proofs.Common.{◌≡◌, ◌<◌, ◌≤◌, ◌+◌, ◌-◌, ◌^◌, refl, sym, ap, ◌∙◌, subst, arith, ℕ, cond, Bool, List, [], ◌∷◌, ◌++◌, length, length-append, take, drop, Some, Ok, Err}
 use Rattle.std.proofs.lemmas.List.{append-nil, take_all}
-use Rattle.std.proofs.lemmas.List.Sums.{sum_by_push, sum_by_more, count_by-le-length}
-use Rattle.std.proofs.lemmas.Option.{slice_get_within, get_or_from_slice_get}
-use Rattle.std.specs.List.{slice_get, count_by, sum_by}
+use Rattle.std.proofs.lemmas.List.Sums.{sum_by_push, count_by-le-length}
+use Rattle.std.specs.List.{slice_get}
 use Rattle.grasp_text.proofs.Pushed.{one_pushed, some_pushed}
 use Rattle.grasp_network.specs.Runs.{reports_from, world_of}
 use Rattle.grasp_network.specs.Setting.{Setting, script_setting}
 use Rattle.grasp_network.specs.Visits.{Choice, no_choice}
 use Rattle.grasp_network.specs.Plans.{IsNode}
-use Rattle.grasp_network.specs.World.{Seat, WorldState}
+use Rattle.grasp_network.specs.World.{WorldState}
 use Rattle.grasp_network.specs.declared.event.Event.{Event}
 use Rattle.grasp_network.specs.declared.plan.WorldPlan.{WorldPlan}
 use Rattle.grasp_network.specs.declared.report.Report.{Report}
@@ -23,12 +22,12 @@ use Rattle.grasp_types.specs.declared.session.Outcome.{Outcome}
 use Rattle.grasp_scenarios.proofs.MoreLines.{reports_more}
 use Rattle.grasp_scenarios.specs.LineRuns.{LineRun, placed_event}
 use Rattle.grasp_simulator.specs.Contract.{Reported}
-use Rattle.grasp_scenarios.specs.ScriptRuns.{network_after, lines_of, happenings_from}
+use Rattle.grasp_scenarios.specs.ScriptRuns.{network_after, happenings_from}
 use Rattle.grasp_scenarios.specs.Summary.{count_ends, has_end, is_agreed, is_broken, is_declined, reports_of, told_end}
 use Rattle.grasp_simulator.specs.WorldStands.{WorldStands}
 use Rattle.grasp_simulator.specs.declared.world.World.{World}
-use Rattle.grasp_runner.specs.Lines.{CanRun, MeetsLine, RunsEvent, network_at}
-use Rattle.grasp_runner.specs.Passing.{HasRun, IsReady}
+use Rattle.grasp_runner.specs.Lines.{MeetsLine, RunsEvent}
+use Rattle.grasp_runner.specs.Passing.{IsReady}
 use Rattle.grasp_runner.specs.Scripts.{IsRead, fault_of}
 use Rattle.grasp_runner.specs.Tallies.{ActCounted, ActCounts, CanCount, CountsAct, CountsLines, HasCounted, IsTally, act_reports}
 use Rattle.grasp_runner.specs.declared.fault.RunFault.{RunFault}

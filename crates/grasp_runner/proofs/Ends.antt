@@ -1,8 +1,8 @@
 -- How the run of a script ends.
-use Rattle.std.proofs.Common.{◌≡◌, refl, sym, ap, ◌∙◌, subst, ℕ, List, [], ◌∷◌, ◌++◌, Option, None, Some, Result, Ok, Err, OnErr}
+use Rattle.std.proofs.Common.{◌≡◌, refl, ◌∙◌, subst, ℕ, List, [], ◌∷◌, ◌++◌, Option, None, Some, Result, Ok, Err, OnErr}
 use Rattle.std.proofs.lemmas.List.{append-nil}
 use Rattle.std.specs.Io.KnownBytes.{Appends}
-use Rattle.grasp_io.specs.Known.{AppendsFront, Passes}
+use Rattle.grasp_io.specs.Known.{AppendsFront}
 use Rattle.grasp_io.proofs.Streams.{passes_held, passes_then_all, passes_then_held}
 use Rattle.grasp_network.specs.Plans.{IsGoodPlan}
 use Rattle.grasp_network.specs.Runs.{world_of}

@@ -1,5 +1,5 @@
 -- The events of a script's lines may be asked for.
-use Rattle.std.proofs.Common.{◌≡◌, ◌≢◌, refl, sym, subst, arith, tests, ℕ, ◌==◌, nat_le, Bool, true, false, length}
+use Rattle.std.proofs.Common.{◌≡◌, ◌≢◌, sym, subst, arith, tests, ℕ, ◌==◌, nat_le, true, length}
 use Rattle.grasp_types.specs.declared.call.Call.{Call}
 use Rattle.grasp_types.specs.declared.call.Call.TheVariants.{RegisterAsa, DeregisterAsa, RegisterObjective, DeregisterObjective, Discover, RequestNegotiate, ListenNegotiate, StopListenNegotiate, NegotiateStep, NegotiateWait, EndNegotiate, SendInvalid, Poll, Synchronize, ListenSynchronize, StopListenSynchronize, Flood, GetFlood, ExpireFlood}
 use Rattle.grasp_network.specs.Events.{IsFit, IsFitAmong}

@@ -1,12 +1,11 @@
 -- Counting the prefixes of all nodes.
-use Rattle.std.proofs.Common.{◌≡◌, ◌<◌, ◌≤◌, ◌+◌, ◌-◌, ◌*◌, refl, sym, ap, ◌∙◌, subst, arith, ℕ, zero, suc, List, [], ◌∷◌, length, take, Some, None}
+use Rattle.std.proofs.Common.{◌≡◌, ◌<◌, ◌≤◌, ◌+◌, ◌-◌, refl, sym, ap, ◌∙◌, subst, arith, ℕ, zero, suc, List, [], ◌∷◌, length, take, Some, None}
 use Rattle.std.proofs.lemmas.List.{take_all}
 use Rattle.std.proofs.lemmas.List.Sums.{sum_by_more}
 use Rattle.std.proofs.lemmas.Option.{slice_get_within, get_or_from_slice_get}
 use Rattle.std.specs.List.{slice_get, sum_by}
 use Rattle.grasp_types.specs.Prefix.{AddressBlock}
 use Rattle.grasp_agent.specs.States.{AgentState}
-use Rattle.grasp_pool.specs.Holdings.{Holding}
 use Rattle.grasp_network.proofs.GoodPlans.{not_zero}
 use Rattle.grasp_network.specs.Plans.{IsNode}
 use Rattle.grasp_network.specs.Setting.{Setting}

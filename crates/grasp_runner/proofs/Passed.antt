@@ -19,12 +19,11 @@ use Rattle.grasp_network_script.specs.declared.script.Script.{Script}
 use Rattle.grasp_scenarios.proofs.MoreLines.{lines_more, may_run_more, network_more, told_more}
 use Rattle.grasp_scenarios.specs.LineRuns.{LineRun, MayComeOut, after_act}
 use Rattle.grasp_scenarios.specs.ScriptRuns.{MayRunAll, lines_of, network_after, told_from, told_of}
-use Rattle.grasp_scenarios.specs.Stops.{LineOverflows}
 use Rattle.grasp_simulator.specs.Contract.{network_of}
 use Rattle.grasp_simulator.specs.WorldStands.{WorldStands}
 use Rattle.grasp_simulator.specs.declared.world.World.{World}
 use Rattle.grasp_runner.specs.Lines.{CanRun, LineReported, MeetsLine, RunsLine, network_at}
-use Rattle.grasp_runner.specs.Passing.{AllWritten, BegunWritten, HasRun, HasWritten, IsReady, LinePassed, LineBegun, LineStopped, LinePasses, PassesLine, StopsSo, StoppedWritten, WritesLines, ended_told}
+use Rattle.grasp_runner.specs.Passing.{AllWritten, HasRun, HasWritten, IsReady, LinePassed, LineBegun, LinePasses, PassesLine, WritesLines, ended_told}
 use Rattle.grasp_runner.specs.Scripts.{IsRead, fault_of}
 use Rattle.grasp_runner.specs.declared.fault.RunFault.{RunFault}
 use Rattle.grasp_runner.specs.declared.fault.RunFault.TheVariants as fault

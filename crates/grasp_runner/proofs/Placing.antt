@@ -6,7 +6,7 @@ use Rattle.grasp_network.proofs.GoodPlans.{count_numbers, member_count, not_zero
 use Rattle.grasp_network.proofs.Opened.{map_length}
 use Rattle.grasp_network.specs.Events.{IsFit}
 use Rattle.grasp_network.specs.Plans.{IsNode}
-use Rattle.grasp_network.specs.Setting.{Setting, numbered, numbers_from, script_locator, script_setting}
+use Rattle.grasp_network.specs.Setting.{Setting, numbers_from, script_locator, script_setting}
 use Rattle.grasp_network.specs.World.{Seat, WorldState, seat_at}
 use Rattle.grasp_network.specs.declared.event.Event.{Event}
 use Rattle.grasp_network.specs.declared.event.Event.TheVariants as event
@@ -14,7 +14,6 @@ use Rattle.grasp_network.specs.declared.plan.WorldPlan.{WorldPlan}
 use Rattle.grasp_network.specs.declared.report.Report.{Report}
 use Rattle.grasp_network.specs.declared.report.WorldStop.{WorldStop}
 use Rattle.grasp_network.specs.declared.report.WorldStop.TheVariants as stop
-use Rattle.grasp_network_script.specs.declared.line.LineAct.{LineAct}
 use Rattle.grasp_network_script.specs.declared.line.LineAct.TheVariants as act
 use Rattle.grasp_scenarios.specs.LineRuns.{placed_call, placed_event}
 use Rattle.grasp_simulator.proofs.SeatLists.{seats_length}

@@ -1,5 +1,5 @@
 -- The summary of a run.
-use Rattle.std.proofs.Common.{◌≡◌, refl, sym, ap, ◌∙◌, subst, ℕ, List, [], ◌∷◌, ◌++◌, length, Option}
+use Rattle.std.proofs.Common.{◌≡◌, sym, ap, ◌∙◌, subst, ℕ, List, [], ◌∷◌, ◌++◌, Option}
 use Rattle.std.specs.Io.KnownBytes.{Appends}
 use Rattle.grasp_io.specs.Known.{AppendsFront}
 use Rattle.grasp_network.specs.Runs.{world_of}
@@ -8,12 +8,11 @@ use Rattle.grasp_network.specs.World.{WorldState}
 use Rattle.grasp_network.specs.declared.plan.WorldPlan.{WorldPlan}
 use Rattle.grasp_network.specs.declared.report.Report.{Report}
 use Rattle.grasp_network_script.specs.Scripts.{IsScript}
-use Rattle.grasp_network_script.specs.declared.line.Line.{Line}
 use Rattle.grasp_network_script.specs.declared.script.Script.{Script}
 use Rattle.grasp_scenarios.specs.Laws.{EachRunIsSafe}
 use Rattle.grasp_scenarios.specs.ScriptRuns.{network_after}
 use Rattle.grasp_scenarios.specs.Stops.{SendsTooMuch, TextSendsTooMuch}
-use Rattle.grasp_scenarios.specs.Summary.{Counts, IsSummary, counts_line, counts_of, last_network, reports_of}
+use Rattle.grasp_scenarios.specs.Summary.{Counts, IsSummary, counts_line, counts_of, reports_of}
 use Rattle.grasp_simulator.specs.declared.world.World.{World}
 use Rattle.grasp_runner.specs.Scripts.{IsRead}
 use Rattle.grasp_runner.specs.Tallies.{HasCounted, HasNodes, IsCounted, IsSummaryLine, IsTally, TellsCounts, counted_of}

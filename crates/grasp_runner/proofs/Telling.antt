@@ -13,9 +13,9 @@ use Rattle.grasp_network_script.specs.Reports.{told_report, told_state}
 use Rattle.grasp_network_script.specs.declared.line.LineAct.{LineAct}
 use Rattle.grasp_network_script.specs.declared.line.LineAct.TheVariants as act
 use Rattle.grasp_scenarios.specs.LineRuns.{event_told, seat_told}
-use Rattle.grasp_simulator.specs.WorldStands.{WorldStands, LendsAgent}
+use Rattle.grasp_simulator.specs.WorldStands.{LendsAgent}
 use Rattle.grasp_simulator.specs.declared.world.World.{World}
-use Rattle.grasp_runner.specs.Lines.{LineMayStop, LookAnswers, MeetsLine, RunsAct, RunsEvent, RunsLook, TellsEvent, network_at}
+use Rattle.grasp_runner.specs.Lines.{LineMayStop, MeetsLine, RunsAct, RunsEvent, RunsLook, TellsEvent}
 use Rattle.grasp_runner.proofs.Placing.{IsThere, node_there, seats_here}
 
 -- ---- events

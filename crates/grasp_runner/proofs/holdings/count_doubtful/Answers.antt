@@ -1,4 +1,4 @@
-use Rattle.std.proofs.Common.{◌≡◌, None, Some, sym, ◌∙◌, arith}
+use Rattle.std.proofs.Common.{sym, ◌∙◌}
 use Rattle.std.proofs.lemmas.Option.{none-some}
 use Rattle.grasp_runner.proofs.Holding.{ends_here, goes_on}
 use Rattle.grasp_runner.proofs.holdings.count_doubtful.Goals as goal

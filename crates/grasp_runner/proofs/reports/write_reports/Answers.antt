@@ -1,4 +1,4 @@
-use Rattle.grasp_runner.proofs.Ends.{begun_nothing, good_plan, on_err, ready}
+use Rattle.grasp_runner.proofs.Ends.{begun_nothing, on_err}
 use Rattle.grasp_runner.proofs.reports.write_reports.Goals as goal
 
 pub returns-in_err-plan-clause-begun : goal.returns-in_err-plan-clause-begun
