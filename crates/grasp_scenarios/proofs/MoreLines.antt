@@ -1,9 +1,8 @@
 -- One line more of a run.
 use Rattle.std.proofs.Common.{◌≡◌, refl, sym, ap, ◌∙◌, ℕ, List, [], ◌∷◌, ◌++◌, append_assoc}
 use Rattle.std.proofs.lemmas.List.{append-nil}
-use Rattle.grasp_network.specs.Runs.{Happening, reports_from}
+use Rattle.grasp_network.specs.Runs.{reports_from}
 use Rattle.grasp_network.specs.Setting.{Setting}
-use Rattle.grasp_network.specs.Visits.{Choice}
 use Rattle.grasp_network.specs.World.{WorldState}
 use Rattle.grasp_network.specs.declared.report.Report.{Report}
 use Rattle.grasp_network_script.specs.declared.line.Line.{Line}

@@ -1,14 +1,11 @@
 -- A script has one run.
-use Rattle.std.proofs.Common.{◌≡◌, refl, sym, ap, ◌∙◌, subst, ℕ, List, [], ◌∷◌, ◌++◌, All, append_assoc}
+use Rattle.std.proofs.Common.{◌≡◌, refl, sym, ap, ◌∙◌, subst, ℕ, List, [], ◌∷◌, ◌++◌, All}
 use Rattle.std.proofs.lemmas.List.Elements.{All-head}
-use Rattle.grasp_network.proofs.Going.{reached_more}
-use Rattle.grasp_network.specs.Events.{Occurs}
 use Rattle.grasp_network.specs.Keeping.{IsSameOutcome}
 use Rattle.grasp_network.specs.Runs.{Happening, IsReached, reports_from, world_of}
 use Rattle.grasp_network.specs.Setting.{Setting, script_setting}
 use Rattle.grasp_network.specs.Visits.{Choice}
 use Rattle.grasp_network.specs.World.{WorldState}
-use Rattle.grasp_network.specs.declared.event.Event.{Event}
 use Rattle.grasp_network.specs.declared.plan.WorldPlan.{WorldPlan}
 use Rattle.grasp_network.specs.declared.report.Report.{Report}
 use Rattle.grasp_network_runs.specs.Agree.{RunsAgree, StopsAgree}
@@ -19,7 +16,7 @@ use Rattle.grasp_network_script.specs.declared.line.LineAct.TheVariants as act
 use Rattle.grasp_scenarios.specs.Laws.{TextsAgree, RunsOrStops}
 use Rattle.grasp_scenarios.specs.LineRuns.{LineRun, MayComeOut, MayRun, placed_event, event_told, act_told, after_act, after_line, line_told}
 use Rattle.grasp_scenarios.specs.Safe.{IsSafe}
-use Rattle.grasp_scenarios.specs.ScriptRuns.{MayRunAll, IsRunText, Replays, RunsSafely, happening_of, happenings_from, lines_of, network_after, networks_from, told_from, told_of}
+use Rattle.grasp_scenarios.specs.ScriptRuns.{MayRunAll, IsRunText, Replays, RunsSafely, happening_of, happenings_from, lines_of, network_after, networks_from, told_from}
 use Rattle.grasp_scenarios.specs.Stops.{LineOverflows, SendsTooMuch, IsStoppedText, TextSendsTooMuch}
 use Rattle.grasp_scenarios.specs.Summary.{IsSummary, counts_line, counts_of, last_network, reports_of, summary_of}
 use Rattle.grasp_scenarios.proofs.RunLaws.{act_reached}

@@ -7,7 +7,7 @@ use Rattle.grasp_network.specs.declared.plan.WorldPlan.{WorldPlan}
 use Rattle.grasp_network.specs.Plans.{IsGoodPlan}
 use Rattle.grasp_scenarios.specs.LineRuns.{LineRun}
 use Rattle.grasp_network_script.specs.declared.line.Line.{Line}
-use Rattle.grasp_scenarios.specs.ScriptRuns.{MayRunAll, networks_from, network_after, happenings_from, RunsSafely, IsRunText, Replays}
+use Rattle.grasp_scenarios.specs.ScriptRuns.{MayRunAll, network_after, happenings_from, RunsSafely, IsRunText, Replays}
 use Rattle.grasp_scenarios.specs.Stops.{SendsTooMuch, IsStoppedText, TextSendsTooMuch}
 use Rattle.grasp_scenarios.specs.Summary.{IsSummary}
 

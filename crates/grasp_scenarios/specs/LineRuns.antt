@@ -1,10 +1,8 @@
 -- What a line of a script does in a network: it is an event, or a look at what a node holds.
-use Rattle.std.specs.Prelude.{ℕ, List, [], ◌∷◌, ◌++◌, codes, Option, None, Some}
-use Rattle.grasp_pool.specs.Holdings.{Holding}
+use Rattle.std.specs.Prelude.{ℕ, List, [], Option, None, Some}
 use Rattle.grasp_types.specs.declared.call.Call.{Call}
 use Rattle.grasp_types.specs.declared.call.Call.TheVariants as call
 use Rattle.grasp_types.specs.declared.session.Handle.{Handle}
-use Rattle.grasp_text.specs.Words.{spaced}
 use Rattle.grasp_network.specs.Events.{IsMember, Occurs, after_event}
 use Rattle.grasp_network.specs.Reports.{report_of}
 use Rattle.grasp_network.specs.Setting.{Setting}

@@ -1,7 +1,6 @@
 -- One line that tells what the run of a script came to. Its layout is this project's own.
 use Rattle.std.specs.Prelude.{◌≡◌, ℕ, Bool, true, false, List, [], ◌∷◌, ◌++◌, Option, None, Some, codes, count_by, decimal, length, sum_by}
 use Rattle.grasp_agent.specs.Replies.{answer_in, progress_in}
-use Rattle.grasp_types.specs.declared.reply.Reply.{Reply}
 use Rattle.grasp_types.specs.declared.session.By.{By}
 use Rattle.grasp_types.specs.declared.session.By.TheVariants.{Mine, Theirs}
 use Rattle.grasp_types.specs.declared.session.Outcome.{Outcome}
@@ -11,7 +10,7 @@ use Rattle.grasp_types.specs.declared.session.Progress.TheVariants as progress
 use Rattle.grasp_text.specs.Words.{spaced}
 use Rattle.grasp_network.specs.Runs.{reports_from, world_of}
 use Rattle.grasp_network.specs.Setting.{script_setting}
-use Rattle.grasp_network.specs.World.{Seat, WorldState}
+use Rattle.grasp_network.specs.World.{WorldState}
 use Rattle.grasp_network.specs.declared.plan.WorldPlan.{WorldPlan}
 use Rattle.grasp_network.specs.declared.report.Report.{Report}
 use Rattle.grasp_network.specs.declared.report.Report.TheVariants as report
