@@ -1,0 +1,11 @@
+pub mod FirstHeld
+pub mod Networks
+pub mod Listings
+pub mod Appearing
+pub mod Speaking
+pub mod Talking
+pub mod Keeping
+pub mod Staying
+pub mod AgentPools
+pub mod Polling
+pub mod Listed
