@@ -8,6 +8,5 @@ pub mod Replay
 pub mod Show
 pub mod Step
 pub mod Task
-pub mod Unfinished
 pub mod Words
 pub mod Written

@@ -14,7 +14,7 @@ use crate::lines::count_lines;
 use crate::unfinished::Unfinished;
 use grasp_io::Sink;
 use grasp_network_script::{Script, ScriptFault, parse_script};
-use grasp_runner::write_reports;
+use grasp_runner::{RunFault, write_reports};
 use std::alloc::Global;
 
 /// The most lines that a script may have.
@@ -35,8 +35,12 @@ pub fn replay<K: Sink>(alloc: Global, input: &[u8], sink: &mut K) -> Result<Stat
     ensures fault { IsErrOf result Unfinished.WriteFault → Rose (K.faults sink.old) (K.faults sink.new) }
 {
     let script = read_script(alloc, input)?;
-    write_reports(alloc, &script, sink)?;
-    Ok(Status::Ok)
+    match write_reports(alloc, &script, sink) {
+        Ok(()) => Ok(Status::Ok),
+        Err(RunFault::TooMuch) => Err(Unfinished::TooMuch),
+        Err(RunFault::OutOfMemory) => Err(Unfinished::OutOfMemory),
+        Err(RunFault::WriteFault) => Err(Unfinished::WriteFault),
+    }
 }
 
 /// The script that the input is.

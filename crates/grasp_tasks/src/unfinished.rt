@@ -1,7 +1,6 @@
 // Why a task ended before all of its output was written.
 use grasp_cbor::OutOfMemory;
 use grasp_io::Failed;
-use grasp_runner::RunFault;
 
 /// Why a task's output wasn't written whole.
 #[derive(Clone, Copy, Debug, PartialEq, Eq)]
@@ -37,20 +36,5 @@ impl From<Failed> for Unfinished {
 
     fn from(_: Failed) -> Unfinished {
         Unfinished::WriteFault
-    }
-}
-
-impl From<RunFault> for Unfinished {
-    ghost use Rattle.std.specs.Prelude.{◌≡◌};
-    ghost use Rattle.grasp_tasks.specs.Unfinished.{unfinished_run};
-
-    ghost from_gives = { λ fault e. e ≡ unfinished_run fault };
-
-    fn from(fault: RunFault) -> Unfinished {
-        match fault {
-            RunFault::TooMuch => Unfinished::TooMuch,
-            RunFault::OutOfMemory => Unfinished::OutOfMemory,
-            RunFault::WriteFault => Unfinished::WriteFault,
-        }
     }
 }
