@@ -1,0 +1,170 @@
+-- Whatever happens, a closed side of a stream stays so, and nothing more is delivered to it.
+use Rattle.std.proofs.Common.{◌≡◌, ◌≢◌, refl, sym, ap, ◌∙◌, subst, ℕ, Bool, true, false, Option, Some, None, slice_get}
+use Rattle.std.proofs.lemmas.Bool.{true≢false}
+use Rattle.std.proofs.lemmas.Option.{none-some}
+use Rattle.grasp_agent.specs.Replies.{after_reply}
+use Rattle.grasp_session.specs.Messages.{Side, Near, Far}
+use Rattle.grasp_types.specs.declared.address.Locator.{Locator}
+use Rattle.grasp_types.specs.declared.reply.Reply.{Reply}
+use Rattle.grasp_network.proofs.Here.{some_same}
+use Rattle.grasp_network.specs.AgentCalls.{after_agent_call}
+use Rattle.grasp_network.specs.Agents.{after_agent}
+use Rattle.grasp_network.specs.Arrivals.{arrived, after_arrival, arrival_by}
+use Rattle.grasp_network.specs.Clocks.{after_clock, wanted_by, wanted_at, after_wanting}
+use Rattle.grasp_network.specs.Cuts.{told, after_cut}
+use Rattle.grasp_network.specs.Deliveries.{after_delivery}
+use Rattle.grasp_network.specs.Events.{visit_of, after_visit, after_none, after_by, after_event, drains, drained_behind}
+use Rattle.grasp_network.specs.Notes.{noted}
+use Rattle.grasp_network.specs.Pieces.{Reached, reached_at, reached_in, reached_side, side_named, delivered, after_piece}
+use Rattle.grasp_network.specs.Runs.{IsReached}
+use Rattle.grasp_network.specs.Sending.{event_drain}
+use Rattle.grasp_network.specs.Setting.{Setting, numbered}
+use Rattle.grasp_network.specs.Talks.{StreamEnd, Arrival, TalkState, told_closed, is_reached, is_waiting, end_at, side_at, talk_numbered, change_at_end, with_delivered, with_far}
+use Rattle.grasp_network.specs.Visits.{Visit, Choice}
+use Rattle.grasp_network.specs.World.{Seat, WorldState, seat_at, end_of}
+use Rattle.grasp_network.specs.declared.event.Event.{Event}
+use Rattle.grasp_network.specs.declared.event.Event.TheVariants as event
+use Rattle.grasp_network_bytes.proofs.FromReady.{distinct}
+use Rattle.grasp_network_bytes.proofs.HeardSteps.{IsReachedSide, reached_is}
+use Rattle.grasp_network_bytes.proofs.OnePlace.{Placed, has_it, numbered_place, one_talk}
+use Rattle.grasp_network_bytes.proofs.Sides.{one_side}
+use Rattle.grasp_network_streams.proofs.Inputs.{Arrives, arrives}
+use Rattle.grasp_network_streams.specs.Ready.{StreamsAreReady}
+use Rattle.grasp_network_outcomes.proofs.Closing.{TalksStay, same_stay, stay_then, change_stays, told_stay, stepped_stay, drained_stay}
+use Rattle.grasp_network_outcomes.specs.Laws.{CutsAreFinal}
+use Rattle.grasp_network_outcomes.specs.Outcomes.{StaysClosed}
+
+-- ---- a side that an event reaches lives
+
+reached_lives : (w : WorldState) (k : ℕ) (side : Side) (x : Reached) → reached_side w k side ≡ Some x → is_reached (side_at x.talk side) ≡ true
+unfolding reached_side
+reached_lives w k side x is = by_talk (talk_numbered w.talks k) is where
+  by_side : (t : TalkState) (b : Bool) (o : Option StreamEnd) → is_reached (side_at t side) ≡ b → reached_at t b o ≡ Some x → is_reached (side_at x.talk side) ≡ true
+  by_side t true None lives e = absurd (none-some x e)
+  by_side t false None lives e = absurd (none-some x e)
+  by_side t false (Some end) lives e = absurd (none-some x e)
+  by_side t true (Some end) lives e = subst (λ (y : Reached). is_reached (side_at y.talk side) ≡ true) (some_same (record { talk = t; at = end }) x e) lives
+
+  by_talk : (o : Option TalkState) → reached_in side o ≡ Some x → is_reached (side_at x.talk side) ≡ true
+  by_talk None e = absurd (none-some x e)
+  by_talk (Some t) e = by_side t (is_reached (side_at t side)) (end_at t side) refl e
+
+-- ---- what is delivered or opened, is so at another side
+
+delivered_elsewhere : (count : ℕ) (t : TalkState) (by side : Side) → by ≢ side → side_at t side ≡ told_closed → StaysClosed side t (with_delivered count t by)
+delivered_elsewhere count t Near Near apart e = absurd (apart refl)
+delivered_elsewhere count t Near Far apart e = record { closed = e; end = refl; delivered = refl }
+delivered_elsewhere count t Far Near apart e = record { closed = e; end = refl; delivered = refl }
+delivered_elsewhere count t Far Far apart e = absurd (apart refl)
+
+opened_elsewhere : (far : StreamEnd) (a : Arrival) (t : TalkState) (by side : Side) → side ≢ Far → side_at t side ≡ told_closed → StaysClosed side t (with_far far a t by)
+opened_elsewhere far a t by Near apart e = record { closed = e; end = refl; delivered = refl }
+opened_elsewhere far a t by Far apart e = absurd (apart refl)
+
+module _ (ready : StreamsAreReady) (s : Setting) (w : WorldState) (r : IsReached s w) where
+  delivered_stay : (k : ℕ) (to : Side) (count : ℕ) (x : Reached) → reached_side w k to ≡ Some x → TalksStay w.talks (change_at_end w.talks x.at (with_delivered count))
+  delivered_stay k to count x is = change_stays w.talks x.at (with_delivered count) each where
+    there : IsReachedSide w k to x
+    there = reached_is w k to x is
+
+    at : Placed w.talks x.talk
+    at = numbered_place k w.talks x.talk there.found
+
+    lives : is_reached (side_at x.talk to) ≡ true
+    lives = reached_lives w k to x is
+
+    each : (place : ℕ) (t : TalkState) (by side : Side) → slice_get w.talks place ≡ Some t → end_at t by ≡ Some x.at → side_at t side ≡ told_closed → StaysClosed side t (with_delivered count t by)
+    each place t by side found has closed = delivered_elsewhere count t by side apart closed where
+      one : t ≡ x.talk
+      one = one_talk x.at w.talks place at.place t x.talk (ready.apart s w r x.at) found (has_it t x.at by has) at.stands (has_it x.talk x.at to there.ends)
+
+      own : by ≡ to
+      own = one_side t x.at by to (distinct ready s w r place t found) has (ap (λ (y : TalkState). end_at y to) one ∙ there.ends)
+
+      apart : by ≢ side
+      apart same =
+          true≢false
+          (sym lives
+          ∙ (ap (λ (y : TalkState). is_reached (side_at y to)) (sym one) ∙ (ap (λ (z : Side). is_reached (side_at t z)) (sym own ∙ same) ∙ ap is_reached closed)))
+
+  opened_stay : (k : ℕ) (hold : Bool) (far : StreamEnd) (a : Arrival) (v : Visit) (x : Arrives s w k v) → TalksStay w.talks (change_at_end w.talks x.talk.near (with_far far a))
+  opened_stay k hold far a v x = change_stays w.talks x.talk.near (with_far far a) each where
+    at : Placed w.talks x.talk
+    at = numbered_place k w.talks x.talk x.found
+
+    each : (place : ℕ) (t : TalkState) (by side : Side) → slice_get w.talks place ≡ Some t → end_at t by ≡ Some x.talk.near → side_at t side ≡ told_closed → StaysClosed side t (with_far far a t by)
+    each place t by side found has closed = opened_elsewhere far a t by side apart closed where
+      one : t ≡ x.talk
+      one = one_talk x.talk.near w.talks place at.place t x.talk (ready.apart s w r x.talk.near) found (has_it t x.talk.near by has) at.stands (has_it x.talk x.talk.near Near refl)
+
+      apart : side ≢ Far
+      apart same =
+          true≢false
+          (sym x.waits ∙ (ap (λ (y : TalkState). is_waiting (side_at y Far)) (sym one) ∙ (ap (λ (z : Side). is_waiting (side_at t z)) (sym same) ∙ ap is_waiting closed)))
+
+  -- ---- each kind of event
+
+  arrived_stay : (k : ℕ) (hold : Bool) (v : Visit) (number : ℕ) (q : Reply) → Arrives s w k v → TalksStay w.talks (arrived w v number q (talk_numbered w.talks k)).talks
+  arrived_stay k hold v number q x =
+      subst (λ o. TalksStay w.talks (arrived w v number q o).talks) (sym x.found) (opened_stay k hold (end_of v.node v.seat number) (arrival_by q) v x)
+
+  piece_stay : (k : ℕ) (to : Side) (count : ℕ) (o : Option Reached) → reached_side w k to ≡ o → TalksStay w.talks (delivered w count o).talks
+  piece_stay k to count None is = same_stay w.talks
+  piece_stay k to count (Some x) is = delivered_stay k to count x is
+
+  cut_stay : (o : Option Reached) → TalksStay w.talks (told w o).talks
+  cut_stay None = same_stay w.talks
+  cut_stay (Some x) = told_stay w.talks x.at
+
+  visit_stay : (e : Event) (v : Visit) (c : Choice) → visit_of s w e ≡ Some v → TalksStay w.talks (after_visit s w e v c).talks
+  unfolding after_clock after_agent after_agent_call after_delivery after_arrival after_piece after_cut noted
+  visit_stay (event.Clock node millis) v c is = stepped_stay w w v c.after v.seat.agent (same_stay w.talks)
+  visit_stay (event.Want node wanted longest peer) v c is = same_stay w.talks
+  visit_stay (event.Agent node hold) v c is = stepped_stay w w v c.after (after_reply v.seat.agent c.reply) (same_stay w.talks)
+  visit_stay (event.Api node asa call hold) v c is = stepped_stay w w v c.after v.seat.agent (same_stay w.talks)
+  visit_stay (event.Datagram index hold) v c is = stepped_stay w w v c.after v.seat.agent (same_stay w.talks)
+  visit_stay (event.Arrive stream hold) v c is =
+      stepped_stay w (arrived w v (s.arrives_as v.node stream) c.reply (talk_numbered w.talks stream)) v c.after v.seat.agent
+      (arrived_stay stream hold v (s.arrives_as v.node stream) c.reply (arrives s w stream hold v is))
+  visit_stay (event.Bytes stream far count hold) v c is =
+      stepped_stay w (delivered w count (reached_side w stream (side_named far))) v c.after v.seat.agent (piece_stay stream (side_named far) count (reached_side w stream (side_named far)) refl)
+  visit_stay (event.Cut stream far hold) v c is =
+      stepped_stay w (told w (reached_side w stream (side_named far))) v c.after v.seat.agent (cut_stay (reached_side w stream (side_named far)))
+  visit_stay (event.Drain node max) v c is = drained_stay s w v.node max
+
+  behind_stay : (b : Bool) (x : WorldState) (node : ℕ) → TalksStay x.talks (drained_behind b s x node).talks
+  behind_stay true x node = drained_stay s x node event_drain
+  behind_stay false x node = same_stay x.talks
+
+  wanted_stay : (node : ℕ) (seat : Seat) (wanted longest : ℕ) (peer : Option Locator) → TalksStay w.talks (wanted_by w node seat wanted longest peer).talks
+  wanted_stay node seat wanted longest None = same_stay w.talks
+  wanted_stay node seat wanted longest (Some peer) = same_stay w.talks
+
+  wanting_stay : (node wanted longest peer : ℕ) (o : Option Seat) → TalksStay w.talks (wanted_at s w node wanted longest peer o).talks
+  wanting_stay node wanted longest peer None = same_stay w.talks
+  wanting_stay node wanted longest peer (Some seat) = wanted_stay node seat wanted longest (numbered s.peers peer)
+
+  none_stay : (e : Event) → TalksStay w.talks (after_none s w e).talks
+  unfolding after_wanting
+  none_stay (event.Clock node millis) = same_stay w.talks
+  none_stay (event.Want node wanted longest peer) = wanting_stay node wanted longest peer (seat_at w node)
+  none_stay (event.Agent node hold) = same_stay w.talks
+  none_stay (event.Api node asa call hold) = same_stay w.talks
+  none_stay (event.Datagram index hold) = same_stay w.talks
+  none_stay (event.Arrive stream hold) = same_stay w.talks
+  none_stay (event.Bytes stream far count hold) = same_stay w.talks
+  none_stay (event.Cut stream far hold) = same_stay w.talks
+  none_stay (event.Drain node max) = same_stay w.talks
+
+  by_stay : (e : Event) (c : Choice) (o : Option Visit) → visit_of s w e ≡ o → TalksStay w.talks (after_by s w e c o).talks
+  by_stay e c None is = none_stay e
+  by_stay e c (Some v) is =
+      stay_then w.talks (after_visit s w e v c).talks (drained_behind (drains e) s (after_visit s w e v c) v.node).talks (visit_stay e v c is)
+      (behind_stay (drains e) (after_visit s w e v c) v.node)
+
+  event_stay : (e : Event) (c : Choice) → TalksStay w.talks (after_event s w e c).talks
+  unfolding after_event
+  event_stay e c = by_stay e c (visit_of s w e) refl
+
+pub cuts_are_final : StreamsAreReady → CutsAreFinal
+cuts_are_final ready s w r e c place side t found closed = (event_stay ready s w r e c).each place side t found closed
