@@ -1,7 +1,6 @@
 -- A report that tells an agreement is that of a poll.
-use Rattle.std.proofs.Common.{◌≡◌, refl, sym, ap, ◌∙◌, subst, ℕ, ◌+◌, Bool, true, false, cond, List, ◌∷◌, Option, Some, None, Result, Ok, Err}
+use Rattle.std.proofs.Common.{◌≡◌, refl, ap, subst, ℕ, ◌+◌, Bool, true, false, cond, List, Option, Some, None, Result, Ok, Err}
 use Rattle.std.proofs.lemmas.Option.{none-some}
-use Rattle.std.specs.Prelude.{codes}
 use Rattle.grasp_core.specs.Begin.{begin}
 use Rattle.grasp_core.specs.FloodCalls.{find_of, found_as}
 use Rattle.grasp_core.specs.Means.{PollMeans}
