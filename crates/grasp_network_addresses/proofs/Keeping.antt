@@ -149,7 +149,7 @@ module _ (l : Grounds) (talks : NegotiationsAreTalks) (unseen : SilentUnseen) (s
 
   module _ (a : ℕ) (h : IsGiven w a) where
     still_open : (new : Seat) (n : NewGiver h.node new h.prefix h.giver.place) → seat_at y h.node ≡ Some new → IsReached s y ⊎ NothingSaid w y → IsOpenTalk y.talks n.giver.place
-    still_open new n here (inl q) = from (open_on l talks unseen s w y r q g.talks h.giver.place h.session n.session before now h.open_still (λ u e. inl (end_before q u e))) where
+    still_open new n here (inl q) = from (open_on l talks unseen s w y r q g.talks h.giver.place h.session n.session before now h.open_still (λ e. inl (end_before q now.talk e))) where
       before : GivesAt w h.giver.place h.session
       before = gives_at l s w r h.node h.seat h.here h.session h.giver
 

@@ -9,3 +9,6 @@ pub mod Staying
 pub mod AgentPools
 pub mod Polling
 pub mod Listed
+pub mod OwnCalls
+pub mod OwnKept
+pub mod Losing

@@ -51,7 +51,6 @@ module _ (means : CallsMean) (n after : NodeState) (a : AgentState) (sound : IsN
   act_called c is reply.Turned t = absurd t
   act_called c is reply.OutOfMemory t = absurd t
 
-  -- a new session has accepted nothing
   requests : (v : Want) (r : Reply) → Calls n 1 (want_call v) r after → GoneStay n after
   requests v (reply.Api ans) t =
       let f = means.requests n 1 objective_name (length_value v.length) 6 60000 false v.peer ans sound t.0 in

@@ -188,8 +188,8 @@ pub record EndAccepted (w : WorldState) (e : StreamEnd) : Type 0 where
 
 module _ (l : Grounds) (talks : NegotiationsAreTalks) (unseen : SilentUnseen) (s : Setting) (w y : WorldState) (r : IsReached s w) (q : IsReached s y) (stay : AllStay w.talks y.talks) where
   -- a stream on which the near side hadn't accepted: it hasn't still, where a session that has accepted had so before
-  pub open_on : {T : Type 0} (place : ℕ) (x z : SessionState) → GivesAt w place x → GivesAt y place z → IsOpenTalk w.talks place → ((u : TalkState) → AcceptedBy l s y q u → EndAccepted w u.near ⊎ T)
-      → IsOpenTalk y.talks place ⊎ T
+  pub open_on : {T : Type 0} (place : ℕ) (x z : SessionState) → GivesAt w place x → (now : GivesAt y place z) → IsOpenTalk w.talks place
+      → (AcceptedBy l s y q now.talk → EndAccepted w now.talk.near ⊎ T) → IsOpenTalk y.talks place ⊎ T
   open_on {T} place x z before now is_open step = by_test (is_accepted now.talk) refl where
     u : Stays y.talks place before.talk
     u = stay place before.talk before.stands
@@ -209,4 +209,4 @@ module _ (l : Grounds) (talks : NegotiationsAreTalks) (unseen : SilentUnseen) (s
 
     by_test : (b : Bool) → is_accepted now.talk ≡ b → IsOpenTalk y.talks place ⊎ T
     by_test false is = inl (record { talk = now.talk; here = now.stands; open_still = is })
-    by_test true is = by_old (step now.talk (accepted_by_near l s y q talks unseen place now.talk now.stands now.negotiation now.name is))
+    by_test true is = by_old (step (accepted_by_near l s y q talks unseen place now.talk now.stands now.negotiation now.name is))

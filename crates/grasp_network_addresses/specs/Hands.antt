@@ -38,7 +38,6 @@ AllAreInHand s w = (a : ℕ) → IsRoot s a → IsInHand w a
 
 -- in every network that events lead to each address of a root is held, or lies in an offer that may still be accepted; and in each
 -- network of a run
--- (no law says this yet)
 pub record NothingIsLost : Type 0 where
   pub reached : (s : Setting) (w : WorldState) → IsReached s w → AllAreInHand s w
   pub run : (s : Setting) (hs : List Happening) → IsGoodSetting s → IsRun s (first_world s) hs → All (AllAreInHand s) (worlds_from s (first_world s) hs)

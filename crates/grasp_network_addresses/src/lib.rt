@@ -3,4 +3,4 @@
 
 mod laws;
 
-pub use laws::{first_holdings, nothing_appears, offers_are_known};
+pub use laws::{first_holdings, nothing_appears, nothing_is_lost, offers_are_known};
