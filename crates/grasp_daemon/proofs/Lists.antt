@@ -1,6 +1,6 @@
 -- Places of a list.
-use Rattle.std.proofs.Common.{◌≡◌, ◌≢◌, refl, ap, ℕ, zero, suc, List, [], ◌∷◌, ◌++◌, slice_get, slice_set, Some}
-use Rattle.std.specs.List.{AllByRecursion}
+use Rattle.std.proofs.Common.{◌≡◌, ◌≢◌, refl, sym, ap, ◌∙◌, arith, ℕ, zero, suc, ◌<◌, List, [], ◌∷◌, length, take, get_or, slice_get, slice_set, slice_index_or, Some}
+use Rattle.std.proofs.lemmas.Option.{slice_get-get_or, slice_get_within}
 
 module _ {A : Type 0} where
   -- what stands at a place that was set
@@ -17,12 +17,23 @@ module _ {A : Type 0} where
   set_elsewhere (y ∷ ys) (suc i) zero v apart = refl
   set_elsewhere (y ∷ ys) (suc i) (suc j) v apart = set_elsewhere ys i j v (λ e. apart (ap suc e))
 
-  -- what holds of two lists holds of both together
-  pub all_append : (P : A → Type 0) (xs ys : List A) → AllByRecursion P xs → AllByRecursion P ys → AllByRecursion P (xs ++ ys)
-  all_append P [] ys h k = k
-  all_append P (x ∷ xs) ys h k = (h.0, all_append P xs ys h.1 k)
+  -- what was read from a place
+  pub read_at : (xs : List A) (i : ℕ) (x d : A) → slice_get xs i ≡ Some x → slice_index_or xs i d ≡ x
+  read_at xs i x d at =
+      let e : Some (get_or xs i d) ≡ Some x = sym (slice_get-get_or xs i d (slice_get_within xs i x at)) ∙ at in cc
 
-  -- what holds of each, holds of them in another way
-  pub all_map : (P Q : A → Type 0) (xs : List A) → ((x : A) → P x → Q x) → AllByRecursion P xs → AllByRecursion Q xs
-  all_map P Q [] f h = tt
-  all_map P Q (x ∷ xs) f h = (f x h.0, all_map P Q xs f h.1)
+  -- all of a list is taken
+  pub take_whole : (xs : List A) → take (length xs) xs ≡ xs
+  take_whole [] = refl
+  take_whole (x ∷ xs) = ap (λ l. x ∷ l) (take_whole xs)
+
+-- what stands at a place
+pub record At {A : Type 0} (xs : List A) (i : ℕ) : Type 0 where
+  pub item : A
+  pub at : slice_get xs i ≡ Some item
+
+-- something stands at each
+pub stands_at : {A : Type 0} (xs : List A) (i : ℕ) → i < length xs → At xs i
+stands_at [] i lt = absurd (omega (arith, lt))
+stands_at (x ∷ xs) zero lt = record { item = x; at = refl }
+stands_at (x ∷ xs) (suc i) lt = let r = stands_at xs i (omega (arith, lt)) in record { item = r.item; at = r.at }

@@ -1,7 +1,7 @@
 -- A node and its agents to which nothing has happened.
-use Rattle.std.proofs.Common.{◌≡◌, refl, sym, ap, ◌∙◌, subst, arith, ℕ, zero, suc, ◌+◌, Bool, true, false, ◌||◌, List, [], ◌∷◌, ◌++◌, length, map, take, slice_get, Some, nat_lt, append_assoc}
+use Rattle.std.proofs.Common.{◌≡◌, refl, sym, ap, ◌∙◌, subst, arith, ℕ, zero, suc, ◌+◌, ◌<◌, Bool, true, false, ◌||◌, List, [], ◌∷◌, ◌++◌, length, map, take, slice_get, Some, nat_lt, append_assoc}
 use Rattle.std.specs.Prelude.{option_map}
-use Rattle.std.proofs.lemmas.List.{map-append}
+use Rattle.std.proofs.lemmas.List.{length-append, map-append}
 use Rattle.std.proofs.lemmas.Bool.{ltb-false}
 use Rattle.std.proofs.lemmas.Option.{slice_get-map}
 use Rattle.grasp_agent.specs.Announcing.{first_beacon, first_reader}
@@ -12,11 +12,13 @@ use Rattle.grasp_core.specs.Plan.{is_bad_plan}
 use Rattle.grasp_core.specs.Stands.{NodeStands}
 use Rattle.grasp_core.specs.declared.node_core.NodeCore.{NodeCore}
 use Rattle.grasp_core.specs.declared.plan.NodePlan.{NodePlan}
-use Rattle.grasp_daemon.specs.Crew.{beacons_from, readers_from}
+use Rattle.grasp_daemon.specs.Crew.{beacons_from, readers_from, crew_with}
+use Rattle.grasp_pool.specs.declared.roots.RootPrefix.{RootPrefix}
 use Rattle.grasp_shared.specs.History.{Reaches}
 use Rattle.grasp_daemon.specs.Seats.{first_seat, SeatStands, SeatsStand}
 use Rattle.grasp_daemon.specs.declared.plan.BeaconPlan.{BeaconPlan}
 use Rattle.grasp_daemon.specs.declared.seat.Seat.{Seat}
+use Rattle.grasp_daemon.specs.declared.want_plan.WantPlan.{WantPlan}
 use Rattle.grasp_daemon.specs.declared.worker.Worker.{Worker}
 use Rattle.grasp_daemon.specs.declared.worker.Worker.TheVariants.{Beacon, Reader}
 
@@ -86,3 +88,20 @@ reader_added old seats names i name at h =
     let next : i + 1 ≡ suc i = omega arith in
     one_more_seat old seats (readers_from 1 (take i names)) (readers_from 1 (take (i + 1) names)) (Reader (first_reader (i + 1) name)) h
     (ap (λ m. readers_from 1 (take m names)) next ∙ readers_more 1 names i (i + 1) name at (omega arith))
+
+-- ---- how many they are
+
+beacons_count : (n : ℕ) (bs : List BeaconPlan) → length (beacons_from n bs) ≡ length bs
+beacons_count n [] = refl
+beacons_count n (b ∷ bs) = ap suc (beacons_count (n + 1) bs)
+
+readers_count : (n : ℕ) (names : List (List ℕ)) → length (readers_from n names) ≡ length names
+readers_count n [] = refl
+readers_count n (x ∷ names) = ap suc (readers_count (n + 1) names)
+
+-- few agents have passes enough
+pub few_seats : (roots : List RootPrefix) (wants : List WantPlan) (beacons : List BeaconPlan) (readers : List (List ℕ)) (seats : List Seat) → length beacons < 255 → length readers < 255
+    → SeatsStand (crew_with roots wants beacons readers) [] 0 seats → length seats < 4294967294
+few_seats roots wants beacons readers seats few some stand =
+    let both = length-append (beacons_from 1 beacons) (readers_from 1 readers) in
+    omega (arith, few, some, stand.same, both, beacons_count 1 beacons, readers_count 1 readers)

@@ -5,8 +5,10 @@ pub mod Lines
 pub mod Manager
 pub mod Plans
 pub mod Program
+pub mod Roots
 pub mod Runs
 pub mod Seats
+pub mod Sharing
 pub mod Steps
 pub mod Tells
 pub mod Turns

@@ -1,5 +1,5 @@
--- An agent at its place in the loop.
-use Rattle.std.specs.Prelude.{◌≡◌, ◌≤◌, ◌+◌, ℕ, false, List, length, slice_get, Some}
+-- An agent at its place.
+use Rattle.std.specs.Prelude.{◌≡◌, ◌≤◌, ◌+◌, ℕ, false, List, length, slice_get, Some, None}
 use Rattle.grasp_shared.specs.History.{History, own_calls}
 use Rattle.grasp_daemon.specs.Workers.{AreCallsOf, after_calls}
 use Rattle.grasp_daemon.specs.declared.seat.Seat.{Seat}
@@ -7,7 +7,7 @@ use Rattle.grasp_daemon.specs.declared.worker.Worker.{Worker}
 
 -- an agent that may make its first call
 abbrev pub first_seat : Worker → Seat
-first_seat w = record { worker = w; stopped = false }
+first_seat w = record { worker = w; stopped = false; pass = None }
 
 -- The calls are the first that the agent makes, at most so many. Unless it has stopped they are just so many, and it is as they left
 -- it.

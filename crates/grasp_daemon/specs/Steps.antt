@@ -1,97 +1,61 @@
--- Inside: what each part of a turn adds to the history, and what it tells.
+-- Inside: what each part of the network loop adds to the root's calls, and what it tells.
 use Rattle.std.specs.List.{AllByRecursion}
-use Rattle.std.specs.Prelude.{◌≡◌, ◌≤◌, ◌<◌, ◌+◌, ℕ, true, false, List, [], ◌∷◌, ◌++◌, length, slice_get, Option, None, Some}
+use Rattle.std.specs.Prelude.{◌≡◌, ◌≤◌, ℕ, List, [], ◌∷◌, ◌+◌, length, slice_get, Option, Some, Result, Ok, Err}
+use Rattle.grasp_cbor.specs.declared.memory.OutOfMemory.{OutOfMemory}
 use Rattle.grasp_types.specs.declared.reply.Reply.{Reply}
 use Rattle.grasp_types.specs.declared.traffic.Input.{Input}
 use Rattle.grasp_types.specs.declared.traffic.Input.TheVariants as input
 use Rattle.grasp_core.specs.Node.{NodeState}
-use Rattle.grasp_core.specs.declared.node_core.NodeCore.{NodeCore}
-use Rattle.grasp_shared.specs.Adding.{Adds}
-use Rattle.grasp_shared.specs.History.{Entry, History, IsLegalHistory, Reaches, own_calls}
-use Rattle.grasp_daemon.specs.Seats.{SeatStands, SeatsStand}
+use Rattle.grasp_shared.specs.History.{Entry, History, IsLegalHistory, own_calls}
+use Rattle.grasp_shared.specs.Handles.{IsRootOf, root_view, out_of}
+use Rattle.grasp_shared.specs.declared.shared.Root.{Root}
+use Rattle.grasp_shared.specs.declared.shared.Shared.{Shared}
+use Rattle.grasp_daemon.specs.Roots.{RootMade}
+use Rattle.grasp_daemon.specs.Seats.{SeatsStand}
+use Rattle.grasp_daemon.specs.Sharing.{Went, IsLeft, keeps}
 use Rattle.grasp_daemon.specs.Tells.{LinksTold, Told, AsksOnce, HandsOnly, TellsTurn, TellsTurns, TellsRun}
 use Rattle.grasp_daemon.specs.Turns.{Asking, got, Turn, turn_calls, all_turn_calls, loop_calls, loop_call, asking_calls, closed_again, outputs_in, closings, last_reading}
-use Rattle.grasp_daemon.specs.Workers.{next_input, after_turn}
+use Rattle.grasp_daemon.specs.declared.daemon.Daemon.{Daemon}
 use Rattle.grasp_daemon.specs.declared.seat.Seat.{Seat}
 use Rattle.grasp_daemon.specs.declared.worker.Worker.{Worker}
 
 -- ---- the links
 
 -- the links were asked, and what they gave went to the node; the stream that is to be closed again, where there is one
-pub record TakesIn (now wait : ℕ) (core : NodeCore) (old : LinksTold) (away : Option ℕ) (core_after : NodeCore) (new : LinksTold) : Type 0 where
+pub record TakesIn (shared : Shared) (now wait : ℕ) (root : Root) (old : LinksTold) (away : Option ℕ) (root_after : Root) (new : LinksTold) : Type 0 where
   pub asking : Asking
-  pub adds : Adds core (asking_calls now asking) core_after
+  pub made : RootMade shared root (asking_calls now asking) root_after
   pub asks : AsksOnce wait old asking new
   pub away_is : closings away ≡ closed_again asking
 
 -- what the links gave went to the node
-pub record GivesIn (now : ℕ) (i : Input) (core : NodeCore) (away : Option ℕ) (core_after : NodeCore) : Type 0 where
+pub record GivesIn (shared : Shared) (now : ℕ) (i : Input) (root : Root) (away : Option ℕ) (root_after : Root) : Type 0 where
   pub reply : Reply
-  pub adds : Adds core (loop_call now i reply ∷ []) core_after
+  pub made : RootMade shared root (loop_call now i reply ∷ []) root_after
   pub away_is : closings away ≡ closed_again (got i reply)
 
 -- the node was drained, and its outputs were handed over
-pub record DrainsOut (now max : ℕ) (core : NodeCore) (old : LinksTold) (core_after : NodeCore) (new : LinksTold) : Type 0 where
+pub record DrainsOut (shared : Shared) (now max : ℕ) (root : Root) (old : LinksTold) (root_after : Root) (new : LinksTold) : Type 0 where
   pub drained : Reply
-  pub adds : Adds core (loop_call now (input.Drain max) drained ∷ []) core_after
+  pub made : RootMade shared root (loop_call now (input.Drain max) drained ∷ []) root_after
   pub hands : HandsOnly old (outputs_in drained) new
 
--- a turn but for the agents' calls
-pub record Exchanges (wait : ℕ) (core : NodeCore) (old : Told) (now : ℕ) (core_after : NodeCore) (new : Told) : Type 0 where
+-- a turn of the loop
+pub record Exchanges (shared : Shared) (wait : ℕ) (root : Root) (old : Told) (now : ℕ) (root_after : Root) (new : Told) : Type 0 where
   pub turn : Turn
   pub now_is : turn.now ≡ now
-  pub adds : Adds core (turn_calls turn) core_after
+  pub made : RootMade shared root (turn_calls turn) root_after
   pub tells : TellsTurn wait old turn new
-
--- ---- the agents
-
-abbrev pub agent_call : ℕ → Input → Reply → Entry
-agent_call caller i r = record { caller = caller; now = 0; input = i; reply = r }
-
--- the call that an agent made in its turn, where it made one
-abbrev pub made_calls : ℕ → Worker → Option Reply → History
-made_calls caller w None = []
-made_calls caller w (Some r) = agent_call caller (next_input w) r ∷ []
-
--- it has stopped; or it hadn't stopped before, and is as the reply left it
-abbrev pub SeatAfter : Seat → Option Reply → Seat → Type 0
-SeatAfter old None new = new.stopped ≡ true
-SeatAfter old (Some r) new = (old.stopped ≡ false) × (new.worker ≡ after_turn old.worker r)
-
--- an agent's turn
-pub record TakesTurn (core : NodeCore) (old : Seat) (core_after : NodeCore) (new : Seat) : Type 0 where
-  pub made : Option Reply
-  pub adds : (caller : ℕ) → Adds core (made_calls caller old.worker made) core_after
-  pub seat : SeatAfter old made new
-
--- each agent stands so with its own calls, where those below a place have had one more turn
-pub record SeatsGo (crew : List Worker) (history : History) (count before : ℕ) (seats : List Seat) : Type 0 where
-  pub same : length seats ≡ length crew
-  pub gone : (place : ℕ) (w : Worker) (s : Seat) → place < before → slice_get crew place ≡ Some w → slice_get seats place ≡ Some s → SeatStands w (own_calls (place + 1) history) (count + 1) s
-  pub waiting : (place : ℕ) (w : Worker) (s : Seat) → before ≤ place → slice_get crew place ≡ Some w → slice_get seats place ≡ Some s → SeatStands w (own_calls (place + 1) history) count s
-
--- the agents below a place had their turns
-pub record TakeTurns (before : ℕ) (core : NodeCore) (olds : List Seat) (core_after : NodeCore) (news : List Seat) : Type 0 where
-  pub calls : History
-  pub adds : Adds core calls core_after
-  pub no_loop : own_calls 0 calls ≡ []
-  pub callers : AllByRecursion (λ e. e.caller ≤ length olds) calls
-  pub same : length news ≡ length olds
-  pub seats : (crew : List Worker) (history : History) (count : ℕ) → SeatsStand crew history count olds → SeatsGo crew (history ++ calls) count before news
 
 -- ---- turns
 
--- so many turns were made since the node and its agents were so
-pub record Running (from : NodeState) (crew : List Worker) (wait count : ℕ) (old : Told) (now : ℕ) (core : NodeCore) (seats : List Seat) (new : Told) : Type 0 where
-  pub history : History
+-- the loop made so many turns
+pub record Looped (shared : Shared) (wait count : ℕ) (root : Root) (old : Told) (now : ℕ) (root_after : Root) (new : Told) : Type 0 where
   pub turns : List Turn
-  pub reaches : Reaches from history core
-  pub callers : AllByRecursion (λ e. e.caller ≤ length crew) history
   pub count_is : length turns ≡ count
-  pub loop : own_calls 0 history ≡ all_turn_calls turns
   pub now_is : now ≡ last_reading 0 turns
+  pub made : RootMade shared root (all_turn_calls turns) root_after
   pub tells : TellsTurns wait old turns new
-  pub agents : SeatsStand crew history count seats
 
 -- the node made all its turns, and its agents are now so
 pub record RanSeats (from : NodeState) (crew : List Worker) (wait count : ℕ) (old : Told) (seats : List Seat) (new : Told) : Type 0 where
@@ -105,3 +69,25 @@ pub record RanSeats (from : NodeState) (crew : List Worker) (wait count : ℕ) (
   pub loop : own_calls 0 history ≡ loop_calls turns last
   pub tells : TellsRun wait old turns last new
   pub agents : SeatsStand crew history count seats
+
+-- it did; or there was no memory, and nothing was told
+abbrev pub RunsSeats : NodeState → List Worker → ℕ → ℕ → Told → Result Daemon OutOfMemory → Told → Type 0
+RunsSeats from crew wait count old (Ok d) new = RanSeats from crew wait count old d.seats.items new
+RunsSeats from crew wait count old (Err fault) new = new ≡ old
+
+-- The same, as the root tells it once all passes were given back and the last drain was made. The passes were those of `ready`.
+pub record RanShared (shared : Shared) (wait count : ℕ) (old : Told) (before : Root) (olds : List Seat) (new : Told) (after : Root) (news : List Seat) : Type 0 where
+  pub turns : List Turn
+  pub last : Reply
+  pub count_is : length turns ≡ count
+  pub tells : TellsRun wait old turns last new
+  pub own : IsRootOf shared after
+  pub none : out_of after ≡ 0
+  pub mine : (root_view after).mine ≡ loop_calls turns last
+  pub opened : (root_view after).opened ≡ (root_view before).opened
+  pub ready : List Seat
+  pub joined : (root_view after).joined ≡ keeps ready
+  pub same_ready : length ready ≡ length olds
+  pub same : length news ≡ length olds
+  pub went : (place : ℕ) (s t : Seat) → slice_get olds place ≡ Some s → slice_get ready place ≡ Some t → Went count (place + 1) s t
+  pub left : (place : ℕ) (s t : Seat) → slice_get ready place ≡ Some s → slice_get news place ≡ Some t → IsLeft s t

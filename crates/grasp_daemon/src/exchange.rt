@@ -1,52 +1,67 @@
 //! What a turn exchanges with the links.
 
 ghost use Rattle.std.specs.Prelude.{◌≡◌, [], if◌then◌else◌};
+ghost use Rattle.grasp_shared.specs.Handles.{IsRootOf, out_of};
 ghost use Rattle.grasp_daemon.specs.Steps.{TakesIn, GivesIn, DrainsOut, Exchanges};
 ghost use Rattle.grasp_daemon.specs.Tells.{HandsOnly, links_told, told};
 ghost use Rattle.grasp_daemon.specs.Turns.{opened_in, is_away, closings, outputs_in};
 
-use grasp_core::NodeCore;
 use grasp_io::{Asked, Clock, Links};
-use grasp_shared::note_bytes;
+use grasp_shared::{Root, Shared};
 use grasp_types::{Input, Output, Reply};
+use std::sync::Wait;
 
 /// A turn drains at most so many outputs.
 const DRAIN: u32 = 64;
 
-/// One turn but for the agents' calls, and its reading of the clock, in milliseconds.
-pub(crate) fn exchange<L: Links, C: Clock>(
-    core: &mut NodeCore,
+/// After the last turn at most so many outputs are drained: more than a node has.
+const LAST_DRAIN: u32 = 320;
+
+/// One turn of the network loop, and its reading of the clock, in milliseconds.
+pub(crate) fn exchange<R: Wait, L: Links, C: Clock>(
+    rt: &R,
+    shared: &Shared,
     wait: u32,
+    root: &mut Root,
     links: &mut L,
     clock: &mut C,
 ) -> u64
-    ensures { Exchanges wait core.old (told (C.readings clock.old) (links_told (L.waits links.old) (L.given links.old) (L.handed links.old) (L.faults links.old))) result core.new (told (C.readings clock.new) (links_told (L.waits links.new) (L.given links.new) (L.handed links.new) (L.faults links.new))) }
+    requires { IsRootOf shared.now root.old }
+    ensures { Exchanges shared.now wait root.old (told (C.readings clock.old) (links_told (L.waits links.old) (L.given links.old) (L.handed links.old) (L.faults links.old))) result root.new (told (C.readings clock.new) (links_told (L.waits links.new) (L.given links.new) (L.handed links.new) (L.faults links.new))) }
 {
     let now = clock.now();
-    let away = take_in(core, now, wait, links);
-    drain_out(core, now, DRAIN, links);
+    let away = take_in(rt, shared, now, wait, root, links);
+    drain_out(rt, shared, now, root, links);
     close_again(links, away);
     now
 }
 
 /// Asks the links once, and gives what they gave to the node. The answer is the stream that is to be closed again.
-fn take_in<L: Links>(core: &mut NodeCore, now: u64, wait: u32, links: &mut L) -> Option<u64>
-    ensures { TakesIn now wait core.old (links_told (L.waits links.old) (L.given links.old) (L.handed links.old) (L.faults links.old)) result core.new (links_told (L.waits links.new) (L.given links.new) (L.handed links.new) (L.faults links.new)) }
+fn take_in<R: Wait, L: Links>(
+    rt: &R,
+    shared: &Shared,
+    now: u64,
+    wait: u32,
+    root: &mut Root,
+    links: &mut L,
+) -> Option<u64>
+    requires { IsRootOf shared.now root.old }
+    ensures { TakesIn shared.now now wait root.old (links_told (L.waits links.old) (L.given links.old) (L.handed links.old) (L.faults links.old)) result root.new (links_told (L.waits links.new) (L.given links.new) (L.handed links.new) (L.faults links.new)) }
 {
     match links.ask(wait) {
-        Asked::Got(input) => give_in(core, now, input),
+        Asked::Got(input) => give_in(rt, shared, now, root, input),
         Asked::Nothing => None,
         Asked::OutOfMemory => None,
     }
 }
 
 /// Gives an input to the node. The answer is the stream that it opened, where it is to be closed again.
-fn give_in(core: &mut NodeCore, now: u64, input: Input) -> Option<u64>
-    ensures { GivesIn now input core.old result core.new }
+fn give_in<R: Wait>(rt: &R, shared: &Shared, now: u64, root: &mut Root, input: Input) -> Option<u64>
+    requires { IsRootOf shared.now root.old }
+    ensures { GivesIn shared.now now input root.old result root.new }
 {
-    note_bytes(&input);
     let stream = opened(&input);
-    let reply = core.step(now, input);
+    let reply = shared.root_call(rt, root, now, input);
     away_of(stream, &reply)
 }
 
@@ -75,11 +90,24 @@ fn is_away(reply: &Reply) -> bool
 }
 
 /// Drains the node, and hands its outputs over.
-pub(crate) fn drain_out<L: Links>(core: &mut NodeCore, now: u64, max: u32, links: &mut L)
-    ensures { DrainsOut now max core.old (links_told (L.waits links.old) (L.given links.old) (L.handed links.old) (L.faults links.old)) core.new (links_told (L.waits links.new) (L.given links.new) (L.handed links.new) (L.faults links.new)) }
+fn drain_out<R: Wait, L: Links>(rt: &R, shared: &Shared, now: u64, root: &mut Root, links: &mut L)
+    requires { IsRootOf shared.now root.old }
+    ensures { DrainsOut shared.now now 64 root.old (links_told (L.waits links.old) (L.given links.old) (L.handed links.old) (L.faults links.old)) root.new (links_told (L.waits links.new) (L.given links.new) (L.handed links.new) (L.faults links.new)) }
 {
-    let reply = core.step(now, Input::Drain { max });
+    let reply = shared.root_call(rt, root, now, Input::Drain { max: DRAIN });
     hand_over(links, &reply);
+}
+
+/// The last drain, once all passes were given back. It waits for nobody.
+pub(crate) fn drain_last<L: Links>(shared: &Shared, now: u64, root: &mut Root, links: &mut L)
+    requires own { IsRootOf shared.now root.old }
+    requires alone { out_of root.old ≡ 0 }
+    ensures { DrainsOut shared.now now 320 root.old (links_told (L.waits links.old) (L.given links.old) (L.handed links.old) (L.faults links.old)) root.new (links_told (L.waits links.new) (L.given links.new) (L.handed links.new) (L.faults links.new)) }
+{
+    match shared.root_try_call(root, now, Input::Drain { max: LAST_DRAIN }) {
+        Ok(reply) => hand_over(links, &reply),
+        Err(_) => unreachable!(),
+    }
 }
 
 /// Hands over the outputs that a drain was answered.

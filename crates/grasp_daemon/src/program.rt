@@ -13,6 +13,7 @@ ghost use Rattle.grasp_daemon.specs.Tells.{links_told, told};
 
 use crate::daemon::Daemon;
 use crate::exit::Status;
+use crate::gate::{Gate, OpenGate};
 use crate::lines::text_of;
 use crate::plan::DaemonPlan;
 use crate::planning::{daemon_plan, link_plan};
@@ -24,6 +25,8 @@ use grasp_config::{
 };
 use grasp_io::{Clock, Links, ReadError, Sink, Source, read_all, write_all};
 use std::alloc::Global;
+use std::sync::Wait;
+use std::thread::Threads;
 
 /// The most bytes that a configuration may have.
 const CONFIG_LIMIT: u64 = 65_536;
@@ -33,7 +36,8 @@ const CONFIG_LIMIT: u64 = 65_536;
 /// The words are to be `run` and one more, which names what the source reads. The source is read to its end, and the
 /// links are opened. Then the node makes its turns, and at the end it writes a line of the prefixes that it holds, one
 /// for each want and one for each reader. `OutOfMemory` may come wherever memory is wanted; nothing was written then.
-pub fn node_main<S: Source, K: Sink, L: Links, C: Clock>(
+pub fn node_main<R: Threads + Wait + Sync, S: Source, K: Sink, L: Links, C: Clock>(
+    rt: &R,
     alloc: Global,
     words: &[String],
     source: &mut S,
@@ -74,10 +78,59 @@ pub fn node_main<S: Source, K: Sink, L: Links, C: Clock>(
     ensures complete_large { is_run (map string_bytes words.now) ≡ true → ¬ Rose (S.faults source.old) (S.faults source.new)
         → IfSome (S.left source.old) (λ input. config_limit < length input → (result ≡ Status.TooLarge) ⊎ (result ≡ Status.OutOfMemory)) }
 {
+    node_run(
+        rt, alloc, words, source, sink, links, clock, seed, &OpenGate,
+    )
+}
+
+/// The same with a gate, which is asked before each agent's call.
+pub fn node_run<R: Threads + Wait + Sync, S: Source, K: Sink, L: Links, C: Clock, G: Gate + Sync>(
+    rt: &R,
+    alloc: Global,
+    words: &[String],
+    source: &mut S,
+    sink: &mut K,
+    links: &mut L,
+    clock: &mut C,
+    seed: [u8; 32],
+    gate: &G,
+) -> Status
+    // The words come first: where they are no call, nothing is touched.
+    ensures usage { is_run (map string_bytes words.now) ≡ false → result ≡ Status.Usage }
+    ensures no_usage { is_run (map string_bytes words.now) ≡ true → result ≢ Status.Usage }
+    ensures unread { result ≡ Status.Usage → source.new ≡ source.old }
+
+    // Then the configuration is read to its end, at most 65,536 bytes.
+    ensures read_fault { result ≡ Status.ReadFault → Rose (S.faults source.old) (S.faults source.new) }
+    ensures too_large { result ≡ Status.TooLarge → IfSome (S.left source.old) (λ input. config_limit < length input) }
+    ensures small { IsAfterInput result → IfSome (S.left source.old) (λ input. length input ≤ config_limit) }
+    ensures bad_config { (key : ConfigKey) → result ≡ Status.BadConfig key → IfSome (S.left source.old) (λ input. IsBadText input key) }
+    ensures configured { IsAfterConfig result → IfSome (S.left source.old) (λ input. IsConfigured input) }
+    ensures untouched { IsBeforeLinks result → links.new ≡ links.old }
+    ensures clock_untouched { IsBeforeLinks result → clock.new ≡ clock.old }
+
+    // Then the links are opened.
+    ensures link_fault { result ≡ Status.LinkFault → Rose (L.faults links.old) (L.faults links.new) }
+    ensures nothing_passed { result ≡ Status.LinkFault → NothingPassed (links_told (L.waits links.old) (L.given links.old) (L.handed links.old) (L.faults links.old)) (links_told (L.waits links.new) (L.given links.new) (L.handed links.new) (L.faults links.new)) }
+    ensures clock_unread { result ≡ Status.LinkFault → clock.new ≡ clock.old }
+
+    // Then the node makes its turns, and its lines are written.
+    ensures done { result ≡ Status.Ok → RunsInput (S.left source.old) seed (told (C.readings clock.old) (links_told (L.waits links.old) (L.given links.old) (L.handed links.old) (L.faults links.old))) (told (C.readings clock.new) (links_told (L.waits links.new) (L.given links.new) (L.handed links.new) (L.faults links.new))) (K.written sink.old) (K.written sink.new) }
+    ensures write_fault { result ≡ Status.WriteFault → Rose (K.faults sink.old) (K.faults sink.new) }
+    ensures unwritten { result ≢ Status.Ok → result ≢ Status.WriteFault → sink.new ≡ sink.old }
+
+    // Where nothing outside fails, the input alone decides, unless memory is wanted.
+    ensures complete { is_run (map string_bytes words.now) ≡ true → ¬ Rose (S.faults source.old) (S.faults source.new) → ¬ Rose (L.faults links.old) (L.faults links.new) → ¬ Rose (K.faults sink.old) (K.faults sink.new)
+        → IfSome (S.left source.old) (λ input. length input ≤ config_limit → IsConfigured input → IsOkOrMemory result) }
+    ensures complete_bad { (key : ConfigKey) → is_run (map string_bytes words.now) ≡ true → ¬ Rose (S.faults source.old) (S.faults source.new)
+        → IfSome (S.left source.old) (λ input. length input ≤ config_limit → IsBadText input key → (result ≡ Status.BadConfig key) ⊎ (result ≡ Status.OutOfMemory)) }
+    ensures complete_large { is_run (map string_bytes words.now) ≡ true → ¬ Rose (S.faults source.old) (S.faults source.new)
+        → IfSome (S.left source.old) (λ input. config_limit < length input → (result ≡ Status.TooLarge) ⊎ (result ≡ Status.OutOfMemory)) }
+{
     if is_run(words) {
         configs_have_no_bad_key();
         texts_have_one_bad_key();
-        run_input(alloc, source, sink, links, clock, seed)
+        run_input(rt, alloc, source, sink, links, clock, seed, gate)
     } else {
         Status::Usage
     }
@@ -95,13 +148,15 @@ fn is_run(words: &[String]) -> bool
 
 /// Reads the configuration, and runs its node.
 #[tactic(auto, using(crate::proofs::MainRuns::runs_input, crate::proofs::MainRuns::in_range, crate::proofs::MainRuns::configured, crate::proofs::MainRuns::bad_input, crate::proofs::MainRuns::small_input))]
-fn run_input<S: Source, K: Sink, L: Links, C: Clock>(
+fn run_input<R: Threads + Wait + Sync, S: Source, K: Sink, L: Links, C: Clock, G: Gate + Sync>(
+    rt: &R,
     alloc: Global,
     source: &mut S,
     sink: &mut K,
     links: &mut L,
     clock: &mut C,
     seed: [u8; 32],
+    gate: &G,
 ) -> Status
     ensures no_usage { result ≢ Status.Usage }
     ensures read_fault { result ≡ Status.ReadFault → Rose (S.faults source.old) (S.faults source.new) }
@@ -126,7 +181,7 @@ fn run_input<S: Source, K: Sink, L: Links, C: Clock>(
     };
     configs_are_in_range();
     match read_config(alloc, &input) {
-        Ok(config) => run_config(alloc, config, sink, links, clock, seed),
+        Ok(config) => run_config(rt, alloc, config, sink, links, clock, seed, gate),
         Err(ConfigFault::BadConfig { key }) => Status::BadConfig { key },
         Err(ConfigFault::OutOfMemory) => Status::OutOfMemory,
     }
@@ -134,13 +189,15 @@ fn run_input<S: Source, K: Sink, L: Links, C: Clock>(
 
 /// Opens the links of the configuration, and runs its node.
 #[tactic(auto, using(crate::proofs::MainRuns::runs_config, crate::proofs::Configured::few_beacons, crate::proofs::Configured::few_readers))]
-fn run_config<K: Sink, L: Links, C: Clock>(
+fn run_config<R: Threads + Wait + Sync, K: Sink, L: Links, C: Clock, G: Gate + Sync>(
+    rt: &R,
     alloc: Global,
     config: NodeConfig,
     sink: &mut K,
     links: &mut L,
     clock: &mut C,
     seed: [u8; 32],
+    gate: &G,
 ) -> Status
     requires { IsInRange config }
     ensures ends { IsOfConfig result }
@@ -158,19 +215,21 @@ fn run_config<K: Sink, L: Links, C: Clock>(
         return Status::OutOfMemory;
     };
     match links.open(&joining) {
-        Ok(()) => run_plan(alloc, plan, sink, links, clock),
+        Ok(()) => run_plan(rt, alloc, plan, sink, links, clock, gate),
         Err(_) => Status::LinkFault,
     }
 }
 
 /// Runs the node of the plan over links that are open, and writes its lines.
 #[tactic(auto, using(crate::proofs::MainRuns::runs_plan))]
-fn run_plan<K: Sink, L: Links, C: Clock>(
+fn run_plan<R: Threads + Wait + Sync, K: Sink, L: Links, C: Clock, G: Gate + Sync>(
+    rt: &R,
     alloc: Global,
     plan: DaemonPlan,
     sink: &mut K,
     links: &mut L,
     clock: &mut C,
+    gate: &G,
 ) -> Status
     requires beacons { length plan.beacons < 255 }
     requires readers { length plan.readers < 255 }
@@ -179,7 +238,7 @@ fn run_plan<K: Sink, L: Links, C: Clock>(
     ensures write_fault { result ≡ Status.WriteFault → Rose (K.faults sink.old) (K.faults sink.new) }
     ensures unwritten { result ≡ Status.OutOfMemory → sink.new ≡ sink.old }
 {
-    match run_node(alloc, plan, links, clock) {
+    match run_node(rt, alloc, plan, links, clock, gate) {
         Ok(daemon) => write_lines(alloc, &daemon, sink),
         Err(OutOfMemory) => Status::OutOfMemory,
     }

@@ -5,20 +5,25 @@ ghost use Rattle.grasp_daemon.specs.Runs.{RunsNode, AllGoing};
 ghost use Rattle.grasp_daemon.specs.Tells.{links_told, told};
 
 use crate::daemon::Daemon;
+use crate::gate::Gate;
 use crate::plan::DaemonPlan;
 use grasp_cbor::OutOfMemory;
 use grasp_io::{Clock, Links};
 use std::alloc::Global;
+use std::sync::Wait;
+use std::thread::Threads;
 
 /// Opens the node of this plan and its agents, and makes the plan's turns over links that are open.
 ///
 /// Want of memory is answered before the first turn, where there is none for the node; and after the last one, where an
 /// agent had to stop.
-pub fn run_node<L: Links, C: Clock>(
+pub fn run_node<R: Threads + Wait + Sync, L: Links, C: Clock, G: Gate + Sync>(
+    rt: &R,
     alloc: Global,
     plan: DaemonPlan,
     links: &mut L,
     clock: &mut C,
+    gate: &G,
 ) -> Result<Daemon, OutOfMemory>
     requires beacons { length plan.beacons < 255 }
     requires readers { length plan.readers < 255 }
@@ -37,10 +42,10 @@ pub fn run_node<L: Links, C: Clock>(
     let announced = beacons.slice();
     let read = readers.slice();
     match Daemon::open(alloc, node, held, wants, announced, read) {
-        Ok(mut daemon) => {
-            daemon.run(turns, wait, links, clock);
-            unless_stopped(daemon)
-        }
+        Ok(daemon) => match daemon.run(rt, alloc, turns, wait, links, clock, gate) {
+            Ok(daemon) => unless_stopped(daemon),
+            Err(OutOfMemory) => Err(OutOfMemory),
+        },
         Err(OutOfMemory) => Err(OutOfMemory),
     }
 }

@@ -51,6 +51,7 @@ fn run_over<L: Links>(rt: &HostRuntime, words: &[String], seed: [u8; 32], links:
     let mut sink = StdSink::new(rt.stdout());
     let mut clock = StdClock::new(rt);
     node_main(
+        rt,
         rt.alloc(),
         words,
         &mut source,

@@ -1,11 +1,14 @@
 use Rattle.std.proofs.Common.{ap, ◌∙◌, cond, []}
+use Rattle.grasp_shared.specs.Calls.{answered}
 use Rattle.grasp_daemon.specs.Turns.{closings, is_away}
-use Rattle.grasp_shared.proofs.Adding.{step_adds}
+use Rattle.grasp_daemon.proofs.RootMaking.{made_one}
 use Rattle.grasp_daemon.proofs.exchange.give_in.Goals as goal
 
 pub returns : goal.returns
-returns c = record {
-  reply = c.step-reply.result;
-  adds = step_adds c.args.core.now c.step-reply.new.self c.args.now c.args.input c.step-reply.result c.step-reply.ensures c.note_bytes.ensures 0;
-  away_is = c.away_of.ensures ∙ ap (λ stream. cond (is_away c.step-reply.result) (closings stream) []) c.opened-stream.ensures;
-}
+returns g c =
+    let e = c.root_call-reply.ensures in
+    record {
+      reply = c.root_call-reply.result;
+      made = made_one c.args.shared.now c.args.root.now c.root_call-reply.new.root (answered c.args.now c.args.input c.root_call-reply.result) e.own.0 e.own.1 e.call;
+      away_is = c.away_of.ensures ∙ ap (λ stream. cond (is_away c.root_call-reply.result) (closings stream) []) c.opened-stream.ensures;
+    }

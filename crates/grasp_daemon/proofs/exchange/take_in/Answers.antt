@@ -1,12 +1,12 @@
 use Rattle.std.proofs.Common.{refl}
 use Rattle.grasp_daemon.specs.Turns.{got, nothing, no_memory}
-use Rattle.grasp_shared.proofs.Adding.{adds_nothing}
+use Rattle.grasp_daemon.proofs.RootMaking.{made_nothing}
 use Rattle.grasp_daemon.proofs.exchange.take_in.Goals as goal
 
 pub returns-in-Got : goal.returns-in-Got
 returns-in-Got g c = record {
   asking = got c.in-Got.input c.give_in.ensures.reply;
-  adds = c.give_in.ensures.adds;
+  made = c.give_in.ensures.made;
   asks = record { waits = c.in-Got.ensures.waited; given = c.in-Got.ensures.gave; handed = c.in-Got.ensures.took; faults = c.in-Got.ensures.never_falls };
   away_is = c.give_in.ensures.away_is;
 }
@@ -14,7 +14,7 @@ returns-in-Got g c = record {
 pub returns-in-Nothing : goal.returns-in-Nothing
 returns-in-Nothing g c = record {
   asking = nothing;
-  adds = adds_nothing c.args.core.now;
+  made = made_nothing c.args.shared.now c.args.root.now c.requires;
   asks = record { waits = c.in-Nothing.ensures.waited; given = c.in-Nothing.ensures.gave; handed = c.in-Nothing.ensures.took; faults = c.in-Nothing.ensures.never_falls };
   away_is = refl;
 }
@@ -22,7 +22,7 @@ returns-in-Nothing g c = record {
 pub returns-in-OutOfMemory : goal.returns-in-OutOfMemory
 returns-in-OutOfMemory g c = record {
   asking = no_memory;
-  adds = adds_nothing c.args.core.now;
+  made = made_nothing c.args.shared.now c.args.root.now c.requires;
   asks = record { waits = c.in-OutOfMemory.ensures.waited; given = c.in-OutOfMemory.ensures.gave; handed = c.in-OutOfMemory.ensures.took; faults = c.in-OutOfMemory.ensures.never_falls };
   away_is = refl;
 }

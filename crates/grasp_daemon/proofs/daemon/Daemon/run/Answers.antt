@@ -1,17 +1,31 @@
-use Rattle.std.proofs.Common.{◌≡◌, arith, subst}
-use Rattle.grasp_daemon.specs.Steps.{Running}
-use Rattle.grasp_daemon.specs.Tells.{LinksTold, links_told, told}
-use Rattle.grasp_daemon.proofs.Turning.{ended}
+use Rattle.std.proofs.Common.{◌≡◌, refl, ap, sym, subst, arith, [], List, length}
+use Rattle.std.specs.Vec.{with_items}
+use Rattle.std.proofs.lemmas.List.{with_items_is}
+use Rattle.grasp_shared.specs.declared.view.View.{View}
+use Rattle.grasp_daemon.specs.Seats.{SeatsStand}
+use Rattle.grasp_daemon.specs.Steps.{RanSeats}
+use Rattle.grasp_daemon.specs.Tells.{LinksTold, Told, told, links_told}
+use Rattle.grasp_daemon.specs.declared.seat.Seat.{Seat}
+use Rattle.grasp_daemon.proofs.Gathering.{ran_seats}
+use Rattle.grasp_daemon.proofs.RootMaking.{fresh}
 use Rattle.grasp_daemon.proofs.daemon.Daemon.run.Goals as goal
 
-pub loop-turn-preserved : goal.loop-turn-preserved
-loop-turn-preserved g c = λ from crew r k. c.turn-now.ensures from crew c.loop-turn._turn c.loop-turn.now _ (c.loop-turn.invariant from crew r k)
+pub run_shared-requires-clause-fresh : goal.run_shared-requires-clause-fresh
+run_shared-requires-clause-fresh g c κs within = let e = c.in-Ok.ensures.ok in fresh c.args.self.core c.in-Ok.root e.1 e.2
 
-pub returns : goal.returns
-returns g c = λ from crew r k.
-    let tell : _ → LinksTold = λ links. links_told (g.L.Links.waits links) (g.L.Links.given links) (g.L.Links.handed links) (g.L.Links.faults links) in
-    let start = told (g.C.Clock.readings c.args.clock.now) (tell c.args.links.now) in
-    let old = told (g.C.Clock.readings c.loop-turn.clock) (tell c.loop-turn.links) in
-    let count : c.loop-turn._turn ≡ c.args.turns = omega (arith, c.loop-turn-test.false, c.loop-turn.auto._turn-end) in
-    let running = subst (λ n. Running from crew c.args.wait n start c.loop-turn.now c.loop-turn.self.core c.loop-turn.self.seats.items old) count (c.loop-turn.invariant from crew r k) in
-    ended from crew c.args.wait c.args.turns c.loop-turn.now start old (tell c.drain_out.new.links) c.loop-turn.self.core c.drain_out.new.core c.loop-turn.self.seats.items running c.drain_out.ensures
+pub returns-in-Ok : goal.returns-in-Ok
+returns-in-Ok g c = λ from crew reaches stand.
+    let tell : _ → _ → Told = λ clock links. told (g.C.Clock.readings clock) (links_told (g.L.Links.waits links) (g.L.Links.given links) (g.L.Links.handed links) (g.L.Links.faults links)) in
+    let items = c.args.self.seats.items in
+    let slice = c.deref_mut.result.now in
+    let here : slice ≡ items = c.deref_mut.ensures.value in
+    let r = c.run_shared in
+    let e = c.close-core.ensures in
+    let old = tell c.args.clock.now c.args.links.now in
+    let new = tell r.new.clock r.new.links in
+    let same : length r.new.seats ≡ length slice = r.ensures.same in
+    let long : length slice ≡ length items = ap length here in
+    let back : (with_items c.args.self.seats r.new.seats).items ≡ r.new.seats = with_items_is c.args.self.seats r.new.seats (omega (arith, same, long, c.args.self.seats.ok.0)) in
+    let ran = ran_seats c.in-Ok.shared c.args.wait c.args.turns old new c.in-Ok.root r.new.root slice r.new.seats
+    c.args.self.core c.close-core.result from crew r.ensures (ap (λ (v : View). v.opened) c.in-Ok.ensures.ok.1) reaches (subst (SeatsStand crew [] 0) (sym here) stand) e.0 e.1 e.2 in
+    subst (λ (seats : List Seat). RanSeats from crew c.args.wait c.args.turns old seats new) (sym back) ran

@@ -1,23 +1,20 @@
-use Rattle.std.proofs.Common.{◌∙◌, ap, subst, sym, Some, ◌∷◌, []}
-use Rattle.grasp_types.specs.declared.traffic.Input.{Input}
-use Rattle.grasp_core.specs.Fed.{HasBytes}
-use Rattle.grasp_daemon.specs.declared.seat.Seat.{Seat}
-use Rattle.grasp_shared.specs.Adding.{Adds}
-use Rattle.grasp_daemon.specs.Steps.{agent_call}
+use Rattle.std.proofs.Common.{refl, sym, ap, ◌∙◌}
 use Rattle.grasp_daemon.specs.Workers.{answered}
-use Rattle.grasp_shared.proofs.Adding.{step_adds}
-use Rattle.grasp_daemon.proofs.Calling.{call_has_bytes}
+use Rattle.grasp_daemon.specs.declared.seat.Seat.{Seat}
+use Rattle.grasp_daemon.proofs.Seating.{goes_stopped, goes_called}
 use Rattle.grasp_daemon.proofs.seat.Seat.turn.Goals as goal
 
+pub returns-then-self : goal.returns-then-self
+returns-then-self g c = goes_stopped c.args.shared.now c.args.self.now c.args.self.now c.requires refl c.if-self.true
+
+pub call-requires : goal.call-requires
+call-requires g c = record { pass = c.requires.pass; is = c.next.ensures.pass ∙ c.requires.is; own = c.requires.own }
+
 pub returns-in-Ok : goal.returns-in-Ok
-returns-in-Ok c =
-    let old = c.args.self.now in
-    let core = c.args.core.now in
-    let after = c.step-reply.new.self in
-    let reply = c.step-reply.result in
-    record {
-      made = Some reply;
-      adds = λ caller. subst (λ (i : Input). Adds core (agent_call caller i reply ∷ []) after) c.in-Ok.ensures.call
-          (step_adds core after 0 c.in-Ok.input reply c.step-reply.ensures (subst HasBytes (sym c.in-Ok.ensures.call) (call_has_bytes old.worker)) caller);
-      seat = (c.if-self.false, c.take.ensures ∙ ap (λ (s : Seat). answered s.worker reply) c.in-Ok.ensures.ready);
-    }
+returns-in-Ok g c =
+    let e = c.in-Ok.ensures in
+    goes_called c.args.shared.now c.args.self.now c.next.new.self c.call.new.self c.in-Ok.input c.call.ensures e.pass e.call c.if-self.false
+    (λ r is. is ∙ ap (λ (s : Seat). answered s.worker r) e.ready)
+
+pub returns-in-Err : goal.returns-in-Err
+returns-in-Err g c = goes_stopped c.args.shared.now c.args.self.now _ c.requires c.next.ensures.pass refl

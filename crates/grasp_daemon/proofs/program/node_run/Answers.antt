@@ -1,6 +1,6 @@
 use Rattle.grasp_io.specs.Faults.{Rose}
 use Rattle.grasp_daemon.proofs.Outcomes.{Ends, ends_well, ends_badly, ends_large}
-use Rattle.grasp_daemon.proofs.program.node_main.Goals as goal
+use Rattle.grasp_daemon.proofs.program.node_run.Goals as goal
 
 -- how the program ends, as `run_input` tells it
 ends : (g : _) (c : goal.After-run_input g)
