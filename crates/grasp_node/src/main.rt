@@ -9,49 +9,57 @@ use std::env;
 use std::io::ErrorKind;
 use std::process::ExitCode;
 use std::rt::Env;
+use std::sync::Wait;
+use std::thread::Threads;
 
 fn main(rt: HostRuntime) -> ExitCode {
     let status = match words(&rt) {
-        Ok(words) => answer(&rt, &words),
+        Ok(words) => answer(&rt, &rt, &words),
         Err(status) => status,
     };
     let mut errors = StdSink::new(rt.stderr());
     ExitCode::from(finish(rt.alloc(), &status, &mut errors))
 }
 
-/// Does what the words ask for.
-fn answer(rt: &HostRuntime, words: &[String]) -> Status {
+/// Does what the words ask for. The agents of a node run in threads of the second runtime.
+fn answer<R: Threads + Wait + Sync>(rt: &HostRuntime, threads: &R, words: &[String]) -> Status {
     match text_for(words) {
         Some(text) => print_text(text.text(), &mut StdSink::new(rt.stdout())),
-        None => run(rt, words),
+        None => run(rt, threads, words),
     }
 }
 
 /// Runs a node with a seed of the machine's. Where the environment has GRASP_TRACE, what its links give and take is written to
 /// standard error.
-fn run(rt: &HostRuntime, words: &[String]) -> Status {
+fn run<R: Threads + Wait + Sync>(rt: &HostRuntime, threads: &R, words: &[String]) -> Status {
     let Some(seed) = random_seed(rt) else {
         return Status::ReadFault;
     };
     let mut links = MioLinks::new(rt, rt.alloc());
     if env::var(rt, "GRASP_TRACE").is_err() {
-        let status = run_over(rt, words, seed, &mut links);
+        let status = run_over(rt, threads, words, seed, &mut links);
         links.settle();
         return status;
     }
     let mut traced = Traced::new(rt.alloc(), links, StdSink::new(rt.stderr()));
-    let status = run_over(rt, words, seed, &mut traced);
+    let status = run_over(rt, threads, words, seed, &mut traced);
     traced.into_links().settle();
     status
 }
 
 /// Runs a node over these links.
-fn run_over<L: Links>(rt: &HostRuntime, words: &[String], seed: [u8; 32], links: &mut L) -> Status {
+fn run_over<R: Threads + Wait + Sync, L: Links>(
+    rt: &HostRuntime,
+    threads: &R,
+    words: &[String],
+    seed: [u8; 32],
+    links: &mut L,
+) -> Status {
     let mut source = FileSource::open(rt, file(words));
     let mut sink = StdSink::new(rt.stdout());
     let mut clock = StdClock::new(rt);
     node_main(
-        rt,
+        threads,
         rt.alloc(),
         words,
         &mut source,
