@@ -1,5 +1,5 @@
 -- What an `ItemReader` stands for, and what it answers.
-use Rattle.std.specs.Prelude.{◌≡◌, ℕ, List, [], ◌∷◌, ◌++◌, Option, Some, None, Result, Ok, Err, IsSomeAnd, length}
+use Rattle.std.specs.Prelude.{◌≡◌, ℕ, List, [], ◌∷◌, ◌++◌, Option, Some, None, Result, Ok, Err, IsSomeAnd, length, take}
 use Rattle.grasp_cbor.specs.DataItem.{DataItem}
 use Rattle.grasp_cbor.specs.Ending.{IsEnding, IsWhole, IsPartial}
 use Rattle.grasp_cbor.specs.ReadItem.{fault_ending}
@@ -34,6 +34,11 @@ Reading r bytes = Keeps r.fault r.walk bytes
 abbrev pub bytes_with : Option ItemFault → List ℕ → ℕ → List ℕ
 bytes_with None bytes byte = bytes ++ byte ∷ []
 bytes_with (Some fault) bytes byte = bytes
+
+-- the bytes that it stands for after it passed over so many of these: after a fault none is taken
+abbrev pub bytes_passed : Option ItemFault → List ℕ → List ℕ → ℕ → List ℕ
+bytes_passed None bytes more passed = bytes ++ take passed more
+bytes_passed (Some fault) bytes more passed = bytes
 
 -- reading all of the bytes, up to the one that was just taken, ends as the answer says
 abbrev pub AnswersTaken : List ℕ → ℕ → Result Taken ItemFault → Type 0

@@ -17,6 +17,7 @@ pub mod ItemReader
 pub mod Laws
 pub mod Length
 pub mod Major
+pub mod Passing
 pub mod ReadItem
 pub mod Room
 pub mod Shortest

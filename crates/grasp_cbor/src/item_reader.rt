@@ -1,6 +1,6 @@
 //! Reading items byte by byte.
 
-ghost use Rattle.std.specs.Prelude.{◌≡◌, ◌≢◌, ℕ, ◌+◌, ◌<◌, List, [], ◌∷◌, ◌++◌, length, Err, IfSome, IfErr, Some, None};
+ghost use Rattle.std.specs.Prelude.{◌≡◌, ◌≢◌, ℕ, ◌+◌, ◌<◌, ◌≤◌, List, [], ◌∷◌, ◌++◌, length, take, Err, IfSome, IfErr, Some, None};
 ghost use Rattle.grasp_cbor.specs.declared.read.ItemFault.TheVariants.{OutOfMemory};
 
 use crate::Steps;
@@ -18,7 +18,8 @@ pub struct ItemReader {
 }
 
 impl ItemReader {
-    ghost use Rattle.grasp_cbor.specs.ItemReader.{Reading, AnswersTaken, bytes_with, bytes_after, fault_in, fault_of, reader_limit};
+    ghost use Rattle.grasp_cbor.specs.ItemReader.{Reading, AnswersTaken, bytes_with, bytes_after, bytes_passed, fault_in, fault_of, reader_limit};
+    ghost use Rattle.grasp_cbor.specs.Ending.{IsPartial};
 
     /// Before the first byte of an item of at most `limit` bytes.
     pub fn new(limit: u64) -> ItemReader
@@ -66,5 +67,24 @@ impl ItemReader {
                 Err(ItemFault::TooLong)
             }
         }
+    }
+
+    /// Takes some of these bytes, behind each of which the item can go on, in a step each, and answers how many. It may take
+    /// none, and takes none after a fault.
+    pub fn pass<L: Ledger>(&mut self, bytes: &[u8], steps: &mut Steps<L>) -> usize
+        ensures within { result ≤ length bytes.now }
+        ensures then { (s : List ℕ) → Reading self.old s → Reading self.new (bytes_passed (fault_of self.old) s bytes.now result) }
+        ensures waits { (s : List ℕ) → Reading self.old s → fault_of self.old ≡ None
+            → IsPartial (s ++ take result bytes.now) (reader_limit self.old) }
+        ensures fault { fault_of self.new ≡ fault_of self.old }
+        ensures limit { reader_limit self.new ≡ reader_limit self.old }
+        ensures counted { steps.new ≡ steps.old + result }
+    {
+        if self.fault.is_some() {
+            return 0;
+        }
+        let passed = self.walk.pass(bytes);
+        steps.add(passed as u64);
+        passed
     }
 }

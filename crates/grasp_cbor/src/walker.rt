@@ -1,6 +1,6 @@
 //! Taking an item byte by byte, without memory, up to its end or the first byte that no item has there.
 
-ghost use Rattle.std.specs.Prelude.{◌≡◌, ℕ, ◌+◌, ◌<◌, ◌≤◌, ◌/◌, ◌%◌, ◌-◌, ◌*◌, List, [], ◌∷◌, ◌++◌, length, None, Some, Option, Result};
+ghost use Rattle.std.specs.Prelude.{◌≡◌, ℕ, ◌+◌, ◌<◌, ◌≤◌, ◌/◌, ◌%◌, ◌-◌, ◌*◌, List, [], ◌∷◌, ◌++◌, length, slice_index, take, None, Some, Option, Result};
 ghost use Rattle.grasp_cbor.specs.Front.{start_name, chunk_name, can_break, body_of, some_parts};
 ghost use Rattle.grasp_cbor.specs.Room.{levels_of, levels_at};
 ghost use Rattle.grasp_cbor.specs.Step.{after_head, broken, ended, level_after, finished, first_name, goes, heads, is_simple, levels_in, opened, step, whole, width_of};
@@ -77,6 +77,7 @@ pub(crate) struct Walk {
 
 impl Walk {
     ghost use Rattle.grasp_cbor.specs.Walking.{Took, Made, Answers, open_levels, limit_of, count_of};
+    ghost use Rattle.grasp_cbor.specs.Passing.{Passed, Moves};
 
     /// Before the first byte of an item of at most `limit` bytes.
     pub(crate) fn new(limit: u64) -> Walk
@@ -117,6 +118,186 @@ impl Walk {
                 Ok(Taken::More)
             }
         }
+    }
+
+    /// Takes some of these bytes, behind each of which the item goes on, and answers how many. It may take none.
+    pub(crate) fn pass(&mut self, bytes: &[u8]) -> usize
+        ensures within { result ≤ length bytes.now }
+        ensures took { (s : List ℕ) → Took self.old s → Took self.new (s ++ take result bytes.now) }
+        ensures limit { limit_of self.new ≡ limit_of self.old }
+    {
+        let mut passed = 0;
+        while passed < bytes.len() {
+            let more = self.pass_part(&bytes[passed..]);
+            if more == 0 {
+                return passed;
+            }
+            passed += more;
+        }
+        passed
+    }
+
+    /// Takes a part of a string or a head of these bytes, if the item goes on behind it, and answers how many bytes.
+    fn pass_part(&mut self, bytes: &[u8]) -> usize
+        ensures within { result ≤ length bytes.now }
+        ensures took { (s : List ℕ) → Took self.old s → Took self.new (s ++ take result bytes.now) }
+        ensures limit { limit_of self.new ≡ limit_of self.old }
+    {
+        let room = self.limit.saturating_sub(self.taken).saturating_sub(1);
+        let there = lesser(bytes.len() as u64, room) as usize;
+        let passed = self.pass_front(&bytes[..there]);
+        self.taken += passed as u64;
+        passed
+    }
+
+    /// As `pass_part`, without counting the bytes.
+    fn pass_front(&mut self, bytes: &[u8]) -> usize
+        ensures within { result ≤ length bytes.now }
+        ensures passed { Passed self.old self.new (take result bytes.now) }
+        ensures kept { (self.new.taken ≡ self.old.taken) × (self.new.limit ≡ self.old.limit) }
+    {
+        match self.stage {
+            Stage::Beginning => self.pass_head(bytes),
+            Stage::Heading(..) => 0,
+            Stage::InBytes(left) => self.pass_bytes(left, bytes),
+            Stage::InText(owed, left) => self.pass_text(owed, left, bytes),
+        }
+    }
+
+    /// Takes bytes of a byte string, but for its last.
+    fn pass_bytes(&mut self, left: u64, bytes: &[u8]) -> usize
+        requires { self.old.stage ≡ InBytes left }
+        ensures within { result ≤ length bytes.now }
+        ensures passed { Passed self.old self.new (take result bytes.now) }
+        ensures kept { (self.new.taken ≡ self.old.taken) × (self.new.limit ≡ self.old.limit) }
+    {
+        let passed = lesser(bytes.len() as u64, left.saturating_sub(1));
+        self.stage = Stage::InBytes(left - passed);
+        passed as usize
+    }
+
+    /// Takes characters of one byte of a text string, but for its last byte.
+    fn pass_text(&mut self, owed: Owed, left: u64, bytes: &[u8]) -> usize
+        requires { self.old.stage ≡ InText owed left }
+        ensures within { result ≤ length bytes.now }
+        ensures passed { Passed self.old self.new (take result bytes.now) }
+        ensures kept { (self.new.taken ≡ self.old.taken) × (self.new.limit ≡ self.old.limit) }
+    {
+        if owed.need > 0 {
+            return 0;
+        }
+        let most = lesser(bytes.len() as u64, left.saturating_sub(1)) as usize;
+        let passed = ascii_front(&bytes[..most]);
+        if passed == 0 {
+            return 0;
+        }
+        self.stage = Stage::InText(READY, left - passed as u64);
+        passed
+    }
+
+    /// Takes a head of one byte or an unsigned number, behind which an item goes on.
+    fn pass_head(&mut self, bytes: &[u8]) -> usize
+        requires { self.old.stage ≡ Beginning }
+        ensures within { result ≤ length bytes.now }
+        ensures passed { Passed self.old self.new (take result bytes.now) }
+        ensures kept { (self.new.taken ≡ self.old.taken) × (self.new.limit ≡ self.old.limit) }
+    {
+        if self.string.is_some() {
+            return 0;
+        }
+        match bytes {
+            [] => 0,
+            [first, rest @ ..] => match self.first_fault(*first / 32, *first % 32) {
+                Some(_) => 0,
+                None => self.pass_fine(*first, rest),
+            },
+        }
+    }
+
+    /// As `pass_head`, where the first byte has no fault.
+    fn pass_fine(&mut self, first: u8, rest: &[u8]) -> usize
+        requires stage { self.old.stage ≡ Beginning }
+        requires string { self.old.string ≡ None }
+        requires fine { first_name (open_levels self.old) None (first / 32) (first % 32) ≡ None }
+        ensures within { result ≤ length rest.now + 1 }
+        ensures passed { Passed self.old self.new (take result (first ∷ rest.now)) }
+        ensures kept { (self.new.taken ≡ self.old.taken) × (self.new.limit ≡ self.old.limit) }
+    {
+        let info = first % 32;
+        if info < 24 {
+            if self.pass_small(Major::of(first / 32), info) {
+                return 1;
+            }
+            return 0;
+        }
+        if first > 27 {
+            return 0;
+        }
+        let size = usize::from(width_at(info));
+        if rest.len() < size {
+            return 0;
+        }
+        if self.pass_item() { size + 1 } else { 0 }
+    }
+
+    /// Takes a head of one byte, behind which an item goes on, and answers whether it did.
+    fn pass_small(&mut self, major: Major, info: u8) -> bool
+        requires stage { self.old.stage ≡ Beginning }
+        requires string { self.old.string ≡ None }
+        requires room { self.old.depth + levels_of major ≤ 16 }
+        ensures moves { Moves self.old self.new result (after_head (open_levels self.old) None (body_of major info)) }
+        ensures kept { (self.new.taken ≡ self.old.taken) × (self.new.limit ≡ self.old.limit) }
+    {
+        match major {
+            Major::Unsigned | Major::Negative | Major::Simple => self.pass_item(),
+            Major::ByteString => {
+                if info == 0 {
+                    return self.pass_item();
+                }
+                self.stage = Stage::InBytes(u64::from(info));
+                true
+            }
+            Major::TextString => {
+                if info == 0 {
+                    return self.pass_item();
+                }
+                self.stage = Stage::InText(READY, u64::from(info));
+                true
+            }
+            Major::Array => self.pass_parts(u128::from(info)),
+            Major::Map => self.pass_parts(2 * u128::from(info)),
+            Major::Tag => self.pass_parts(1),
+        }
+    }
+
+    /// Begins an array, a map or a tag of so many parts, behind whose head an item goes on, and answers whether it did.
+    fn pass_parts(&mut self, parts: u128) -> bool
+        requires stage { self.old.stage ≡ Beginning }
+        requires string { self.old.string ≡ None }
+        requires room { self.old.depth < 16 }
+        ensures moves { Moves self.old self.new result (after_head (open_levels self.old) None (some_parts parts)) }
+        ensures kept { (self.new.taken ≡ self.old.taken) × (self.new.limit ≡ self.old.limit) }
+    {
+        if parts == 0 {
+            return self.pass_item();
+        }
+        self.push(Level::Parts(parts));
+        true
+    }
+
+    /// Ends an item inside others, and answers whether one goes on.
+    fn pass_item(&mut self) -> bool
+        requires stage { self.old.stage ≡ Beginning }
+        requires string { self.old.string ≡ None }
+        ensures moves { Moves self.old self.new result (finished (open_levels self.old)) }
+        ensures kept { (self.new.taken ≡ self.old.taken) × (self.new.limit ≡ self.old.limit) }
+    {
+        let open = end_item(&mut self.levels, self.depth);
+        if open == 0 {
+            return false;
+        }
+        self.depth = open;
+        true
     }
 
     /// How many bytes it has taken since the last whole item.
@@ -378,6 +559,27 @@ fn chunk_fault(kind: StringKind, major: u8, info: u8) -> Option<FaultName>
     }
 }
 
+/// The lesser of two numbers.
+fn lesser(a: u64, b: u64) -> u64
+    ensures first { result ≤ a }
+    ensures second { result ≤ b }
+{
+    if a < b { a } else { b }
+}
+
+/// How many bytes stand before the first that isn't a character of ASCII.
+fn ascii_front(bytes: &[u8]) -> usize
+    ensures within { result ≤ length bytes.now }
+    ensures ascii { (k : ℕ) → k < result → slice_index bytes.now k < 128 }
+{
+    for (i, byte) in bytes.iter().enumerate() {
+        if *byte >= 128 {
+            return i;
+        }
+    }
+    bytes.len()
+}
+
 fn width_at(info: u8) -> u8
     ensures { result ≡ width_of info }
 {
@@ -417,6 +619,7 @@ fn after_part(level: Level) -> Option<Level>
 fn end_item(levels: &mut [Level; 16], depth: u8) -> u8
     requires { depth ≤ 16 }
     ensures within { result ≤ depth }
+    ensures same { result ≡ 0 → levels.new ≡ levels.old }
     ensures open { 0 < result → finished (levels_in depth levels.old) ≡ goes (levels_in result levels.new) None Beginning }
     ensures whole { result ≡ 0 → finished (levels_in depth levels.old) ≡ whole }
 {
