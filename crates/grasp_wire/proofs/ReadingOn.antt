@@ -1,12 +1,12 @@
 -- Steps of reading on.
-use Rattle.std.proofs.Common.{◌≡◌, ℕ, ◌+◌, ◌<◌, List, [], ◌∷◌, ◌++◌, take, drop, get_or, length, None, Some, Result, Ok, inl, inr, refl, sym, ap, subst, ◌∙◌, append_assoc, arith}
+use Rattle.std.proofs.Common.{◌≡◌, ℕ, ◌+◌, ◌-◌, ◌<◌, List, [], ◌∷◌, ◌++◌, take, drop, get_or, length, None, Some, Result, Ok, inl, inr, refl, sym, ap, subst, ◌∙◌, append_assoc, arith}
 use Rattle.std.proofs.lemmas.Bool.{cases_lt}
 use Rattle.std.proofs.lemmas.List.{length-append, length-take-le, length_push, take_at, take_more, take-append-drop, take-append-le}
 use Rattle.grasp_cbor.specs.Bytes.{AllBytes}
 use Rattle.grasp_cbor.specs.CanGoOn.{CanGoOn}
 use Rattle.grasp_cbor.specs.DataItem.{DataItem}
 use Rattle.grasp_cbor.specs.Ending.{too_long, faulty, IsWhole, IsPartial, IsTooLong, IsFaulty}
-use Rattle.grasp_cbor.specs.ItemReader.{Reading, EndsWith, AnswersTaken, bytes_with, fault_of, reader_limit}
+use Rattle.grasp_cbor.specs.ItemReader.{Reading, EndsWith, AnswersTaken, bytes_with, bytes_passed, fault_of, reader_limit}
 use Rattle.grasp_cbor.specs.declared.item_reader.ItemReader.{ItemReader}
 use Rattle.grasp_cbor.specs.declared.read.ItemFault.{ItemFault}
 use Rattle.grasp_cbor.specs.declared.read.ItemFault.TheVariants.{Malformed, NotText, TooDeep, TooLong, OutOfMemory}
@@ -15,7 +15,8 @@ use Rattle.grasp_cbor.specs.declared.walker.FaultName.TheVariants as name
 use Rattle.grasp_cbor.specs.declared.walker.Taken.{Taken}
 use Rattle.grasp_cbor.specs.declared.walker.Taken.TheVariants.{More, Whole}
 use Rattle.grasp_cbor.proofs.Cases.{one_ending}
-use Rattle.grasp_cbor.proofs.HeadBytes.{AllBytes-append}
+use Rattle.grasp_cbor.proofs.HeadBytes.{AllBytes-append, AllBytes-take, AllBytes-drop}
+use Rattle.grasp_cbor.proofs.Passing.{then_rest}
 use Rattle.grasp_cbor.proofs.Insides.{zero_item}
 use Rattle.grasp_cbor.proofs.Kept.{ends_stays}
 use Rattle.grasp_wire.specs.ReadOn.{IsOpen, AnswersRead, MeetsFault, taken_at}
@@ -54,6 +55,20 @@ open_more old new bytes more i l byte o same none answer read =
       no_fault = none;
       are_bytes = AllBytes-append front (get_or more i 0 ∷ []) o.are_bytes (byte, tt);
       waits = subst (λ n. IsPartial (front ++ get_or more i 0 ∷ []) n) (sym same) waits;
+    })
+
+-- so many bytes were passed over, and more can follow
+pub open_passed : (old new : ItemReader) (bytes more : List ℕ) (i n : ℕ) → AllBytes more → IsOpen old (bytes ++ take i more) → reader_limit new ≡ reader_limit old → fault_of new ≡ fault_of old
+    → Reading new (bytes_passed (fault_of old) (bytes ++ take i more) (take (length more - i) (drop i more)) n) → IsPartial ((bytes ++ take i more) ++ take n (take (length more - i) (drop i more))) (reader_limit old)
+    → IsOpen new (bytes ++ take (i + n) more)
+open_passed old new bytes more i n all o same none read waits =
+    let front : List ℕ = bytes ++ take i more in
+    let rest : List ℕ = take (length more - i) (drop i more) in
+    subst (λ x. IsOpen new x) (then_rest bytes more i n) (record {
+      reading = subst (λ f. Reading new (bytes_passed f front rest n)) o.no_fault read;
+      no_fault = none ∙ o.no_fault;
+      are_bytes = AllBytes-append front (take n rest) o.are_bytes (AllBytes-take n rest (AllBytes-take (length more - i) (drop i more) (AllBytes-drop i more all)));
+      waits = subst (λ k. IsPartial (front ++ take n rest) k) (sym same) waits;
     })
 
 -- it ended an item

@@ -30,9 +30,15 @@ pub(crate) fn read_on<L: Ledger>(
     ensures steps { (bytes : List ℕ) → IsOpen reader.old bytes
         → steps.new ≡ steps.old + taken_more (length bytes) more.now (reader_limit reader.old) result }
 {
-    for (i, byte) in more.iter().enumerate() {
-        match reader.take(*byte, steps) {
-            Ok(Taken::More) => {}
+    let mut i = 0;
+    while i < more.len() {
+        let passed = reader.pass(&more[i..], steps);
+        i += passed;
+        if i == more.len() {
+            return Ok(None);
+        }
+        match reader.take(more[i], steps) {
+            Ok(Taken::More) => i += 1,
             Ok(Taken::Whole) => return Ok(Some(i + 1)),
             Err(fault) => return Err(fault),
         }
