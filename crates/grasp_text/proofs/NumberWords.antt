@@ -1,12 +1,14 @@
 -- The decimal number of a word.
-use Rattle.std.proofs.Common.{◌≡◌, ℕ, ◌^◌, ◌<◌, ◌≤◌, Bool, true, false, cond, ◌&&◌, List, length, get_or, Option, Some, None, refl, sym, ap, subst, ◌∙◌, arith}
-use Rattle.std.specs.Prelude.{decimal, nat_le, codes}
-use Rattle.std.specs.Bool.{then_some}
+use Rattle.std.proofs.Common.{rules, ◌≡◌, ℕ, zero, suc, ◌+◌, ◌-◌, ◌*◌, ◌^◌, ◌<◌, ◌≤◌, Bool, true, false, cond, ◌&&◌, List, [], ◌∷◌, ◌++◌, length, get_or, take, Option, Some, None, refl, sym, ap, subst, ◌∙◌, append_assoc, arith}
+use Rattle.std.specs.Prelude.{decimal, nat_le, codes, IfSome, IfNone}
+use Rattle.std.specs.Char.{digit_value}
 use Rattle.std.specs.Str.{bytes_eq, IsUtf8}
 use Rattle.std.specs.Str.Parse.{digits_value, AllDigits}
-use Rattle.std.proofs.lemmas.Bool.{le-leb, leb-true, and_parts, false≢true}
-use Rattle.std.proofs.lemmas.Fmt.{decimal_is_IsNumeral, IsAscii-decimal, digits_decimal, decimal_nonempty}
-use Rattle.std.proofs.lemmas.Str.Parse.{IsNumeralModel, numerals_by_value, tells_digits, digit_at}
+use Rattle.std.proofs.lemmas.Bool.{le-leb, leb-true}
+use Rattle.std.proofs.lemmas.Fmt.{decimal_is_IsNumeral, decimal-digits_value, decimal_digit, decimal_injective, IsAscii-decimal, digits_decimal, decimal_nonempty, first_decimal}
+use Rattle.std.proofs.lemmas.Str.Parse.{IsNumeralModel, numerals_by_value, tells_digits, digit_at, digits_value-take-le}
+use Rattle.std.proofs.lemmas.Int.Digits.{digits_more, digits_value_more}
+use Rattle.std.proofs.lemmas.List.{take_all}
 use Rattle.std.proofs.lemmas.Str.{IsUtf8-from_ascii}
 use Rattle.std.proofs.lemmas.Slice.Eq.{bytes_eq-Decides}
 use Rattle.grasp_text.specs.Reading.{number_of}
@@ -66,27 +68,6 @@ number_exact most small = record {
   only = number_only most;
 }
 
-is_some : {A : Type 0} (o : Option A) (x y : A) → o ≡ Some x → o ≡ Some y → x ≡ y
-is_some o x y e f = some_is x y (sym e ∙ f)
-
--- the number of a word, where a candidate for it is known
-pub number_by : (most : ℕ) (word : List ℕ) (o : Option ℕ) (n : ℕ) (b : Bool) → most < 2 ^ 64 → ((m : ℕ) → m < 2 ^ 64 → word ≡ decimal m → o ≡ Some m) → o ≡ Some n → b ≡ (bytes_eq (decimal n) word && nat_le n most) → number_of most word ≡ cond b (some n) None
-number_by most word o n true small gives is test =
-    let t = and_parts (bytes_eq (decimal n) word) (nat_le n most) (sym test) in
-    number_found most n word small (leb-true n most t.1) (sym ((bytes_eq-Decides (decimal n) word).0 t.0))
-number_by most word o n false small gives is test = number_none most word (λ m le e.
-    let same : n ≡ m = is_some o n m is (gives m (omega arith) e) in
-    let one : bytes_eq (decimal n) word ≡ true = (bytes_eq-Decides (decimal n) word).1 (ap decimal same ∙ sym e) in
-    let two : nat_le n most ≡ true = le-leb n most (omega arith) in
-    false≢true (test ∙ ap (λ (b : Bool). b && nat_le n most) one ∙ two))
-
-pub number_by_none : (most : ℕ) (word : List ℕ) (o : Option ℕ) → most < 2 ^ 64 → ((m : ℕ) → m < 2 ^ 64 → word ≡ decimal m → o ≡ Some m) → o ≡ None → number_of most word ≡ None
-number_by_none most word o small gives is = number_none most word (λ m le e. let z = sym is ∙ gives m (omega arith) e in cc)
-
-pub chosen : (b : Bool) (n : ℕ) → then_some b n ≡ cond b (some n) None
-chosen true n = refl
-chosen false n = refl
-
 own : IsNumeralModel (AllDigits 10) (digits_value 10)
 own = numerals_by_value (AllDigits 10) tells_digits
 
@@ -103,3 +84,72 @@ number_no_dash most small = number_none most (codes "-") (λ n le e.
     let d = number_digit n 0 (omega arith) some_digit in
     let z : get_or (codes "-") 0 0 ≡ get_or (decimal n) 0 0 = ap (λ (x : List ℕ). get_or x 0 0) e in
     absurd (omega arith))
+
+digit_value_of : (c : ℕ) → 48 ≤ c → c < 58 → digit_value c ≡ c - 48
+digit_value_of c a b = search rules
+
+-- one more digit
+pub digit_more : (ds : List ℕ) (i v w : ℕ) → i < length ds → AllDigits 10 (take i ds) → v ≡ digits_value 10 (take i ds) → 48 ≤ get_or ds i 0 → get_or ds i 0 < 58 → w ≡ v * 10 + (get_or ds i 0 - 48) → AllDigits 10 (take (i + 1) ds) × (w ≡ digits_value 10 (take (i + 1) ds))
+digit_more ds i v w inside h e a b f =
+    let c : ℕ = get_or ds i 0 in
+    let d : digit_value c ≡ c - 48 = digit_value_of c a b in (
+      digits_more 10 ds i inside h (omega (arith, d, b)),
+      f ∙ ap (λ (x : ℕ). x * 10 + (c - 48)) e ∙ ap (λ (x : ℕ). digits_value 10 (take i ds) * 10 + x) (sym d) ∙ sym (digits_value_more 10 ds i inside),
+    )
+
+-- a byte that is no digit, or a digit with which the value is too large
+pub digit_none : (ds : List ℕ) (i v : ℕ) → i < length ds → v ≡ digits_value 10 (take i ds) → (48 ≤ get_or ds i 0 → get_or ds i 0 < 58 → 2 ^ 64 ≤ v * 10 + (get_or ds i 0 - 48)) → (n : ℕ) → n < 2 ^ 64 → ¬ (ds ≡ decimal n)
+digit_none ds i v inside e h n lt is =
+    let c : ℕ = get_or ds i 0 in
+    let there : i < length (decimal n) = subst (λ (x : List ℕ). i < length x) is inside in
+    let a : 48 ≤ c = subst (λ (x : List ℕ). 48 ≤ get_or x i 0) (sym is) (number_digit n i lt there) in
+    let b : c ≤ 57 = subst (λ (x : List ℕ). get_or x i 0 ≤ 57) (sym is) (number_digit_most n i lt there) in
+    let big : 2 ^ 64 ≤ v * 10 + (c - 48) = h a (omega (arith, b)) in
+    let whole : digits_value 10 ds ≡ n = ap (digits_value 10) is ∙ (decimal_is_IsNumeral n lt).1 in
+    let le : digits_value 10 (take (i + 1) ds) ≤ digits_value 10 ds = digits_value-take-le 10 ds (i + 1) (omega arith) in
+    let more : digits_value 10 (take (i + 1) ds) ≡ digits_value 10 (take i ds) * 10 + digit_value c = digits_value_more 10 ds i inside in
+    let d : digit_value c ≡ c - 48 = digit_value_of c a (omega (arith, b)) in
+    absurd (omega (arith, big, e, whole, le, more, d, lt))
+
+pub digits_all : (ds : List ℕ) (i : ℕ) → length ds ≤ i → AllDigits 10 (take i ds) → AllDigits 10 ds
+digits_all ds i le h = subst (AllDigits 10) (take_all i ds le) h
+
+pub value_all : (ds : List ℕ) (i v : ℕ) → length ds ≤ i → v ≡ digits_value 10 (take i ds) → v ≡ digits_value 10 ds
+value_all ds i v le e = e ∙ ap (digits_value 10) (take_all i ds le)
+
+pub empty_none : (ds : List ℕ) → length ds ≡ 0 → (n : ℕ) → n < 2 ^ 64 → ¬ (ds ≡ decimal n)
+empty_none ds none n lt is =
+    let some : 0 < length (decimal n) = decimal_nonempty n lt in
+    let same : length ds ≡ length (decimal n) = ap length is in
+    absurd (omega (arith, some, same, none))
+
+-- a zero before other digits
+pub zero_none : (ds : List ℕ) → 1 < length ds → get_or ds 0 0 ≡ 48 → (n : ℕ) → n < 2 ^ 64 → ¬ (ds ≡ decimal n)
+zero_none ds long first zero lt is = let same : length ds ≡ 1 = ap length (is ∙ decimal_digit 0 (omega arith)) in absurd (omega (arith, same, long))
+zero_none ds long first (suc n) lt is =
+    let later : 48 < get_or (decimal (suc n)) 0 0 = first_decimal (suc n) (omega arith) lt in
+    let same : get_or ds 0 0 ≡ get_or (decimal (suc n)) 0 0 = ap (λ (x : List ℕ). get_or x 0 0) is in
+    absurd (omega (arith, later, same, first))
+
+pub digits_spelled : (ds : List ℕ) (v : ℕ) → AllDigits 10 ds → v ≡ digits_value 10 ds → v < 2 ^ 64 → 0 < length ds → (get_or ds 0 0 ≡ 48 → length ds ≡ 1) → ds ≡ decimal v
+digits_spelled ds v digits e small long one = sym (ap decimal e ∙ decimal-digits_value own ds digits long one (subst (λ (x : ℕ). x < 2 ^ 64) e small))
+
+pub digits_answer : (o : Option ℕ) (ds : List ℕ) → IfSome o (λ n. AllDigits 10 ds) → IfSome o (λ n. n ≡ digits_value 10 ds) → IfSome o (λ n. n < 2 ^ 64) → 0 < length ds → (get_or ds 0 0 ≡ 48 → length ds ≡ 1) → IfSome o (λ n. ds ≡ decimal n)
+digits_answer None ds h e small long one = tt
+digits_answer (Some v) ds h e small long one = digits_spelled ds v h e small long one
+
+pub if_none : {P : Type 0} (o : Option ℕ) → P → IfNone o P
+if_none None p = p
+if_none (Some n) p = tt
+
+pub number_more_than : (most : ℕ) (word : List ℕ) (n : ℕ) → most < n → n < 2 ^ 64 → word ≡ decimal n → number_of most word ≡ None
+number_more_than most word n more small e = number_none most word (λ m le f.
+    let same : n ≡ m = decimal_injective n m small (omega (arith, le, more, small)) (sym e ∙ f) in
+    absurd (omega (arith, same, le, more)))
+
+pub number_no_digits : (most : ℕ) (word : List ℕ) → most < 2 ^ 64 → ((n : ℕ) → n < 2 ^ 64 → ¬ (word ≡ decimal n)) → number_of most word ≡ None
+number_no_digits most word small h = number_none most word (λ n le e. h n (omega (arith, le, small)) e)
+
+-- a blank and a number of one digit behind a text
+pub small_number : (old middle new : List ℕ) (n : ℕ) → n < 10 → middle ≡ old ++ 32 ∷ [] → new ≡ middle ++ (48 + n) ∷ [] → new ≡ old ++ 32 ∷ (decimal n ++ [])
+small_number old middle new n lt a b = b ∙ ap (λ (x : List ℕ). x ++ (48 + n) ∷ []) a ∙ append_assoc old (32 ∷ []) ((48 + n) ∷ []) ∙ ap (λ (x : List ℕ). old ++ 32 ∷ (x ++ [])) (sym (decimal_digit n lt))

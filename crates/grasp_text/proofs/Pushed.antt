@@ -1,16 +1,15 @@
 -- Words behind words.
 use Rattle.std.proofs.Common.{◌≡◌, ℕ, ◌+◌, ◌≤◌, List, [], ◌∷◌, ◌++◌, length, take, Some, Result, Ok, Err, refl, sym, ap, subst, ◌∙◌, append_assoc}
-use Rattle.std.specs.Prelude.{OnErr}
+use Rattle.std.specs.Prelude.{OnOk, OnErr}
 use Rattle.std.proofs.lemmas.List.{append-nil, take_all, take_more}
 use Rattle.std.proofs.lemmas.Option.{slice_get_within, get_or_from_slice_get}
 use Rattle.std.specs.List.{AllByRecursion, slice_get}
 use Rattle.grasp_cbor.specs.Extends.{Extends}
-use Rattle.grasp_types.specs.Message.{IsMessage}
 use Rattle.grasp_types.specs.declared.address.Locator.{Locator}
 use Rattle.grasp_types.specs.declared.flood.FloodPart.{FloodPart}
 use Rattle.grasp_types.specs.declared.message.Message.{Message}
 use Rattle.grasp_types.specs.declared.message.Message.TheVariants.{Noop, Discovery, Response, ReqNeg, ReqSyn, Negotiate, End, Wait, Synch, Flood, Invalid}
-use Rattle.grasp_text.specs.Line.{locator_words, all_locator_words, flood_part_words, all_flood_part_words, message_words, IsLineOf}
+use Rattle.grasp_text.specs.Line.{locator_words, all_locator_words, flood_part_words, all_flood_part_words, message_words}
 use Rattle.grasp_text.specs.Words.{spaced, joined}
 use Rattle.grasp_text.specs.Writing.{line_name, words_behind_name}
 
@@ -97,7 +96,12 @@ line_all (Flood session initiator ttl parts) = refl
 line_all (Invalid session detail) = refl
 
 -- a name and the words behind it are the line
-pub line_pushed : (m : Message) (name text : List ℕ) → IsMessage m → name ≡ line_name m → text ≡ name ++ spaced (words_behind_name m) → IsLineOf text m
-line_pushed m name text whole e f = record { whole = whole; spelled = f ∙ ap (λ (x : List ℕ). x ++ spaced (words_behind_name m)) e ∙ sym (ap joined (line_all m) ∙ joined_spaced (line_name m) (words_behind_name m)) }
+line_appended : (m : Message) (old middle new name : List ℕ) → middle ≡ old ++ name → name ≡ line_name m → new ≡ middle ++ spaced (words_behind_name m) → new ≡ old ++ joined (message_words m)
+line_appended m old middle new name a b c =
+    let behind : List ℕ = spaced (words_behind_name m) in
+    let whole : line_name m ++ behind ≡ joined (message_words m) = sym (ap joined (line_all m) ∙ joined_spaced (line_name m) (words_behind_name m)) in
+    c ∙ ap (λ (x : List ℕ). x ++ behind) a ∙ append_assoc old name behind ∙ ap (λ (x : List ℕ). old ++ (x ++ behind)) b ∙ ap (λ (x : List ℕ). old ++ x) whole
 
-pub ruleset lines = (line_pushed)
+pub line_appended_later : {A E : Type 0} (r : Result A E) (m : Message) (old middle new name : List ℕ) → middle ≡ old ++ name → name ≡ line_name m → OnOk r (new ≡ middle ++ spaced (words_behind_name m)) → OnOk r (new ≡ old ++ joined (message_words m))
+line_appended_later (Ok x) m old middle new name a b c = line_appended m old middle new name a b c
+line_appended_later (Err e) m old middle new name a b c = tt

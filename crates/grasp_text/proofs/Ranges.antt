@@ -5,9 +5,9 @@ use Rattle.std.proofs.lemmas.List.{append_cancel_left}
 use Rattle.grasp_cbor.specs.Bytes.{AllBytes}
 use Rattle.grasp_cbor.specs.DataItem.{DataItem, DataItems, DataPairs, unsigned, negative, byte_string, text_string, array, mapping, tagged, simple_value, half_float, single_float, double_float, no_items, item_and, no_pairs, pair_and, item_count, pair_count}
 use Rattle.grasp_cbor.specs.Encodable.{IsEncodable, AreEncodable, ArePairsEncodable}
-use Rattle.grasp_cbor.specs.Encodes.{IsEncoding, AreEncodings, ArePairEncodings, IsDefiniteString, IsIndefiniteString}
+use Rattle.grasp_cbor.specs.Encodes.{IsEncoding, AreEncodings, ArePairEncodings}
 use Rattle.grasp_cbor.specs.Front.{IsHeadOf}
-use Rattle.grasp_cbor.specs.Head.{HeadSize, direct, one_byte, two_bytes, four_bytes, eight_bytes, argument_limit, sized_head, IsHead, shortest_size, shortest_head}
+use Rattle.grasp_cbor.specs.Head.{HeadSize, direct, one_byte, two_bytes, four_bytes, eight_bytes, argument_limit, shortest_size, shortest_head}
 use Rattle.grasp_cbor.specs.Shortest.{shortest, shortest_items, shortest_pairs}
 use Rattle.grasp_cbor.specs.Stands.{info_of}
 use Rattle.grasp_cbor.specs.declared.heads.Major.{Major}

@@ -2,7 +2,8 @@
 -- the word on that doesn't fit. Public calls cite `Reads`, `word_at`, `end_at`, `exactly`, `maybe_of`, and `number_of`,
 -- `text_of`, `value_of` and `address_of`, which the laws of Laws.antt determine; all else is inside: only private calls
 -- cite it.
-use Rattle.std.specs.Prelude.{◌≡◌, ℕ, ◌+◌, ◌-◌, ◌*◌, ◌==◌, Bool, not, nat_le, nat_lt, ◌&&◌, if◌then◌else◌, List, [], ◌∷◌, length, take, drop, Option, Some, None, Result, Ok, Err, codes, decimal}
+use Rattle.std.specs.Prelude.{◌≡◌, ℕ, ◌+◌, ◌-◌, ◌*◌, ◌==◌, Bool, true, not, nat_le, nat_lt, ◌&&◌, if◌then◌else◌, List, [], ◌∷◌, length, take, drop, Option, Some, None, Result, Ok, Err, codes, decimal}
+use Rattle.std.specs.List.{AllByRecursion}
 use Rattle.std.specs.Int.{Width, w32, w128, from_be_bytes}
 use Rattle.std.specs.Str.{is_utf8, bytes_eq}
 use Rattle.std.specs.Str.Parse.{digits_value}
@@ -81,6 +82,10 @@ address_of word = either_address (v4_of word) (v6_of word)
 -- a byte that stands for itself in a text's word
 abbrev pub is_plain : ℕ → Bool
 is_plain b = (nat_le 33 b && nat_le b 126) && not (b == 37)
+
+-- each of the bytes stands for itself
+abbrev pub ArePlain : List ℕ → Type 0
+ArePlain bytes = AllByRecursion (λ b. is_plain b ≡ true) bytes
 
 -- the value of a lower-case hexadecimal digit
 abbrev pub digit_of : ℕ → Option ℕ

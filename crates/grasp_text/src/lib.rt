@@ -29,5 +29,6 @@ pub use texts::{push_text, text};
 pub use values::{bytes, push_bytes, push_value, value};
 pub use words::Words;
 pub use writing::{
-    line_of, push_locator, push_objective, push_optional_locator, push_optional_value, push_word,
+    line_of, push_line, push_locator, push_objective, push_optional_locator, push_optional_value,
+    push_word,
 };

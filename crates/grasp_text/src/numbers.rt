@@ -1,7 +1,7 @@
 //! Decimal numbers as words.
 
-ghost use Rattle.std.specs.Prelude.{◌≡◌, ℕ, ◌<◌, ◌^◌, ◌&&◌, nat_le, ◌++◌, ◌∷◌, [], Some, ◌≤◌, IfSome, IfNone, OnOk, OnErr, decimal, string_bytes};
-ghost use Rattle.std.specs.Str.{bytes_eq};
+ghost use Rattle.std.specs.Prelude.{◌≡◌, ℕ, ◌<◌, ◌^◌, ◌+◌, ◌-◌, ◌*◌, ◌++◌, ◌∷◌, [], ◌≤◌, IfSome, IfNone, OnOk, OnErr, decimal, string_bytes};
+ghost use Rattle.std.specs.Str.Parse.{AllDigits, digits_value};
 ghost use Rattle.grasp_cbor.specs.Extends.{Extends};
 ghost use Rattle.grasp_text.specs.Reading.{number_of};
 ghost use Rattle.grasp_text.specs.Words.{spaced};
@@ -16,37 +16,70 @@ pub fn number(word: &[u8], most: u64) -> Option<u64>
     ensures none { IfNone result ((n : ℕ) → n ≤ most → ¬ (word.now ≡ decimal n)) }
     ensures value { result ≡ number_of most word.now }
 {
-    match value_of_digits(word) {
-        Some(n) => is_number(word, n, most).then_some(n),
-        None => None,
-    }
+    read_number(word, most)
 }
 
-/// The value of decimal digits. Other words may have one too, as digits with a leading zero.
+/// The number of a word, which is at most `most`, or `None`.
+fn read_number(word: &[u8], most: u64) -> Option<u64>
+    ensures value { result ≡ number_of most word.now }
+    ensures within { IfSome result (λ n. n ≤ most) }
+{
+    let n = number_of_digits(word)?;
+    if n <= most { Some(n) } else { None }
+}
+
+/// The number below 2^64 of a word, or `None`.
+fn number_of_digits(word: &[u8]) -> Option<u64>
+    ensures some { IfSome result (λ n. word.now ≡ decimal n) }
+    ensures none { IfNone result ((n : ℕ) → n < 2 ^ 64 → ¬ (word.now ≡ decimal n)) }
+{
+    if word.is_empty() {
+        return None;
+    }
+    if word.len() > 1 && word[0] == b'0' {
+        return None;
+    }
+    value_of_digits(word)
+}
+
+/// The value of decimal digits, or `None` where another byte is among them or the value is too large.
 fn value_of_digits(word: &[u8]) -> Option<u64>
-    ensures { (n : ℕ) → n < 2 ^ 64 → word.now ≡ decimal n → result ≡ Some n }
+    ensures digits { IfSome result (λ n. AllDigits 10 word.now) }
+    ensures value { IfSome result (λ n. n ≡ digits_value 10 word.now) }
+    ensures small { IfSome result (λ n. n < 2 ^ 64) }
+    ensures none { IfNone result ((n : ℕ) → n < 2 ^ 64 → ¬ (word.now ≡ decimal n)) }
 {
-    match str::from_utf8(word) {
-        Ok(digits) => digits.parse::<u64>().ok(),
-        Err(_) => None,
+    let mut value = 0;
+    for digit in word {
+        value = with_digit(value, *digit)?;
     }
+    Some(value)
 }
 
-/// Whether the word is the number n, which is at most `most`.
-fn is_number(word: &[u8], n: u64, most: u64) -> bool
-    ensures { result ≡ (bytes_eq (decimal n) word.now && nat_le n most) }
+/// The value of the digits so far with one more behind them.
+fn with_digit(value: u64, digit: u8) -> Option<u64>
+    ensures some { IfSome result (λ n. (48 ≤ digit) × (digit < 58) × (n ≡ value * 10 + (digit - 48))) }
+    ensures small { IfSome result (λ n. n < 2 ^ 64) }
+    ensures none { IfNone result (48 ≤ digit → digit < 58 → 2 ^ 64 ≤ value * 10 + (digit - 48)) }
 {
-    let mut buffer = Buffer::new();
-    buffer.format(n).as_bytes() == word && n <= most
+    if digit < b'0' || digit > b'9' {
+        return None;
+    }
+    value.checked_mul(10)?.checked_add(u64::from(digit - b'0'))
 }
 
 /// Appends a blank and a decimal number. After an `Err` a part of them may have been appended.
+#[tactic(auto, using(crate::proofs::NumberWords::small_number))]
 pub fn push_number(out: &mut String, n: u64) -> Result<(), OutOfMemory>
     ensures text { OnOk result (string_bytes out.new ≡ string_bytes out.old ++ spaced (decimal n ∷ [])) }
     ensures err { OnErr result (Extends (string_bytes out.old) (string_bytes out.new)) }
 {
-    let mut buffer = Buffer::new();
     out.push(' ')?;
+    if n < 10 {
+        out.push(char::from(b'0' + n as u8))?;
+        return Ok(());
+    }
+    let mut buffer = Buffer::new();
     out.push_str(buffer.format(n))?;
     Ok(())
 }

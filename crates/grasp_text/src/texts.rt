@@ -1,11 +1,11 @@
 //! Texts as words: an apostrophe, and the text's bytes with some of them escaped.
 
-ghost use Rattle.std.specs.Prelude.{◌≡◌, ◌<◌, List, ℕ, length, ◌++◌, ◌∷◌, [], OnOk, OnErr, IfOk, IfSome, IfNone, option_map, slice_index, string_bytes};
+ghost use Rattle.std.specs.Prelude.{◌≡◌, true, ◌<◌, List, ℕ, length, ◌++◌, ◌∷◌, [], OnOk, OnErr, IfOk, IfSome, IfNone, option_map, slice_index, string_bytes};
 ghost use Rattle.std.specs.Str.{IsUtf8};
 ghost use Rattle.hex.specs.Hex.{lower_digits};
 ghost use Rattle.grasp_cbor.specs.Extends.{Extends};
 ghost use Rattle.grasp_text.specs.Line.{text_word, escaped, all_escaped};
-ghost use Rattle.grasp_text.specs.Reading.{text_of, unescaped, first_unescaped, behind_percent, behind_byte, is_plain, digit_of, byte_of};
+ghost use Rattle.grasp_text.specs.Reading.{text_of, as_text, unescaped, first_unescaped, behind_percent, behind_byte, is_plain, ArePlain, digit_of, byte_of};
 ghost use Rattle.grasp_text.specs.Words.{spaced};
 
 use grasp_cbor::{Chars, OutOfMemory};
@@ -16,6 +16,18 @@ fn stands_for_itself(byte: u8) -> bool
     ensures { result ≡ is_plain byte }
 {
     33 <= byte && byte <= 126 && byte != b'%'
+}
+
+/// Whether each of the bytes stands for itself.
+fn stand_for_themselves(bytes: &[u8]) -> bool
+    ensures { result ≡ true → ArePlain bytes.now }
+{
+    for byte in bytes {
+        if !stands_for_itself(*byte) {
+            return false;
+        }
+    }
+    true
 }
 
 /// The value of a lower-case hexadecimal digit.
@@ -121,10 +133,20 @@ fn read_text(alloc: Global, word: &[u8]) -> Result<Option<Chars>, OutOfMemory>
     ensures { IfOk result (λ o. o ≡ text_of word.now) }
 {
     match behind(b'\'', word) {
-        Some(escaped) => match unescape(alloc, escaped)? {
-            Some(bytes) => Chars::of_bytes(alloc, &bytes),
-            None => Ok(None),
-        },
+        Some(escaped) => text_of_escaped(alloc, escaped),
+        None => Ok(None),
+    }
+}
+
+/// The text that is so escaped, or `None`.
+fn text_of_escaped(alloc: Global, escaped: &[u8]) -> Result<Option<Chars>, OutOfMemory>
+    ensures { IfOk result (λ o. o ≡ as_text (unescaped escaped.now)) }
+{
+    if stand_for_themselves(escaped) {
+        return Chars::of_bytes(alloc, escaped);
+    }
+    match unescape(alloc, escaped)? {
+        Some(bytes) => Chars::of_bytes(alloc, &bytes),
         None => Ok(None),
     }
 }
@@ -157,16 +179,28 @@ fn push_escaped(out: &mut String, byte: u8) -> Result<(), OutOfMemory>
     Ok(())
 }
 
+/// Appends bytes of a text, escaped where they have to be.
+fn push_all_escaped(out: &mut String, bytes: &[u8]) -> Result<(), OutOfMemory>
+    ensures text { OnOk result (string_bytes out.new ≡ string_bytes out.old ++ all_escaped bytes.now) }
+    ensures err { OnErr result (Extends (string_bytes out.old) (string_bytes out.new)) }
+{
+    for byte in bytes {
+        push_escaped(out, *byte)?;
+    }
+    Ok(())
+}
+
 /// Appends a blank and a text. After an `Err` a part of them may have been appended.
 pub fn push_text(out: &mut String, text: &Chars) -> Result<(), OutOfMemory>
     ensures utf8 { OnOk result (IsUtf8 text.now) }
     ensures text { OnOk result (string_bytes out.new ≡ string_bytes out.old ++ spaced (text_word text.now ∷ [])) }
     ensures err { OnErr result (Extends (string_bytes out.old) (string_bytes out.new)) }
 {
-    out.push(' ')?;
-    out.push('\'')?;
-    for byte in text.bytes() {
-        push_escaped(out, *byte)?;
+    out.push_str(" '")?;
+    if stand_for_themselves(text.bytes()) {
+        out.push_str(text.text())?;
+        Ok(())
+    } else {
+        push_all_escaped(out, text.bytes())
     }
-    Ok(())
 }

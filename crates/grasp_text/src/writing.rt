@@ -5,7 +5,7 @@ ghost use Rattle.grasp_cbor.specs.Extends.{Extends};
 ghost use Rattle.grasp_types.specs.Address.{IsAddress, IsLocator};
 ghost use Rattle.grasp_types.specs.Message.{IsMessage, IsVerdict, AreLocators, IsAnswer, AreFloodParts, IsFloodPart};
 ghost use Rattle.grasp_types.specs.Objective.{IsObjective, IsValue};
-ghost use Rattle.grasp_text.specs.Line.{proto_word, address_word, or_dash, value_word, locator_words, all_locator_words, objective_words, optional_objective_words, verdict_words, answer_words, locator_or_none, flood_part_words, all_flood_part_words, IsLineOf};
+ghost use Rattle.grasp_text.specs.Line.{proto_word, address_word, or_dash, value_word, locator_words, all_locator_words, objective_words, optional_objective_words, verdict_words, answer_words, locator_or_none, flood_part_words, all_flood_part_words, line_of, IsLineOf};
 ghost use Rattle.grasp_text.specs.Words.{spaced};
 ghost use Rattle.grasp_text.specs.Writing.{line_name, words_behind_name};
 
@@ -371,12 +371,22 @@ fn push_behind_name(alloc: Global, out: &mut String, message: &Message) -> Resul
     }
 }
 
+/// Appends the line of a message, without a line end. After an `Err` a part of it may have been appended.
+#[tactic(auto, using(crate::proofs::Pushed::pushes))]
+pub fn push_line(alloc: Global, out: &mut String, message: &Message) -> Result<(), OutOfMemory>
+    ensures text { OnOk result (string_bytes out.new ≡ string_bytes out.old ++ line_of message.now) }
+    ensures ranges { OnOk result (IsMessage message.now) }
+    ensures err { OnErr result (Extends (string_bytes out.old) (string_bytes out.new)) }
+{
+    out.push_str(name_of(message))?;
+    push_behind_name(alloc, out, message)
+}
+
 /// The line of a message, without a line end.
-#[tactic(auto, using(crate::proofs::Pushed::lines))]
 pub fn line_of(alloc: Global, message: &Message) -> Result<Chars, OutOfMemory>
     ensures { IfOk result (λ line. IsLineOf line message.now) }
 {
-    let mut out = String::from_str(alloc, name_of(message))?;
-    push_behind_name(alloc, &mut out, message)?;
+    let mut out = String::new(alloc);
+    push_line(alloc, &mut out, message)?;
     Chars::of(alloc, out.as_str())
 }

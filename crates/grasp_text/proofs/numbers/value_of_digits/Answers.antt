@@ -1,11 +1,13 @@
-use Rattle.std.proofs.Common.{ap, ◌∙◌}
-use Rattle.std.specs.Result.{result_ok}
-use Rattle.std.proofs.lemmas.Fmt.{parse-decimal}
-use Rattle.grasp_text.proofs.NumberWords.{number_utf8}
+use Rattle.grasp_text.proofs.NumberWords.{digit_more, digit_none, if_none}
 use Rattle.grasp_text.proofs.numbers.value_of_digits.Goals as goal
 
-pub returns-in-Ok : goal.returns-in-Ok
-returns-in-Ok c = λ n lt e. c.ok.ensures.value ∙ ap result_ok (parse-decimal 64 n c.in-Ok.digits.now c.parse.result lt lt (c.in-Ok.ensures.cases.0 ∙ e) c.parse.ensures.value.0)
+pub returns-in_err-value-clause-none : goal.returns-in_err-value-clause-none
+returns-in_err-value-clause-none c = if_none c.from_residual.result (digit_none c.args.word.now c.loop-digit.digit-index c.loop-digit.value c.loop-digit-test.true c.loop-digit.invariant.value c.in_err-value.ensures.none)
 
-pub returns-in-Err : goal.returns-in-Err
-returns-in-Err c = λ n lt e. absurd (c.in-Err.ensures.cases.0 (number_utf8 n c.args.word.now lt e))
+pub loop-digit-preserved : goal.loop-digit-preserved
+loop-digit-preserved c =
+    let more = digit_more c.args.word.now c.loop-digit.digit-index c.loop-digit.value c.in_ok-value.value c.loop-digit-test.true c.loop-digit.invariant.digits c.loop-digit.invariant.value c.in_ok-value.ensures.some.0 c.in_ok-value.ensures.some.1 c.in_ok-value.ensures.some.2 in record {
+      digits = more.0;
+      value = more.1;
+      small = c.in_ok-value.ensures.small;
+    }

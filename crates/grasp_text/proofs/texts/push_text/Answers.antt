@@ -1,13 +1,11 @@
-use Rattle.std.proofs.Common.{◌++◌, ◌∷◌, List, ℕ, get_or, string_bytes, sym, ap, ◌∙◌, append_assoc, take}
-use Rattle.grasp_text.specs.Line.{all_escaped, escaped}
-use Rattle.grasp_text.proofs.TextWords.{escaped_more}
+use Rattle.std.proofs.Common.{rules, ◌≡◌, ◌++◌, ◌∷◌, [], string_bytes, subst}
+use Rattle.grasp_text.specs.Reading.{ArePlain}
+use Rattle.grasp_text.proofs.TextWords.{text_pushed_plain}
 use Rattle.grasp_text.proofs.texts.push_text.Goals as goal
 
-pub loop-byte-preserved : goal.loop-byte-preserved
-loop-byte-preserved c =
-    let xs : List ℕ = c.bytes-byte-items.result.now in
-    let i : ℕ = c.loop-byte.byte-index in
-    let old : List ℕ = string_bytes c.args.out.now in
-    let next : List ℕ = escaped (get_or xs i 0) in
-    let more = escaped_more xs i c.loop-byte-test.true in
-    c.in_ok-push_escaped.ensures.text ∙ ap (λ (x : List ℕ). x ++ next) c.loop-byte.invariant ∙ append_assoc old (32 ∷ 39 ∷ all_escaped (take i xs)) next ∙ ap (λ (x : List ℕ). old ++ 32 ∷ 39 ∷ x) (sym more)
+pub returns-in_ok-push_str-2-clause-text : goal.returns-in_ok-push_str-2-clause-text
+returns-in_ok-push_str-2-clause-text c =
+    let middle : string_bytes c.push_str.new.self ≡ string_bytes c.args.out.now ++ 32 ∷ 39 ∷ [] = search rules in
+    let new : string_bytes c.push_str-then-stand_for_themselves.new.self ≡ string_bytes c.push_str.new.self ++ c.text.result.now = search rules in
+    let plain : ArePlain c.args.text.now = subst ArePlain c.bytes.ensures.bytes (c.stand_for_themselves.ensures c.if-stand_for_themselves.true) in
+    text_pushed_plain (string_bytes c.args.out.now) (string_bytes c.push_str.new.self) (string_bytes c.push_str-then-stand_for_themselves.new.self) c.text.result.now c.args.text.now middle new c.text.ensures.text plain
