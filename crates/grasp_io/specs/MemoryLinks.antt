@@ -3,18 +3,20 @@ use Rattle.std.specs.Prelude.{◌≡◌, ℕ, ◌+◌, ◌*◌, ◌^◌, ◌==�
 use Rattle.grasp_types.specs.declared.traffic.Input.{Input}
 use Rattle.grasp_types.specs.declared.traffic.Input.TheVariants.{Api, Datagram, Opened, Bytes, Closed, Drain}
 use Rattle.grasp_types.specs.declared.traffic.Output.{Output}
+use Rattle.grasp_io.specs.declared.links.LinkPlan.{LinkPlan}
 use Rattle.grasp_io.specs.declared.links.Asked.{Asked}
 use Rattle.grasp_io.specs.declared.links.Asked.TheVariants.{Got, Nothing, OutOfMemory}
 use Rattle.grasp_io.specs.declared.memory_links.Arrival.{Arrival}
 use Rattle.grasp_io.specs.Memory.{one_more, next_fails}
 
--- what comes and how much of it was given, the numbers of the asks that give nothing and of the sends that fail, whether opening fails, what the asks and sends told, how many of them there were, and how many openings and faults
+-- what comes and how much of it was given, the numbers of the asks that give nothing and of the sends that fail, whether opening fails, with which plans they were opened, what the asks and sends told, how many of them there were, and how many openings and faults
 pub record LinksState : Type 0 where
   pub arrivals : List Arrival
   pub next : ℕ
   pub quiet : List ℕ
   pub failing : List ℕ
   pub refuses : Bool
+  pub plans : List LinkPlan
   pub waits : List ℕ
   pub handed : List Output
   pub asks : ℕ

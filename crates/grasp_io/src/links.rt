@@ -1,13 +1,14 @@
 // What joins a node to others: datagrams to and from its neighbours, and streams.
-ghost use Rattle.std.specs.Prelude.{◌≡◌, ◌≤◌, List, ℕ, Option, OnErr};
+ghost use Rattle.std.specs.Prelude.{◌≡◌, ◌≤◌, List, ℕ, Bool, true, Option, None, IsTrue, OnOk, OnErr};
 ghost use Rattle.grasp_io.specs.Faults.{Rose};
-ghost use Rattle.grasp_io.specs.Told.{Stays};
+ghost use Rattle.grasp_io.specs.Told.{Stays, Grows};
 ghost use Rattle.grasp_io.specs.Links.{IsNext, Gives, Waits, IsAnswer, Hands};
+ghost use Rattle.grasp_io.specs.declared.links.LinkPlan.{LinkPlan};
 ghost use Rattle.grasp_types.specs.declared.traffic.Input.{Input};
 ghost use Rattle.grasp_types.specs.declared.traffic.Output.{Output};
 
 use crate::Failed;
-use grasp_types::{Input, LinkLists, Locator, Output};
+use grasp_types::{Input, LinkLists, Locator, Output, Plain};
 
 /// Where a node listens, for datagrams and for streams, and the neighbours on each of its links. Their addresses are to be of one
 /// family, IPv4 or IPv6: datagrams from one to the other are lost.
@@ -15,6 +16,12 @@ use grasp_types::{Input, LinkLists, Locator, Output};
 pub struct LinkPlan {
     pub listen: Locator,
     pub links: LinkLists,
+}
+
+impl Plain for LinkPlan {
+    ghost use Rattle.std.proofs.Common.{rules};
+
+    ghost clones_are_same = { Prim.search rules };
 }
 
 /// What came of asking the links.
@@ -41,6 +48,12 @@ pub enum Sent {
 
 /// The links of a node. They give inputs, one at a time, and take outputs.
 pub trait Links {
+    /// Whether they are open. Where it isn't told, they count as open from the start.
+    ghost is_open: { Self → Bool } = { λ _. true };
+
+    /// The plans that they were opened with so far, where they are told.
+    ghost plans: { Self → Option (List LinkPlan) } = { λ _. None };
+
     /// The waits of the asks so far, in milliseconds, where they are told.
     ghost waits: { Self → Option (List ℕ) };
 
@@ -58,6 +71,9 @@ pub trait Links {
 
     /// Opens the links of this plan.
     fn open(&mut self, plan: &LinkPlan) -> Result<(), Failed>
+        ensures opens { OnOk result (IsTrue (is_open self.new)) }
+        ensures told { OnOk result (Grows (plans self.old) (plans self.new) plan.now) }
+        ensures told_nothing { OnErr result (Stays (plans self.old) (plans self.new)) }
         ensures waited { Stays (waits self.old) (waits self.new) }
         ensures gave { Stays (given self.old) (given self.new) }
         ensures took { Stays (handed self.old) (handed self.new) }
@@ -68,6 +84,8 @@ pub trait Links {
     /// The next input, for which it waits at most so many milliseconds. No call and no drain comes, datagrams come from
     /// neighbours alone, and a stream that a peer opened has an odd number that no earlier one had.
     fn ask(&mut self, wait_ms: u32) -> Asked
+        ensures stays_open { is_open self.new ≡ is_open self.old }
+        ensures told { Stays (plans self.old) (plans self.new) }
         ensures waited { Waits (waits self.old) (waits self.new) result wait_ms }
         ensures gave { Gives (given self.old) (given self.new) result }
         ensures took { Stays (handed self.old) (handed self.new) }
@@ -76,6 +94,8 @@ pub trait Links {
 
     /// Hands over an output.
     fn send(&mut self, output: &Output) -> Sent
+        ensures stays_open { is_open self.new ≡ is_open self.old }
+        ensures told { Stays (plans self.old) (plans self.new) }
         ensures waited { Stays (waits self.old) (waits self.new) }
         ensures gave { Stays (given self.old) (given self.new) }
         ensures took { Hands (handed self.old) (handed self.new) result output.now }

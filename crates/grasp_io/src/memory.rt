@@ -70,6 +70,27 @@ impl<'a> MemSource<'a> {
             ..self
         }
     }
+
+    /// What is left to read.
+    pub fn left(&self) -> &[u8]
+        ensures { result.now ≡ self.now.left }
+    {
+        self.left
+    }
+
+    /// How many calls there were so far. It stands still at the greatest 64-bit number.
+    pub fn calls(&self) -> u64
+        ensures { result ≡ self.now.calls }
+    {
+        self.calls
+    }
+
+    /// How many of them failed.
+    pub fn faults(&self) -> u64
+        ensures { result ≡ self.now.faults }
+    {
+        self.faults
+    }
 }
 
 impl Source for MemSource<'_> {
@@ -94,6 +115,7 @@ impl Source for MemSource<'_> {
           faults = self.new.faults;
         } }
         ensures counted { IfOk result (λ _. self.new.faults ≡ self.old.faults) }
+        ensures fault_is_one { self.new.faults ≤ one_more self.old.faults }
     {
         self.calls = self.calls.saturating_add(1);
         if self.failing.contains(&self.calls) {
@@ -168,6 +190,20 @@ impl<'a> MemSink<'a> {
         }
     }
 
+    /// How many calls there were so far. It stands still at the greatest 64-bit number.
+    pub fn calls(&self) -> u64
+        ensures { result ≡ self.now.calls }
+    {
+        self.calls
+    }
+
+    /// How many of them failed, or took nothing of a piece that wasn't empty.
+    pub fn faults(&self) -> u64
+        ensures { result ≡ self.now.faults }
+    {
+        self.faults
+    }
+
     /// What was written so far.
     pub fn written(&self) -> &[u8]
         ensures { result.now ≡ self.now.written }
@@ -199,6 +235,8 @@ impl Sink for MemSink<'_> {
           faults = self.new.faults;
         } }
         ensures counted { IfOk result (λ n. 0 < n → self.new.faults ≡ self.old.faults) }
+        ensures counted_for_none { IfOk result (λ _. piece.now ≡ [] → self.new.faults ≡ self.old.faults) }
+        ensures fault_is_one { self.new.faults ≤ one_more self.old.faults }
     {
         self.calls = self.calls.saturating_add(1);
         if self.failing.contains(&self.calls) {

@@ -1,10 +1,10 @@
 // Links in memory, with asks that give nothing and sends that fail.
-ghost use Rattle.std.specs.Prelude.{◌≡◌, ◌≢◌, ◌≤◌, [], ◌∷◌, ◌++◌, Some, true, false, is_some, is_err, IsTrue, IfSome, OnErr};
+ghost use Rattle.std.specs.Prelude.{◌≡◌, ◌≢◌, ◌≤◌, [], ◌∷◌, ◌++◌, Some, true, false, is_some, IsTrue, IsErr, IfSome, OnOk, OnErr};
 ghost use Rattle.grasp_io.specs.Faults.{Rose};
 ghost use Rattle.grasp_io.specs.Links.{IsNext, Gives, Waits, IsAnswer, Hands};
 ghost use Rattle.grasp_io.specs.Memory.{one_more, next_fails};
 ghost use Rattle.grasp_io.specs.MemoryLinks.{LinksState, given_of, can_come, comes, IsAsked};
-ghost use Rattle.grasp_io.specs.Told.{Stays};
+ghost use Rattle.grasp_io.specs.Told.{Stays, Grows};
 ghost use Rattle.grasp_io.specs.declared.links.Asked.TheVariants.{Got};
 
 use crate::{Asked, Failed, LinkPlan, Links, Sent};
@@ -32,6 +32,7 @@ pub struct MemLinks<'a> {
     quiet: &'a [u64],
     failing: &'a [u64],
     refuses: bool,
+    plans: Vec<LinkPlan>,
     waits: Vec<u32>,
     handed: Vec<Output>,
     asks: u64,
@@ -43,12 +44,13 @@ pub struct MemLinks<'a> {
 impl<'a> Model for MemLinks<'a> {
     ghost use Rattle.std.specs.Coded.{codes};
     ghost use Rattle.grasp_io.specs.MemoryLinks.{LinksState};
+    ghost use Rattle.grasp_io.specs.contracts.links.LinkPlan as plan;
     ghost use Rattle.grasp_io.specs.contracts.memory_links.Arrival as arrival;
     ghost use Rattle.grasp_types.specs.contracts.traffic.Output as output;
 
     ghost Value = { LinksState };
 
-    ghost coded = { Prim.hlevel (codes, arrival.the_row.coded, output.the_row.coded) };
+    ghost coded = { Prim.hlevel (codes, plan.the_row.coded, arrival.the_row.coded, output.the_row.coded) };
 
     ghost view = { λ s. record {
       arrivals = s.arrivals.now;
@@ -56,6 +58,7 @@ impl<'a> Model for MemLinks<'a> {
       quiet = s.quiet.now;
       failing = s.failing.now;
       refuses = s.refuses;
+      plans = s.plans.items;
       waits = s.waits.items;
       handed = s.handed.items;
       asks = s.asks;
@@ -74,6 +77,7 @@ impl<'a> MemLinks<'a> {
           quiet = [];
           failing = [];
           refuses = false;
+          plans = [];
           waits = [];
           handed = [];
           asks = 0;
@@ -88,6 +92,7 @@ impl<'a> MemLinks<'a> {
             quiet: &[],
             failing: &[],
             refuses: false,
+            plans: Vec::new(alloc),
             waits: Vec::new(alloc),
             handed: Vec::new(alloc),
             asks: 0,
@@ -127,6 +132,13 @@ impl<'a> MemLinks<'a> {
         }
     }
 
+    /// The plans that they were opened with so far.
+    pub fn plans(&self) -> &[LinkPlan]
+        ensures { result.now ≡ self.now.plans }
+    {
+        &self.plans
+    }
+
     /// The waits of the asks so far, in milliseconds.
     pub fn waits(&self) -> &[u32]
         ensures { result.now ≡ self.now.waits }
@@ -164,6 +176,8 @@ fn openings_after(opened: u64, input: &Input) -> Option<u64>
 }
 
 impl Links for MemLinks<'_> {
+    ghost plans = { λ s. Some s.plans };
+
     ghost waits = { λ s. Some s.waits };
 
     ghost given = { λ s. Some (given_of s) };
@@ -174,25 +188,34 @@ impl Links for MemLinks<'_> {
 
     ghost faults = { λ s. s.faults };
 
-    fn open(&mut self, _plan: &LinkPlan) -> Result<(), Failed>
+    // Where memory is wanted for the plan, opening fails.
+    fn open(&mut self, plan: &LinkPlan) -> Result<(), Failed>
+        ensures opens { OnOk result (IsTrue true) }
+        ensures told { OnOk result (Grows (Some self.old.plans) (Some self.new.plans) plan.now) }
+        ensures told_nothing { OnErr result (Stays (Some self.old.plans) (Some self.new.plans)) }
         ensures waited { Stays (Some self.old.waits) (Some self.new.waits) }
         ensures gave { Stays (Some (given_of self.old)) (Some (given_of self.new)) }
         ensures took { Stays (Some self.old.handed) (Some self.new.handed) }
         ensures none_opened { self.new.opened ≡ self.old.opened }
         ensures fault { OnErr result (Rose self.old.faults self.new.faults) }
         ensures never_falls { self.old.faults ≤ self.new.faults }
-        ensures fails { is_err result ≡ self.old.refuses }
-        ensures only { self.new ≡ record self.old { faults = self.new.faults } }
+        ensures fails { IsTrue self.old.refuses → IsErr result }
+        ensures counted { OnOk result (self.new.faults ≡ self.old.faults) }
+        ensures only { self.new ≡ record self.old {
+          plans = self.new.plans;
+          faults = self.new.faults;
+        } }
     {
-        if self.refuses {
-            self.faults = self.faults.saturating_add(1);
-            return Err(Failed);
+        if !self.refuses && self.keep_plan(plan) {
+            return Ok(());
         }
-        Ok(())
+        self.faults = self.faults.saturating_add(1);
+        Err(Failed)
     }
 
     // Where memory is wanted for the wait, nothing is told; where it is wanted for the input, the wait is told.
     fn ask(&mut self, wait_ms: u32) -> Asked
+        ensures told { Stays (Some self.old.plans) (Some self.new.plans) }
         ensures waited { Waits (Some self.old.waits) (Some self.new.waits) result wait_ms }
         ensures gave { Gives (Some (given_of self.old)) (Some (given_of self.new)) result }
         ensures took { Stays (Some self.old.handed) (Some self.new.handed) }
@@ -232,6 +255,7 @@ impl Links for MemLinks<'_> {
 
     // Where memory is wanted the send fails, as at a number that is to fail.
     fn send(&mut self, output: &Output) -> Sent
+        ensures told { Stays (Some self.old.plans) (Some self.new.plans) }
         ensures waited { Stays (Some self.old.waits) (Some self.new.waits) }
         ensures gave { Stays (Some (given_of self.old)) (Some (given_of self.new)) }
         ensures took { Hands (Some self.old.handed) (Some self.new.handed) result output.now }
@@ -258,6 +282,18 @@ impl Links for MemLinks<'_> {
 }
 
 impl MemLinks<'_> {
+    // Keeps the plan, and returns whether there was memory for it.
+    fn keep_plan(&mut self, plan: &LinkPlan) -> bool
+        ensures only { self.new ≡ record self.old { plans = self.new.plans } }
+        ensures kept { IsTrue result → self.new.plans ≡ self.old.plans ++ plan.now ∷ [] }
+        ensures not_kept { result ≡ false → self.new.plans ≡ self.old.plans }
+    {
+        match plan.copy() {
+            Ok(copy) => self.plans.push(copy).is_ok(),
+            Err(_) => false,
+        }
+    }
+
     // Keeps the output, and returns whether there was memory for it.
     fn keep(&mut self, output: &Output) -> bool
         ensures only { self.new ≡ record self.old { handed = self.new.handed } }

@@ -1,5 +1,5 @@
 // Links over the sockets of the machine. No contract says what comes or goes.
-ghost use Rattle.std.specs.Prelude.{◌≡◌, ◌≤◌, None};
+ghost use Rattle.std.specs.Prelude.{◌≡◌, ◌≤◌, None, false, is_some};
 ghost use Rattle.grasp_io.specs.Faults.{Rose};
 
 use crate::wires::Wires;
@@ -27,6 +27,7 @@ pub struct MioLinks<N: Net + Drop> {
 impl<N: Net + Drop> MioLinks<N> {
     /// Links that aren't open yet: asks give nothing at once, and sends fail.
     pub fn new(net: N, alloc: Global) -> Self
+        ensures closed { ⟦<MioLinks<N> as Links>⟧.is_open result ≡ false }
         ensures opened { ⟦<MioLinks<N> as Links>⟧.opened result ≡ 0 }
         ensures faults { ⟦<MioLinks<N> as Links>⟧.faults result ≡ 0 }
     {
@@ -49,6 +50,7 @@ impl<N: Net + Drop> MioLinks<N> {
     /// Ends all streams: writes what is still to be written, and waits for the other sides, at most for about a second. What
     /// comes from now on is dropped. To be called once the node neither asks nor sends any more.
     pub fn settle(&mut self)
+        ensures stays_open { ⟦<MioLinks<N> as Links>⟧.is_open self.new ≡ ⟦<MioLinks<N> as Links>⟧.is_open self.old }
         ensures none_opened { ⟦<MioLinks<N> as Links>⟧.opened self.new ≡ ⟦<MioLinks<N> as Links>⟧.opened self.old }
         ensures no_fault { ⟦<MioLinks<N> as Links>⟧.faults self.new ≡ ⟦<MioLinks<N> as Links>⟧.faults self.old }
     {
@@ -61,12 +63,14 @@ impl<N: Net + Drop> MioLinks<N> {
         ensures rose { Rose self.old.faults self.new.faults }
         ensures never_falls { self.old.faults ≤ self.new.faults }
         ensures same { self.new.opened ≡ self.old.opened }
+        ensures same_wires { self.new.wires ≡ self.old.wires }
     {
         self.faults = self.faults.saturating_add(1);
     }
 
     // Hands over an output, and returns whether it could.
     fn hand_over(&mut self, output: &Output) -> bool
+        ensures stays_open { is_some self.new.wires ≡ is_some self.old.wires }
         ensures none_opened { self.new.opened ≡ self.old.opened }
         ensures no_fault { self.new.faults ≡ self.old.faults }
     {
@@ -88,6 +92,8 @@ impl<N: Net + Drop> MioLinks<N> {
 }
 
 impl<N: Net + Drop> Links for MioLinks<N> {
+    ghost is_open = { λ s. is_some s.wires };
+
     ghost waits = { λ _. None };
 
     ghost given = { λ _. None };

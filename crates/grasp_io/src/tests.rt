@@ -1,4 +1,5 @@
 use super::*;
+use grasp_types::{List, Locator, Proto};
 use std::test::Fail;
 
 const LINE: &[u8] = b"wait 1 5000\n";
@@ -71,4 +72,28 @@ fn a_buffer_writes_in_blocks(rt: HostRuntime) -> Result<(), Fail> {
     assert_eq!(rt; sink.written().len(), 12 + 4090 + 4097 + 1);
     assert_eq!(rt; sink.written().last(), Some(&b'z'));
     Ok(())
+}
+
+#[test]
+fn calls_in_memory_are_counted(rt: HostRuntime) {
+    let mut source = MemSource::new(LINE).in_pieces(5).failing_at(&[2]);
+    let mut block = [0; 8];
+    assert_eq!(rt; source.read(&mut block), Ok(5));
+    assert_eq!(rt; source.read(&mut block), Err(Failed));
+    assert_eq!(rt; source.left(), b"1 5000\n".as_slice());
+    assert_eq!(rt; (source.calls(), source.faults()), (2, 1));
+    let mut sink = MemSink::new(rt.alloc()).in_pieces(0);
+    assert_eq!(rt; sink.write(LINE), Ok(0));
+    assert_eq!(rt; (sink.calls(), sink.faults()), (1, 1));
+    let plan = LinkPlan {
+        listen: Locator::V4 {
+            address: 0x7f00_0001,
+            proto: Proto::Tcp,
+            port: 7017,
+        },
+        links: List::new(rt.alloc()),
+    };
+    let mut links = MemLinks::new(rt.alloc(), &[]);
+    assert_eq!(rt; links.open(&plan), Ok(()));
+    assert_eq!(rt; links.plans().len(), 1);
 }

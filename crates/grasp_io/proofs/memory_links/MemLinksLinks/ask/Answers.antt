@@ -14,6 +14,7 @@ returns-clause-answer c =
       quiet = s.quiet.now;
       failing = s.failing.now;
       refuses = s.refuses;
+      plans = s.plans.items;
       waits = s.waits.items;
       handed = s.handed.items;
       asks = s.asks;
