@@ -50,6 +50,10 @@ impl<L: Links + Drop, K: Sink + Drop> Traced<L, K> {
 }
 
 impl<L: Links + Drop, K: Sink + Drop> Links for Traced<L, K> {
+    ghost is_open = { λ s. L.is_open s.links };
+
+    ghost plans = { λ s. L.plans s.links };
+
     ghost waits = { λ s. L.waits s.links };
 
     ghost given = { λ s. L.given s.links };
