@@ -11,14 +11,19 @@
 //!   output;
 //! - `status NUMBER` and `fault LINE`, where the status isn't 0;
 //! - `pieces COUNT` runs the row with so many bytes a call alone; `read-fails NUMBER` and `write-fails NUMBER` let that call
-//!   of the source or the sink fail.
+//!   of the source or the sink fail;
+//! - `faults COUNT` lets each of the first so many reads and writes fail too, one in each run: all at once and one byte at a
+//!   time. A run in which a read failed comes to a read fault, with nothing written; one in which a write failed comes to a
+//!   write fault, with a beginning of the row's output written; and every other run to what the row comes to.
 #![tactic(auto)]
 
+mod failing;
 mod fault;
 mod row;
 mod run;
 mod table;
 
+use failing::differs_failing;
 use fault::TableFault;
 use grasp_io::{ReadError, StdSource, read_all};
 use row::Row;
@@ -55,7 +60,11 @@ fn main(rt: HostRuntime) -> io::Result<ExitCode> {
 fn run_all(rt: &HostRuntime, rows: &[Row]) -> io::Result<ExitCode> {
     let mut wrong: u64 = 0;
     for row in rows {
-        if let Some(difference) = differs(rt.alloc(), row)? {
+        let difference = match differs(rt.alloc(), row)? {
+            Some(difference) => Some(difference),
+            None => differs_failing(rt.alloc(), row)?,
+        };
+        if let Some(difference) = difference {
             rt.println(difference)?;
             wrong = wrong.saturating_add(1);
         }

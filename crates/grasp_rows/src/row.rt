@@ -15,6 +15,8 @@ pub struct Row {
     /// The numbers of the reads and of the writes that fail, counted from 1.
     pub failing_reads: Vec<u64>,
     pub failing_writes: Vec<u64>,
+    /// How many of the first reads and of the first writes are to fail, each in a run of its own.
+    pub faults: u64,
 }
 
 impl Row {
@@ -34,6 +36,7 @@ impl Row {
             pieces: None,
             failing_reads: Vec::new(alloc),
             failing_writes: Vec::new(alloc),
+            faults: 0,
         };
         if !words.is_empty() {
             for word in words.split(' ') {
@@ -41,6 +44,14 @@ impl Row {
             }
         }
         Ok(row)
+    }
+
+    /// Whether a run of it reads its input: `show`, `pack` and `replay` do, and nothing else.
+    pub fn reads_input(&self) -> bool {
+        match self.words.as_slice() {
+            [word] => matches!(word.as_str(), "show" | "pack" | "replay"),
+            _ => false,
+        }
     }
 
     /// A line of a script, and its report.

@@ -63,6 +63,7 @@ fn add_number(row: &mut Row, word: &str, rest: &str) -> Result<bool, TableFault>
         "pieces" => row.pieces = Some(number as usize),
         "read-fails" => row.failing_reads.push(number)?,
         "write-fails" => row.failing_writes.push(number)?,
+        "faults" => row.faults = number,
         _ => return Ok(false),
     }
     Ok(true)
