@@ -291,6 +291,8 @@ def main():
         node = Watched(program, file)
         time.sleep(0.5)
         first, start = node.memory(), time.monotonic()
+        if first is None:
+            sys.exit("the node ended at once")
         node.watcher.start()
         try:
             attack(peer, node, seconds)
