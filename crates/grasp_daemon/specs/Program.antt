@@ -1,8 +1,9 @@
 -- The program's one call: its words, what it reads, and what it makes of that.
-use Rattle.std.specs.Prelude.{◌≡◌, ◌≤◌, ℕ, Bool, false, List, [], ◌∷◌, Option, Some, IfSome, codes, bytes_eq}
+use Rattle.std.specs.Prelude.{◌≡◌, ◌≤◌, ◌⊎◌, ℕ, Bool, false, List, [], ◌∷◌, Option, None, Some, IfSome, codes, bytes_eq}
 use Rattle.std.specs.Io.KnownBytes.{Appends}
 use Rattle.grasp_config.specs.Config.{HasConfig}
 use Rattle.grasp_config.specs.declared.config.NodeConfig.{NodeConfig}
+use Rattle.grasp_io.specs.Known.{AppendsFront}
 use Rattle.grasp_io.specs.Told.{Stays}
 use Rattle.grasp_daemon.specs.Lines.{crew_text}
 use Rattle.grasp_daemon.specs.Plans.{IsPlanOf}
@@ -131,3 +132,52 @@ pub record RunsInput (left : Option (List ℕ)) (seed : List ℕ) (old new : Tol
 pub record IsConfigured (text : List ℕ) : Type 0 where
   pub config : NodeConfig
   pub has : HasConfig text config
+
+-- ---- where it ended with a fault of writing, or for want of memory
+
+-- the node of the plan made its turns, and a front of the lines of its agents was written
+pub record BeginsPlan (plan : DaemonPlan) (old new : Told) (before after : Option (List ℕ)) : Type 0 where
+  pub workers : List Worker
+  pub ran : Ran plan old new (Some workers)
+  pub begun : AppendsFront before after (crew_text workers)
+
+-- the links were opened, and then the node of the configuration did so
+pub record BeginsConfig (config : NodeConfig) (seed : List ℕ) (old new : Told) (before after : Option (List ℕ)) : Type 0 where
+  pub plan : DaemonPlan
+  pub planned : IsPlanOf config seed plan
+  pub opened : LinksTold
+  pub opens : NothingPassed old.links opened
+  pub begins : BeginsPlan plan (record { readings = old.readings; links = opened }) new before after
+
+-- the input has a configuration, whose node did so
+pub record BeginsInput (left : Option (List ℕ)) (seed : List ℕ) (old new : Told) (before after : Option (List ℕ)) : Type 0 where
+  pub input : List ℕ
+  pub told : IsInput left input
+  pub config : NodeConfig
+  pub has : HasConfig input config
+  pub begins : BeginsConfig config seed old new before after
+
+-- no turn was made: the clock wasn't read, and the links were not asked and handed nothing
+pub record NoTurn (old new : Told) : Type 0 where
+  pub readings : new.readings ≡ old.readings
+  pub links : NothingPassed old.links new.links
+
+-- the links were opened, and then the node of the configuration made its turns, in which agents may have stopped
+pub record TurnsOfConfig (config : NodeConfig) (seed : List ℕ) (old new : Told) : Type 0 where
+  pub plan : DaemonPlan
+  pub planned : IsPlanOf config seed plan
+  pub opened : LinksTold
+  pub opens : NothingPassed old.links opened
+  pub ran : Ran plan (record { readings = old.readings; links = opened }) new None
+
+-- the input has a configuration, whose node did so
+pub record TurnsOfInput (left : Option (List ℕ)) (seed : List ℕ) (old new : Told) : Type 0 where
+  pub input : List ℕ
+  pub told : IsInput left input
+  pub config : NodeConfig
+  pub has : HasConfig input config
+  pub turns : TurnsOfConfig config seed old new
+
+-- no turn was made, or all turns of the input's node were
+abbrev pub NoneOrAllTurns : Option (List ℕ) → List ℕ → Told → Told → Type 0
+NoneOrAllTurns left seed old new = NoTurn old new ⊎ TurnsOfInput left seed old new

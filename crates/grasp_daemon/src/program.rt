@@ -1,14 +1,15 @@
 //! The program's one call.
 
-ghost use Rattle.std.specs.Prelude.{◌≡◌, ◌≢◌, ◌≤◌, ◌<◌, ◌⊎◌, true, false, length, map, string_bytes, IfSome};
+ghost use Rattle.std.specs.Prelude.{◌≡◌, ◌≢◌, ◌≤◌, ◌<◌, ◌⊎◌, true, false, [], length, map, string_bytes, None, Some, IfSome};
 ghost use Rattle.std.specs.Io.KnownBytes.{Appends};
 ghost use Rattle.grasp_config.specs.Config.{IsBadText};
 ghost use Rattle.grasp_config.specs.Laws.{IsInRange};
 ghost use Rattle.grasp_config.specs.declared.fault.ConfigKey.{ConfigKey};
 ghost use Rattle.grasp_io.specs.Faults.{Rose};
+ghost use Rattle.grasp_io.specs.Known.{AppendsFront};
 ghost use Rattle.grasp_daemon.specs.Lines.{crew_text};
-ghost use Rattle.grasp_daemon.specs.Program.{config_limit, is_run, IsBeforeLinks, IsAfterConfig, IsAfterInput, IsOfConfig, IsOfTurns, IsOkOrMemory, NothingPassed, RunsPlan, RunsConfig, RunsInput, IsConfigured};
-ghost use Rattle.grasp_daemon.specs.Runs.{workers_of};
+ghost use Rattle.grasp_daemon.specs.Program.{config_limit, is_run, IsBeforeLinks, IsAfterConfig, IsAfterInput, IsOfConfig, IsOfTurns, IsOkOrMemory, NothingPassed, RunsPlan, RunsConfig, RunsInput, BeginsPlan, BeginsConfig, BeginsInput, NoTurn, TurnsOfConfig, NoneOrAllTurns, IsConfigured};
+ghost use Rattle.grasp_daemon.specs.Runs.{Ran, workers_of};
 ghost use Rattle.grasp_daemon.specs.Tells.{links_told, told};
 
 use crate::daemon::Daemon;
@@ -35,7 +36,8 @@ const CONFIG_LIMIT: u64 = 65_536;
 ///
 /// The words are to be `run` and one more, which names what the source reads. The source is read to its end, and the
 /// links are opened. Then the node makes its turns, and at the end it writes a line of the prefixes that it holds, one
-/// for each want and one for each reader. `OutOfMemory` may come wherever memory is wanted; nothing was written then.
+/// for each want and one for each reader. `OutOfMemory` may come wherever memory is wanted: before the first turn, or after
+/// the last one, where agents may have stopped. Nothing was written then.
 pub fn node_main<R: Threads + Wait + Sync, S: Source, K: Sink, L: Links, C: Clock>(
     rt: &R,
     alloc: Global,
@@ -55,6 +57,7 @@ pub fn node_main<R: Threads + Wait + Sync, S: Source, K: Sink, L: Links, C: Cloc
     ensures read_fault { result ≡ Status.ReadFault → Rose (S.faults source.old) (S.faults source.new) }
     ensures too_large { result ≡ Status.TooLarge → IfSome (S.left source.old) (λ input. config_limit < length input) }
     ensures small { IsAfterInput result → IfSome (S.left source.old) (λ input. length input ≤ config_limit) }
+    ensures read_to_end { IsAfterInput result → IfSome (S.left source.old) (λ _. S.left source.new ≡ Some []) }
     ensures bad_config { (key : ConfigKey) → result ≡ Status.BadConfig key → IfSome (S.left source.old) (λ input. IsBadText input key) }
     ensures configured { IsAfterConfig result → IfSome (S.left source.old) (λ input. IsConfigured input) }
     ensures untouched { IsBeforeLinks result → links.new ≡ links.old }
@@ -65,10 +68,13 @@ pub fn node_main<R: Threads + Wait + Sync, S: Source, K: Sink, L: Links, C: Cloc
     ensures nothing_passed { result ≡ Status.LinkFault → NothingPassed (links_told (L.waits links.old) (L.given links.old) (L.handed links.old) (L.faults links.old)) (links_told (L.waits links.new) (L.given links.new) (L.handed links.new) (L.faults links.new)) }
     ensures clock_unread { result ≡ Status.LinkFault → clock.new ≡ clock.old }
 
-    // Then the node makes its turns, and its lines are written.
+    // Then the node makes its turns, and its lines are written. After a fault of writing a front of them is; where memory is
+    // wanted, no turn was made, or all were.
     ensures done { result ≡ Status.Ok → RunsInput (S.left source.old) seed (told (C.readings clock.old) (links_told (L.waits links.old) (L.given links.old) (L.handed links.old) (L.faults links.old))) (told (C.readings clock.new) (links_told (L.waits links.new) (L.given links.new) (L.handed links.new) (L.faults links.new))) (K.written sink.old) (K.written sink.new) }
     ensures write_fault { result ≡ Status.WriteFault → Rose (K.faults sink.old) (K.faults sink.new) }
+    ensures begun { result ≡ Status.WriteFault → BeginsInput (S.left source.old) seed (told (C.readings clock.old) (links_told (L.waits links.old) (L.given links.old) (L.handed links.old) (L.faults links.old))) (told (C.readings clock.new) (links_told (L.waits links.new) (L.given links.new) (L.handed links.new) (L.faults links.new))) (K.written sink.old) (K.written sink.new) }
     ensures unwritten { result ≢ Status.Ok → result ≢ Status.WriteFault → sink.new ≡ sink.old }
+    ensures memory { result ≡ Status.OutOfMemory → NoneOrAllTurns (S.left source.old) seed (told (C.readings clock.old) (links_told (L.waits links.old) (L.given links.old) (L.handed links.old) (L.faults links.old))) (told (C.readings clock.new) (links_told (L.waits links.new) (L.given links.new) (L.handed links.new) (L.faults links.new))) }
 
     // Where nothing outside fails, the input alone decides, unless memory is wanted.
     ensures complete { is_run (map string_bytes words.now) ≡ true → ¬ Rose (S.faults source.old) (S.faults source.new) → ¬ Rose (L.faults links.old) (L.faults links.new) → ¬ Rose (K.faults sink.old) (K.faults sink.new)
@@ -104,6 +110,7 @@ pub fn node_run<R: Threads + Wait + Sync, S: Source, K: Sink, L: Links, C: Clock
     ensures read_fault { result ≡ Status.ReadFault → Rose (S.faults source.old) (S.faults source.new) }
     ensures too_large { result ≡ Status.TooLarge → IfSome (S.left source.old) (λ input. config_limit < length input) }
     ensures small { IsAfterInput result → IfSome (S.left source.old) (λ input. length input ≤ config_limit) }
+    ensures read_to_end { IsAfterInput result → IfSome (S.left source.old) (λ _. S.left source.new ≡ Some []) }
     ensures bad_config { (key : ConfigKey) → result ≡ Status.BadConfig key → IfSome (S.left source.old) (λ input. IsBadText input key) }
     ensures configured { IsAfterConfig result → IfSome (S.left source.old) (λ input. IsConfigured input) }
     ensures untouched { IsBeforeLinks result → links.new ≡ links.old }
@@ -114,10 +121,13 @@ pub fn node_run<R: Threads + Wait + Sync, S: Source, K: Sink, L: Links, C: Clock
     ensures nothing_passed { result ≡ Status.LinkFault → NothingPassed (links_told (L.waits links.old) (L.given links.old) (L.handed links.old) (L.faults links.old)) (links_told (L.waits links.new) (L.given links.new) (L.handed links.new) (L.faults links.new)) }
     ensures clock_unread { result ≡ Status.LinkFault → clock.new ≡ clock.old }
 
-    // Then the node makes its turns, and its lines are written.
+    // Then the node makes its turns, and its lines are written. After a fault of writing a front of them is; where memory is
+    // wanted, no turn was made, or all were.
     ensures done { result ≡ Status.Ok → RunsInput (S.left source.old) seed (told (C.readings clock.old) (links_told (L.waits links.old) (L.given links.old) (L.handed links.old) (L.faults links.old))) (told (C.readings clock.new) (links_told (L.waits links.new) (L.given links.new) (L.handed links.new) (L.faults links.new))) (K.written sink.old) (K.written sink.new) }
     ensures write_fault { result ≡ Status.WriteFault → Rose (K.faults sink.old) (K.faults sink.new) }
+    ensures begun { result ≡ Status.WriteFault → BeginsInput (S.left source.old) seed (told (C.readings clock.old) (links_told (L.waits links.old) (L.given links.old) (L.handed links.old) (L.faults links.old))) (told (C.readings clock.new) (links_told (L.waits links.new) (L.given links.new) (L.handed links.new) (L.faults links.new))) (K.written sink.old) (K.written sink.new) }
     ensures unwritten { result ≢ Status.Ok → result ≢ Status.WriteFault → sink.new ≡ sink.old }
+    ensures memory { result ≡ Status.OutOfMemory → NoneOrAllTurns (S.left source.old) seed (told (C.readings clock.old) (links_told (L.waits links.old) (L.given links.old) (L.handed links.old) (L.faults links.old))) (told (C.readings clock.new) (links_told (L.waits links.new) (L.given links.new) (L.handed links.new) (L.faults links.new))) }
 
     // Where nothing outside fails, the input alone decides, unless memory is wanted.
     ensures complete { is_run (map string_bytes words.now) ≡ true → ¬ Rose (S.faults source.old) (S.faults source.new) → ¬ Rose (L.faults links.old) (L.faults links.new) → ¬ Rose (K.faults sink.old) (K.faults sink.new)
@@ -147,7 +157,7 @@ fn is_run(words: &[String]) -> bool
 }
 
 /// Reads the configuration, and runs its node.
-#[tactic(auto, using(crate::proofs::MainRuns::runs_input, crate::proofs::MainRuns::in_range, crate::proofs::MainRuns::configured, crate::proofs::MainRuns::bad_input, crate::proofs::MainRuns::small_input))]
+#[tactic(auto, using(crate::proofs::MainRuns::runs_input, crate::proofs::MainRuns::begins_input, crate::proofs::MainRuns::stops_at_input, crate::proofs::MainRuns::stops_at_config, crate::proofs::MainRuns::in_range, crate::proofs::MainRuns::configured, crate::proofs::MainRuns::bad_input, crate::proofs::MainRuns::small_input))]
 fn run_input<R: Threads + Wait + Sync, S: Source, K: Sink, L: Links, C: Clock, G: Gate + Sync>(
     rt: &R,
     alloc: Global,
@@ -162,6 +172,7 @@ fn run_input<R: Threads + Wait + Sync, S: Source, K: Sink, L: Links, C: Clock, G
     ensures read_fault { result ≡ Status.ReadFault → Rose (S.faults source.old) (S.faults source.new) }
     ensures too_large { result ≡ Status.TooLarge → IfSome (S.left source.old) (λ input. config_limit < length input) }
     ensures small { IsAfterInput result → IfSome (S.left source.old) (λ input. length input ≤ config_limit) }
+    ensures read_to_end { IsAfterInput result → IfSome (S.left source.old) (λ _. S.left source.new ≡ Some []) }
     ensures bad_config { (key : ConfigKey) → result ≡ Status.BadConfig key → IfSome (S.left source.old) (λ input. IsBadText input key) }
     ensures configured { IsAfterConfig result → IfSome (S.left source.old) (λ input. IsConfigured input) }
     ensures untouched { IsBeforeLinks result → links.new ≡ links.old }
@@ -171,7 +182,9 @@ fn run_input<R: Threads + Wait + Sync, S: Source, K: Sink, L: Links, C: Clock, G
     ensures clock_unread { result ≡ Status.LinkFault → clock.new ≡ clock.old }
     ensures done { result ≡ Status.Ok → RunsInput (S.left source.old) seed (told (C.readings clock.old) (links_told (L.waits links.old) (L.given links.old) (L.handed links.old) (L.faults links.old))) (told (C.readings clock.new) (links_told (L.waits links.new) (L.given links.new) (L.handed links.new) (L.faults links.new))) (K.written sink.old) (K.written sink.new) }
     ensures write_fault { result ≡ Status.WriteFault → Rose (K.faults sink.old) (K.faults sink.new) }
+    ensures begun { result ≡ Status.WriteFault → BeginsInput (S.left source.old) seed (told (C.readings clock.old) (links_told (L.waits links.old) (L.given links.old) (L.handed links.old) (L.faults links.old))) (told (C.readings clock.new) (links_told (L.waits links.new) (L.given links.new) (L.handed links.new) (L.faults links.new))) (K.written sink.old) (K.written sink.new) }
     ensures unwritten { result ≢ Status.Ok → result ≢ Status.WriteFault → sink.new ≡ sink.old }
+    ensures memory { result ≡ Status.OutOfMemory → NoneOrAllTurns (S.left source.old) seed (told (C.readings clock.old) (links_told (L.waits links.old) (L.given links.old) (L.handed links.old) (L.faults links.old))) (told (C.readings clock.new) (links_told (L.waits links.new) (L.given links.new) (L.handed links.new) (L.faults links.new))) }
 {
     let input = match read_all(alloc, source, CONFIG_LIMIT) {
         Ok(input) => input,
@@ -188,7 +201,7 @@ fn run_input<R: Threads + Wait + Sync, S: Source, K: Sink, L: Links, C: Clock, G
 }
 
 /// Opens the links of the configuration, and runs its node.
-#[tactic(auto, using(crate::proofs::MainRuns::runs_config, crate::proofs::Configured::few_beacons, crate::proofs::Configured::few_readers))]
+#[tactic(auto, using(crate::proofs::MainRuns::runs_config, crate::proofs::MainRuns::begins_config, crate::proofs::MainRuns::stops_at_plans, crate::proofs::MainRuns::stops_at_turns, crate::proofs::Configured::few_beacons, crate::proofs::Configured::few_readers))]
 fn run_config<R: Threads + Wait + Sync, K: Sink, L: Links, C: Clock, G: Gate + Sync>(
     rt: &R,
     alloc: Global,
@@ -206,7 +219,9 @@ fn run_config<R: Threads + Wait + Sync, K: Sink, L: Links, C: Clock, G: Gate + S
     ensures clock_unread { result ≡ Status.LinkFault → clock.new ≡ clock.old }
     ensures done { result ≡ Status.Ok → RunsConfig config seed (told (C.readings clock.old) (links_told (L.waits links.old) (L.given links.old) (L.handed links.old) (L.faults links.old))) (told (C.readings clock.new) (links_told (L.waits links.new) (L.given links.new) (L.handed links.new) (L.faults links.new))) (K.written sink.old) (K.written sink.new) }
     ensures write_fault { result ≡ Status.WriteFault → Rose (K.faults sink.old) (K.faults sink.new) }
+    ensures begun { result ≡ Status.WriteFault → BeginsConfig config seed (told (C.readings clock.old) (links_told (L.waits links.old) (L.given links.old) (L.handed links.old) (L.faults links.old))) (told (C.readings clock.new) (links_told (L.waits links.new) (L.given links.new) (L.handed links.new) (L.faults links.new))) (K.written sink.old) (K.written sink.new) }
     ensures unwritten { result ≢ Status.Ok → result ≢ Status.WriteFault → sink.new ≡ sink.old }
+    ensures memory { result ≡ Status.OutOfMemory → NoTurn (told (C.readings clock.old) (links_told (L.waits links.old) (L.given links.old) (L.handed links.old) (L.faults links.old))) (told (C.readings clock.new) (links_told (L.waits links.new) (L.given links.new) (L.handed links.new) (L.faults links.new))) ⊎ TurnsOfConfig config seed (told (C.readings clock.old) (links_told (L.waits links.old) (L.given links.old) (L.handed links.old) (L.faults links.old))) (told (C.readings clock.new) (links_told (L.waits links.new) (L.given links.new) (L.handed links.new) (L.faults links.new))) }
 {
     let Ok(joining) = link_plan(&config) else {
         return Status::OutOfMemory;
@@ -221,7 +236,7 @@ fn run_config<R: Threads + Wait + Sync, K: Sink, L: Links, C: Clock, G: Gate + S
 }
 
 /// Runs the node of the plan over links that are open, and writes its lines.
-#[tactic(auto, using(crate::proofs::MainRuns::runs_plan))]
+#[tactic(auto, using(crate::proofs::MainRuns::runs_plan, crate::proofs::MainRuns::begins_plan, crate::proofs::MainRuns::stops_at_lines))]
 fn run_plan<R: Threads + Wait + Sync, K: Sink, L: Links, C: Clock, G: Gate + Sync>(
     rt: &R,
     alloc: Global,
@@ -236,7 +251,9 @@ fn run_plan<R: Threads + Wait + Sync, K: Sink, L: Links, C: Clock, G: Gate + Syn
     ensures ends { IsOfTurns result }
     ensures done { result ≡ Status.Ok → RunsPlan plan (told (C.readings clock.old) (links_told (L.waits links.old) (L.given links.old) (L.handed links.old) (L.faults links.old))) (told (C.readings clock.new) (links_told (L.waits links.new) (L.given links.new) (L.handed links.new) (L.faults links.new))) (K.written sink.old) (K.written sink.new) }
     ensures write_fault { result ≡ Status.WriteFault → Rose (K.faults sink.old) (K.faults sink.new) }
+    ensures begun { result ≡ Status.WriteFault → BeginsPlan plan (told (C.readings clock.old) (links_told (L.waits links.old) (L.given links.old) (L.handed links.old) (L.faults links.old))) (told (C.readings clock.new) (links_told (L.waits links.new) (L.given links.new) (L.handed links.new) (L.faults links.new))) (K.written sink.old) (K.written sink.new) }
     ensures unwritten { result ≡ Status.OutOfMemory → sink.new ≡ sink.old }
+    ensures memory { result ≡ Status.OutOfMemory → ((told (C.readings clock.new) (links_told (L.waits links.new) (L.given links.new) (L.handed links.new) (L.faults links.new))) ≡ (told (C.readings clock.old) (links_told (L.waits links.old) (L.given links.old) (L.handed links.old) (L.faults links.old)))) ⊎ Ran plan (told (C.readings clock.old) (links_told (L.waits links.old) (L.given links.old) (L.handed links.old) (L.faults links.old))) (told (C.readings clock.new) (links_told (L.waits links.new) (L.given links.new) (L.handed links.new) (L.faults links.new))) None }
 {
     match run_node(rt, alloc, plan, links, clock, gate) {
         Ok(daemon) => write_lines(alloc, &daemon, sink),
@@ -249,6 +266,7 @@ fn write_lines<K: Sink>(alloc: Global, daemon: &Daemon, sink: &mut K) -> Status
     ensures ends { IsOfTurns result }
     ensures written { result ≡ Status.Ok → Appends (K.written sink.old) (K.written sink.new) (crew_text (workers_of daemon.now.seats.items)) }
     ensures write_fault { result ≡ Status.WriteFault → Rose (K.faults sink.old) (K.faults sink.new) }
+    ensures begun { result ≡ Status.WriteFault → AppendsFront (K.written sink.old) (K.written sink.new) (crew_text (workers_of daemon.now.seats.items)) }
     ensures unwritten { result ≡ Status.OutOfMemory → sink.new ≡ sink.old }
 {
     let Ok(text) = text_of(alloc, daemon) else {
