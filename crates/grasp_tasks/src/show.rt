@@ -13,7 +13,7 @@ ghost use Rattle.grasp_tasks.specs.declared.exit.Finding.TheVariants.{Cut, Trunc
 use crate::exit::{Finding, Status, status_of};
 use crate::unfinished::Unfinished;
 use grasp_io::{Sink, WriteBuffer};
-use grasp_text::line_of;
+use grasp_text::push_line;
 use grasp_types::Message;
 use grasp_wire::{CutFault, Cutter};
 use std::alloc::Global;
@@ -47,11 +47,12 @@ pub fn show<K: Sink>(
 {
     let mut cutter = Cutter::new(alloc, limit);
     let mut buffer = WriteBuffer::new();
+    let mut line = String::new(alloc);
     let mut rest = input;
     while !rest.is_empty() {
         let (piece, after) = rest.split_at(rest.len().min(PIECE));
         cutter.feed(piece)?;
-        if let Some(finding) = show_ready(alloc, &mut cutter, &mut buffer, sink)? {
+        if let Some(finding) = show_ready(alloc, &mut cutter, &mut line, &mut buffer, sink)? {
             buffer.flush(sink)?;
             return Ok(Status::Finding(finding));
         }
@@ -65,6 +66,7 @@ pub fn show<K: Sink>(
 fn show_ready<K: Sink>(
     alloc: Global,
     cutter: &mut Cutter,
+    line: &mut String,
     buffer: &mut WriteBuffer,
     sink: &mut K,
 ) -> Result<Option<Finding>, Unfinished>
@@ -75,7 +77,7 @@ fn show_ready<K: Sink>(
     ensures never_falls { K.faults sink.old ≤ K.faults sink.new }
 {
     loop {
-        match show_next(alloc, cutter, buffer, sink)? {
+        match show_next(alloc, cutter, line, buffer, sink)? {
             Step::Line => {}
             Step::End => return Ok(None),
             Step::Fault(finding) => return Ok(Some(finding)),
@@ -87,6 +89,7 @@ fn show_ready<K: Sink>(
 fn show_next<K: Sink>(
     alloc: Global,
     cutter: &mut Cutter,
+    line: &mut String,
     buffer: &mut WriteBuffer,
     sink: &mut K,
 ) -> Result<Step, Unfinished>
@@ -99,7 +102,7 @@ fn show_next<K: Sink>(
 {
     match cutter.next() {
         Ok(Some(message)) => {
-            write_line(alloc, &message, buffer, sink)?;
+            write_line(alloc, &message, line, buffer, sink)?;
             Ok(Step::Line)
         }
         Ok(None) => Ok(Step::End),
@@ -114,6 +117,7 @@ fn show_next<K: Sink>(
 fn write_line<K: Sink>(
     alloc: Global,
     message: &Message,
+    line: &mut String,
     buffer: &mut WriteBuffer,
     sink: &mut K,
 ) -> Result<(), Unfinished>
@@ -123,9 +127,10 @@ fn write_line<K: Sink>(
     ensures fault { IsErrOf result Unfinished.WriteFault → Rose (K.faults sink.old) (K.faults sink.new) }
     ensures never_falls { K.faults sink.old ≤ K.faults sink.new }
 {
-    let line = line_of(alloc, message)?;
-    buffer.put(sink, line.bytes())?;
-    buffer.put(sink, b"\n")?;
+    line.clear();
+    push_line(alloc, line, message)?;
+    line.push('\n')?;
+    buffer.put(sink, line.as_bytes())?;
     Ok(())
 }
 

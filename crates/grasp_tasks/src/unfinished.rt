@@ -1,6 +1,7 @@
 // Why a task ended before all of its output was written.
 use grasp_cbor::OutOfMemory;
 use grasp_io::Failed;
+use std::alloc::AllocError;
 
 /// Why a task's output wasn't written whole.
 #[derive(Clone, Copy, Debug, PartialEq, Eq)]
@@ -24,6 +25,17 @@ impl From<OutOfMemory> for Unfinished {
     ghost from_gives = { λ _ e. e ≡ unfinished.OutOfMemory };
 
     fn from(_: OutOfMemory) -> Unfinished {
+        Unfinished::OutOfMemory
+    }
+}
+
+impl From<AllocError> for Unfinished {
+    ghost use Rattle.std.specs.Prelude.{◌≡◌};
+    ghost use Rattle.grasp_tasks.specs.declared.unfinished.Unfinished.TheVariants as unfinished;
+
+    ghost from_gives = { λ _ e. e ≡ unfinished.OutOfMemory };
+
+    fn from(_: AllocError) -> Unfinished {
         Unfinished::OutOfMemory
     }
 }
