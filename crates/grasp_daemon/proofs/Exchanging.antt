@@ -1,5 +1,5 @@
 -- The parts of a turn.
-use Rattle.std.proofs.Common.{◌≡◌, refl, sym, ap, ◌∙◌, subst, ℕ, ◌+◌, List, [], ◌∷◌, ◌++◌, Option, length}
+use Rattle.std.proofs.Common.{refl, sym, ap, ◌∙◌, subst, ℕ, ◌+◌, List, [], ◌∷◌, ◌++◌, Option}
 use Rattle.grasp_io.specs.Told.{Grows}
 use Rattle.grasp_shared.specs.Handles.{IsRootOf}
 use Rattle.grasp_shared.specs.declared.shared.Root.{Root}

@@ -1,20 +1,18 @@
 -- What a run came to, once all passes were given back.
-use Rattle.std.proofs.Common.{◌≡◌, ◌≢◌, ◌⊎◌, inl, inr, refl, sym, ap, subst, ◌∙◌, arith, ℕ, zero, suc, ◌+◌, ◌-◌, ◌<◌, ◌≤◌, ◌==◌, true, false, List, [], ◌∷◌, ◌++◌, length, take, slice_get, slice_index_or, Option, Some, None, Bool, leb}
+use Rattle.std.proofs.Common.{◌≡◌, ◌≢◌, ◌⊎◌, inl, inr, refl, sym, ap, subst, ◌∙◌, arith, ℕ, zero, suc, ◌+◌, ◌<◌, ◌≤◌, ◌==◌, true, false, List, [], ◌∷◌, ◌++◌, length, take, slice_get, slice_index_or, Option, Some, Bool, leb}
 use Rattle.std.proofs.lemmas.Bool.{eq-eqb}
 use Rattle.std.proofs.lemmas.Bool.Decides.{leb_tells}
-use Rattle.std.proofs.lemmas.List.{append-nil}
 use Rattle.std.proofs.lemmas.Option.{slice_get_within}
 use Rattle.std.specs.List.{AllByRecursion}
 use mathlib.Core.Option.{some}
 use lib.ListN.{get_elem?}
-use Rattle.grasp_types.specs.declared.reply.Reply.{Reply}
 use Rattle.grasp_types.specs.declared.traffic.Input.TheVariants as input
 use Rattle.grasp_core.specs.Node.{NodeState}
 use Rattle.grasp_core.specs.declared.node_core.NodeCore.{NodeCore}
 use Rattle.grasp_shared.specs.Calls.{Kept, LedTo}
 use Rattle.grasp_shared.specs.Handles.{view_of, root_view, out_of}
 use Rattle.grasp_shared.specs.History.{Entry, History, Reaches, own_calls}
-use Rattle.grasp_shared.specs.Passes.{kept, EachJoined, HasJust, NoOther}
+use Rattle.grasp_shared.specs.Passes.{kept, HasJust, NoOther}
 use Rattle.grasp_shared.specs.declared.shared.Pass.{Pass}
 use Rattle.grasp_shared.specs.declared.shared.Root.{Root}
 use Rattle.grasp_shared.specs.declared.shared.Shared.{Shared}

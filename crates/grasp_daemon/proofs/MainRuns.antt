@@ -8,7 +8,7 @@ use Rattle.grasp_config.specs.declared.config.NodeConfig.{NodeConfig}
 use Rattle.grasp_config.specs.declared.fault.ConfigKey.{ConfigKey}
 use Rattle.grasp_daemon.specs.Lines.{crew_text}
 use Rattle.grasp_daemon.specs.Plans.{IsPlanOf}
-use Rattle.grasp_daemon.specs.Program.{NothingPassed, RunsPlan, RunsConfig, RunsInput, BeginsPlan, BeginsConfig, BeginsInput, NoTurn, TurnsOfConfig, TurnsOfInput, NoneOrAllTurns, IsInput, IsConfigured}
+use Rattle.grasp_daemon.specs.Program.{NothingPassed, RunsPlan, RunsConfig, RunsInput, BeginsPlan, BeginsConfig, BeginsInput, NoTurn, TurnsOfConfig, NoneOrAllTurns, IsInput, IsConfigured}
 use Rattle.grasp_daemon.specs.Runs.{Ran, workers_of}
 use Rattle.grasp_daemon.specs.Tells.{LinksTold, Told, told}
 use Rattle.grasp_daemon.specs.declared.plan.DaemonPlan.{DaemonPlan}

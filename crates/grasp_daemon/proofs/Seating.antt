@@ -1,9 +1,9 @@
 -- The agents' turns.
-use Rattle.std.proofs.Common.{◌≡◌, refl, sym, ap, subst, ◌∙◌, arith, ℕ, ◌+◌, ◌<◌, true, false, List, [], ◌∷◌, ◌++◌, length, Some}
+use Rattle.std.proofs.Common.{◌≡◌, refl, sym, ap, subst, ◌∙◌, arith, ℕ, ◌+◌, true, false, [], ◌∷◌, ◌++◌, length, Some}
 use Rattle.grasp_types.specs.declared.reply.Reply.{Reply}
 use Rattle.grasp_types.specs.declared.traffic.Input.{Input}
 use Rattle.grasp_shared.specs.Calls.{entry, answered}
-use Rattle.grasp_shared.specs.Handles.{IsPassOf, view_of}
+use Rattle.grasp_shared.specs.Handles.{view_of}
 use Rattle.grasp_shared.specs.History.{Entry, History}
 use Rattle.grasp_shared.specs.declared.shared.Pass.{Pass}
 use Rattle.grasp_shared.specs.declared.shared.Shared.{Shared}

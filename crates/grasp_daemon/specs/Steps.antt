@@ -6,7 +6,7 @@ use Rattle.grasp_types.specs.declared.reply.Reply.{Reply}
 use Rattle.grasp_types.specs.declared.traffic.Input.{Input}
 use Rattle.grasp_types.specs.declared.traffic.Input.TheVariants as input
 use Rattle.grasp_core.specs.Node.{NodeState}
-use Rattle.grasp_shared.specs.History.{Entry, History, IsLegalHistory, own_calls}
+use Rattle.grasp_shared.specs.History.{History, IsLegalHistory, own_calls}
 use Rattle.grasp_shared.specs.Handles.{IsRootOf, root_view, out_of}
 use Rattle.grasp_shared.specs.declared.shared.Root.{Root}
 use Rattle.grasp_shared.specs.declared.shared.Shared.{Shared}

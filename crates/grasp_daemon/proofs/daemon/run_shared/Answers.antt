@@ -1,5 +1,5 @@
 use Rattle.std.proofs.Common.{arith}
-use Rattle.grasp_daemon.specs.Tells.{LinksTold, Told, told, links_told}
+use Rattle.grasp_daemon.specs.Tells.{LinksTold, told, links_told}
 use Rattle.grasp_daemon.proofs.Gathering.{passes_given, passes_kept, ran_shared}
 use Rattle.grasp_daemon.proofs.daemon.run_shared.Goals as goal
 

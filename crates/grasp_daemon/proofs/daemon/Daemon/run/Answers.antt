@@ -1,10 +1,10 @@
-use Rattle.std.proofs.Common.{◌≡◌, refl, ap, sym, subst, arith, [], List, length}
+use Rattle.std.proofs.Common.{◌≡◌, ap, sym, subst, arith, [], List, length}
 use Rattle.std.specs.Vec.{with_items}
 use Rattle.std.proofs.lemmas.List.{with_items_is}
 use Rattle.grasp_shared.specs.declared.view.View.{View}
 use Rattle.grasp_daemon.specs.Seats.{SeatsStand}
 use Rattle.grasp_daemon.specs.Steps.{RanSeats}
-use Rattle.grasp_daemon.specs.Tells.{LinksTold, Told, told, links_told}
+use Rattle.grasp_daemon.specs.Tells.{Told, told, links_told}
 use Rattle.grasp_daemon.specs.declared.seat.Seat.{Seat}
 use Rattle.grasp_daemon.proofs.Gathering.{ran_seats}
 use Rattle.grasp_daemon.proofs.RootMaking.{fresh}

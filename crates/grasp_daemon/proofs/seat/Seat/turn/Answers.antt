@@ -1,4 +1,4 @@
-use Rattle.std.proofs.Common.{refl, sym, ap, ◌∙◌}
+use Rattle.std.proofs.Common.{refl, ap, ◌∙◌}
 use Rattle.grasp_daemon.specs.Workers.{answered}
 use Rattle.grasp_daemon.specs.declared.seat.Seat.{Seat}
 use Rattle.grasp_daemon.proofs.Seating.{goes_stopped, goes_called}
