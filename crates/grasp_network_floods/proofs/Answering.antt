@@ -1,6 +1,6 @@
 -- What a call is told of floods is what the node keeps.
 use Rattle.std.proofs.Common.{◌≡◌, sym, subst, ℕ, ◌+◌, List, filter, All, Option, Some, None, Result, Ok, Err}
-use Rattle.std.proofs.lemmas.List.Elements.{All-nil, All-map}
+use Rattle.std.proofs.lemmas.List.Elements.{All-filter, All-nil, All-map}
 use Rattle.grasp_agent.specs.Announcing.{reads_in}
 use Rattle.grasp_core.specs.FloodCalls.{find_of, found_as}
 use Rattle.grasp_core.specs.Node.{NodeState}
@@ -24,7 +24,6 @@ use Rattle.grasp_types.specs.declared.reply.Reply.{Reply}
 use Rattle.grasp_types.specs.declared.reply.Reply.TheVariants as reply
 use Rattle.grasp_types.specs.declared.session.Handle.{Handle}
 use Rattle.grasp_types.specs.declared.session.Progress.{Progress}
-use Rattle.grasp_network_floods.proofs.CallTables.{filter_entries}
 use Rattle.grasp_network_floods.proofs.Made.{EntryMade, ReadMade}
 
 -- each flood that the answer tells is made
@@ -33,7 +32,7 @@ AnswerMade s calls a = All (ReadMade s calls) (read_by (reads_in (Some a)))
 
 reads_made : (s : Setting) (calls : List FloodCall) (n : NodeState) (name : List ℕ) → All (EntryMade s calls) n.floods.entries → All (ReadMade s calls) (reads_of n.floods name)
 reads_made s calls n name all =
-    All-map (ReadMade s calls) read_of (filter (is_named name) n.floods.entries) (filter_entries (EntryMade s calls) (is_named name) n.floods.entries all)
+    All-map (ReadMade s calls) read_of (filter (is_named name) n.floods.entries) (All-filter (is_named name) (EntryMade s calls) n.floods.entries all)
 
 -- ---- answers that tell of no flood
 

@@ -1,3 +1,7 @@
+mod Queueing
+mod Leaving
+mod Sending
+mod Datagrams
 mod Made
 mod Registries
 mod CallTables

@@ -1,12 +1,10 @@
 -- What it is that a search began a discovery, and that it stays so along the discovery's way.
-use Rattle.std.proofs.Common.{◌≡◌, ℕ, List, [], ◌∷◌, ◌++◌, All, Option, Some, None}
+use Rattle.std.proofs.Common.{◌≡◌, ℕ, List, ◌++◌, Option, Some}
 use Rattle.std.specs.Prelude.{Contains}
-use Rattle.std.proofs.lemmas.List.Elements.{All-cons, All-nil, All-weaker, Contains-append_left}
+use Rattle.std.proofs.lemmas.List.Elements.{Contains-append_left}
 use Rattle.grasp_core.specs.Datagrams.{lowered}
 use Rattle.grasp_core.specs.FloodCalls.{wanted_flags}
-use Rattle.grasp_core.specs.Queue.{Queued, datagram, dial, send, along}
-use Rattle.grasp_core.specs.Relays.{IsNoDatagram}
-use Rattle.grasp_core.specs.declared.ways.Way.{Way}
+use Rattle.grasp_core.specs.Queue.{Queued}
 use Rattle.grasp_discovery.specs.Topic.{topic_of, kind_of}
 use Rattle.grasp_discovery.specs.declared.memory.Memory.{Memory}
 use Rattle.grasp_discovery.specs.declared.search.Search.{Search}
@@ -17,6 +15,7 @@ use Rattle.grasp_types.specs.declared.message.Message.{Message}
 use Rattle.grasp_types.specs.declared.message.Message.TheVariants.{Noop, Discovery, Response, ReqNeg, ReqSyn, Negotiate, End, Wait, Synch, Flood, Invalid}
 use Rattle.grasp_types.specs.declared.objective.Objective.{Objective}
 use Rattle.grasp_types.specs.declared.origin.Origin.{Origin}
+use Rattle.grasp_network_floods.proofs.Queueing.{OptionIs, QueuedIs, queued_weaker}
 use Rattle.grasp_network_floods.specs.Sought.{Sought, IsKeptSearch}
 
 -- one of these searches began it, at the member whose address is the initiator's
@@ -47,13 +46,10 @@ MessageLooks s xs (Flood session initiator ttl parts) = Unit {0}
 MessageLooks s xs (Invalid session detail) = Unit {0}
 
 abbrev pub OptionLooks : Setting → List Sought → Option Message → Type 0
-OptionLooks s xs None = Unit {0}
-OptionLooks s xs (Some m) = MessageLooks s xs m
+OptionLooks s xs m = OptionIs (MessageLooks s xs) m
 
 abbrev pub QueuedLooks : Setting → List Sought → Queued → Type 0
-QueuedLooks s xs (datagram link to m) = MessageLooks s xs m
-QueuedLooks s xs (dial stream to) = Unit {0}
-QueuedLooks s xs (send stream m) = Unit {0}
+QueuedLooks s xs q = QueuedIs (MessageLooks s xs) q
 
 abbrev pub MemoryLooks : Setting → List Sought → Origin × Memory → Type 0
 MemoryLooks s xs memory = Looks s xs memory.0.session memory.0.initiator memory.1.topic
@@ -92,26 +88,10 @@ message_looks_more s xs more (Flood session initiator ttl parts) k = tt
 message_looks_more s xs more (Invalid session detail) k = tt
 
 pub queued_looks_more : (s : Setting) (xs more : List Sought) (q : Queued) → QueuedLooks s xs q → QueuedLooks s (xs ++ more) q
-queued_looks_more s xs more (datagram link to m) k = message_looks_more s xs more m k
-queued_looks_more s xs more (dial stream to) k = tt
-queued_looks_more s xs more (send stream m) k = tt
+queued_looks_more s xs more = queued_weaker (MessageLooks s xs) (MessageLooks s (xs ++ more)) (message_looks_more s xs more)
 
 pub search_looks_more : (xs more : List Sought) (node : ℕ) (search : Search) → SearchLooks xs node search → SearchLooks (xs ++ more) node search
 search_looks_more xs more node search k = record { it = k.it; among = Contains-append_left xs more k.it k.among; is = k.is }
-
--- ---- what is queued
-
-pub along_looks : (s : Setting) (xs : List Sought) (m : Message) (ways : List Way) → MessageLooks s xs m → All (QueuedLooks s xs) (along m ways)
-along_looks s xs m [] k = All-nil (QueuedLooks s xs)
-along_looks s xs m (way ∷ ways) k = All-cons (QueuedLooks s xs) (datagram way.link way.to m) (along m ways) k (along_looks s xs m ways k)
-
-no_datagram_looks : (s : Setting) (xs : List Sought) (q : Queued) → IsNoDatagram q → QueuedLooks s xs q
-no_datagram_looks s xs (datagram link to m) n = absurd n
-no_datagram_looks s xs (dial stream to) n = tt
-no_datagram_looks s xs (send stream m) n = tt
-
-pub none_looks : (s : Setting) (xs : List Sought) (qs : List Queued) → All IsNoDatagram qs → All (QueuedLooks s xs) qs
-none_looks s xs qs all = All-weaker IsNoDatagram (QueuedLooks s xs) (no_datagram_looks s xs) qs all
 
 -- one that is sent on looks for the same
 pub lowered_looks : (s : Setting) (xs : List Sought) (session : ℕ) (initiator : Address) (o : Objective) → DiscoveryLooks s xs session initiator o → DiscoveryLooks s xs session initiator (lowered o)

@@ -1,19 +1,17 @@
 -- What is so of each node: the discoveries that it keeps and queues were begun by searches. Each step leaves it so.
-use Rattle.std.proofs.Common.{refl, sym, ap, ◌∙◌, subst, ℕ, max, nat_lt, List, ◌++◌, All}
-use Rattle.std.proofs.lemmas.List.Elements.{All-map, All-weaker}
+use Rattle.std.proofs.Common.{◌≡◌, refl, sym, ap, ◌∙◌, subst, ℕ, max, nat_lt, List, ◌++◌, All}
+use Rattle.std.proofs.lemmas.List.Elements.{All-filter, All-map, All-weaker}
 use Rattle.grasp_core.proofs.DatagramsAlone.{datagrams_leave}
 use Rattle.grasp_core.proofs.Remembered.{Begun, begun, relays_once}
 use Rattle.grasp_core.proofs.StreamsAlone.{peers_leave}
-use Rattle.grasp_core.specs.Alone.{LeavesTheRest}
 use Rattle.grasp_core.specs.Begin.{begin}
-use Rattle.grasp_core.specs.Draining.{after_drain}
 use Rattle.grasp_core.specs.Draws.{next_session}
-use Rattle.grasp_core.specs.FloodCalls.{looked_for}
+use Rattle.grasp_core.specs.FloodCalls.{looked_for, wanted_flags}
 use Rattle.grasp_core.specs.Node.{NodeState}
 use Rattle.grasp_core.specs.Relays.{own_message}
-use Rattle.grasp_core.specs.Step.{Coming, Calls, TakesDatagram, Drains, NodeStep}
+use Rattle.grasp_core.specs.Step.{Coming, Calls, NodeStep}
 use Rattle.grasp_discovery.specs.Discoveries as discovery
-use Rattle.grasp_discovery.specs.Topic.{topic_of}
+use Rattle.grasp_discovery.specs.Topic.{topic_of, kind_of}
 use Rattle.grasp_discovery.specs.declared.search.Search.{Search}
 use Rattle.grasp_network.specs.Setting.{Setting, numbered}
 use Rattle.grasp_network.specs.World.{FloodCall}
@@ -27,9 +25,10 @@ use Rattle.grasp_types.specs.declared.session.Kind.{Kind}
 use Rattle.grasp_types.specs.declared.session.Kind.TheVariants.{Negotiation, Synchronization}
 use Rattle.grasp_types.specs.declared.traffic.Input.{Input}
 use Rattle.grasp_types.specs.declared.traffic.Input.TheVariants as input
+use Rattle.grasp_network_floods.proofs.Leaving.{stream_leaves, drain_leaves, taking}
 use Rattle.grasp_network_floods.proofs.Looks.{DiscoveryLooks, OptionLooks, QueuedLooks, MemoryLooks, SearchLooks, looks_more, queued_looks_more, search_looks_more}
 use Rattle.grasp_network_floods.proofs.LooksQueued.{QueueLooks, InputLooks, input_queue_looks}
-use Rattle.grasp_network_floods.proofs.LooksTables.{LooksKept, SameLooks, IsBegun, OwnBegun, looks_stay, filter_holds, call_kept, datagram_memories}
+use Rattle.grasp_network_floods.proofs.LooksTables.{LooksKept, IsBegun, OwnBegun, looks_stay, call_kept, datagram_memories}
 use Rattle.grasp_network_floods.proofs.Nodes.{NodeMade}
 use Rattle.grasp_network_floods.specs.Sought.{Sought}
 
@@ -62,7 +61,7 @@ begun_looks s xs node n after now b k = record {
         (All-map (SearchLooks xs node) (discovery.after_reading (max n.reading now)) n.discoveries.searches
         (All-weaker (SearchLooks xs node) (λ search. SearchLooks xs node (discovery.after_reading (max n.reading now) search)) (reading_looks xs node (max n.reading now)) n.discoveries.searches k.kept.searches));
     memories = subst (λ (d : discovery.Discoveries). All (MemoryLooks s xs) d.memories) (sym b.discoveries)
-        (filter_holds (MemoryLooks s xs) (λ memory. nat_lt (max n.reading now) memory.1.end) n.discoveries.memories k.kept.memories);
+        (All-filter (λ memory. nat_lt (max n.reading now) memory.1.end) (MemoryLooks s xs) n.discoveries.memories k.kept.memories);
   };
   queue = subst (All (QueuedLooks s xs)) (sym b.queue) k.queue;
 }
@@ -85,9 +84,13 @@ InputBegun xs node n (input.Bytes stream bytes) r = Unit {0}
 InputBegun xs node n (input.Closed stream) r = Unit {0}
 InputBegun xs node n (input.Drain max) r = Unit {0}
 
+kind_again : (kind : Kind) → kind_of (wanted_flags kind) ≡ kind
+kind_again Negotiation = refl
+kind_again Synchronization = refl
+
 own_discovery : (s : Setting) (calls : List FloodCall) (xs : List Sought) (node : ℕ) (n : NodeState) (name : List ℕ) (kind : Kind) (loops : ℕ) → NodeMade s calls node n
     → IsBegun xs node n (topic_of name kind) → DiscoveryLooks s xs (next_session n) n.plan.address (looked_for name kind loops)
-own_discovery s calls xs node n name Negotiation loops k b = record {
+own_discovery s calls xs node n name kind loops k b = record {
   search = record {
     it = b.it;
     among = b.among;
@@ -95,21 +98,9 @@ own_discovery s calls xs node n name Negotiation loops k b = record {
     begun_at = ap (numbered s.members) b.node_is ∙ k.found;
     address = ap (λ p. p.address) k.plan;
     session_is = b.session_is;
-    topic_is = b.topic_is;
+    topic_is = ap (topic_of name) (kind_again kind) ∙ b.topic_is;
   };
-  flags = refl;
-}
-own_discovery s calls xs node n name Synchronization loops k b = record {
-  search = record {
-    it = b.it;
-    among = b.among;
-    member = k.member;
-    begun_at = ap (numbered s.members) b.node_is ∙ k.found;
-    address = ap (λ p. p.address) k.plan;
-    session_is = b.session_is;
-    topic_is = b.topic_is;
-  };
-  flags = refl;
+  flags = ap wanted_flags (sym (kind_again kind));
 }
 
 own_looks : (s : Setting) (calls : List FloodCall) (xs : List Sought) (node : ℕ) (n : NodeState) (asa : ℕ) (it : Call) (a : ApiAnswer) → NodeMade s calls node n → OwnBegun xs node n it a
@@ -129,44 +120,20 @@ calls_kept s xs node n after asa it reply.Taken c own k = absurd c
 calls_kept s xs node n after asa it reply.Turned c own k = absurd c
 calls_kept s xs node n after asa it reply.OutOfMemory c own k = absurd c
 
-takes_memories : (s : Setting) (xs : List Sought) (n after : NodeState) (link from : ℕ) (x : Coming) (r : Reply) → TakesDatagram n link from x r after → OptionLooks s xs x.carried
-    → All (MemoryLooks s xs) n.discoveries.memories → All (MemoryLooks s xs) after.discoveries.memories
-takes_memories s xs n after link from x reply.Taken t k old =
-    subst (λ (m : NodeState). All (MemoryLooks s xs) m.discoveries.memories) (sym t) (datagram_memories s xs n link from x.carried k old)
-takes_memories s xs n after link from x reply.OutOfMemory t k old = subst (λ (m : NodeState). All (MemoryLooks s xs) m.discoveries.memories) (sym t) old
-takes_memories s xs n after link from x (reply.Api a) t k old = absurd t
-takes_memories s xs n after link from x (reply.Refused refused) t k old = absurd t
-takes_memories s xs n after link from x (reply.Outputs outputs) t k old = absurd t
-takes_memories s xs n after link from x reply.Turned t k old = absurd t
-
-quiet_looks : (stream : ℕ) (x : Coming) (n after : NodeState) → LeavesTheRest stream x n after → SameLooks n after
-quiet_looks stream x n after l = record { searches = l.searches; memories = l.memories }
-
-drains_look : (n after : NodeState) (most : ℕ) (r : Reply) → Drains n most r after → SameLooks n after
-unfolding after_drain
-drains_look n after most (reply.Outputs outputs) d =
-    record { searches = ap (λ (m : NodeState). m.discoveries.searches) d.1; memories = ap (λ (m : NodeState). m.discoveries.memories) d.1 }
-drains_look n after most reply.OutOfMemory d =
-    record { searches = ap (λ (m : NodeState). m.discoveries.searches) d.1; memories = ap (λ (m : NodeState). m.discoveries.memories) d.1 }
-drains_look n after most (reply.Api a) d = absurd d
-drains_look n after most (reply.Refused refused) d = absurd d
-drains_look n after most reply.Taken d = absurd d
-drains_look n after most reply.Turned d = absurd d
-
 acts_kept : (s : Setting) (xs : List Sought) (node : ℕ) (n after : NodeState) (now : ℕ) (i : Input) (x : Coming) (r : Reply) → NodeStep n now i x r after → InputLooks s xs (begin n now) i x r
     → InputBegun xs node (begin n now) i r → LooksKept s xs node (begin n now) → LooksKept s xs node after
 acts_kept s xs node n after now (input.Api asa it) x r step given own k = calls_kept s xs node (begin n now) after asa it r step.acts own k
 acts_kept s xs node n after now (input.Datagram link from bytes) x r step given own k = record {
   searches = subst (All (SearchLooks xs node)) (sym (datagrams_leave n after now link from bytes x r step).searches) k.searches;
-  memories = takes_memories s xs (begin n now) after link from x r step.acts given k.memories;
+  memories = taking (λ m. All (MemoryLooks s xs) m.discoveries.memories) (begin n now) after link from x r step.acts (datagram_memories s xs (begin n now) link from x.carried given k.memories) k.memories;
 }
 acts_kept s xs node n after now (input.Opened stream from) x r step given own k =
-    looks_stay s xs node (begin n now) after (quiet_looks stream x (begin n now) after ((peers_leave n after now stream x r).0 from step)) k
+    looks_stay s xs node (begin n now) after (stream_leaves stream x (begin n now) after ((peers_leave n after now stream x r).0 from step)) k
 acts_kept s xs node n after now (input.Bytes stream bytes) x r step given own k =
-    looks_stay s xs node (begin n now) after (quiet_looks stream x (begin n now) after ((peers_leave n after now stream x r).1 bytes step)) k
+    looks_stay s xs node (begin n now) after (stream_leaves stream x (begin n now) after ((peers_leave n after now stream x r).1 bytes step)) k
 acts_kept s xs node n after now (input.Closed stream) x r step given own k =
-    looks_stay s xs node (begin n now) after (quiet_looks stream x (begin n now) after ((peers_leave n after now stream x r).2 step)) k
-acts_kept s xs node n after now (input.Drain most) x r step given own k = looks_stay s xs node (begin n now) after (drains_look (begin n now) after most r step.acts) k
+    looks_stay s xs node (begin n now) after (stream_leaves stream x (begin n now) after ((peers_leave n after now stream x r).2 step)) k
+acts_kept s xs node n after now (input.Drain most) x r step given own k = looks_stay s xs node (begin n now) after (drain_leaves (begin n now) after most r step.acts) k
 
 pub step_looks : (s : Setting) (xs : List Sought) (node : ℕ) (n after : NodeState) (now : ℕ) (i : Input) (x : Coming) (r : Reply) → NodeStep n now i x r after
     → InputLooks s xs (begin n now) i x r → InputBegun xs node (begin n now) i r → NodeLooks s xs node n → NodeLooks s xs node after

@@ -1,11 +1,9 @@
 -- What it is that calls began a flood, and that it stays so along the flood's way.
-use Rattle.std.proofs.Common.{◌≡◌, ℕ, ◌<◌, ◌≤◌, ◌-◌, ◌^◌, List, [], ◌∷◌, ◌++◌, All, Option, Some, None, arith}
+use Rattle.std.proofs.Common.{◌≡◌, ℕ, ◌<◌, ◌≤◌, ◌-◌, ◌^◌, List, [], ◌∷◌, ◌++◌, All, Option, Some, None, arith, refl, ◌∙◌}
 use Rattle.std.specs.Prelude.{Contains}
-use Rattle.std.proofs.lemmas.List.Elements.{All-cons, All-head, All-tail, All-nil, All-weaker, Contains-append_left}
+use Rattle.std.proofs.lemmas.List.Elements.{All-cons, All-head, All-tail, All-weaker, Contains-append_left}
 use Rattle.grasp_core.specs.Datagrams.{lowered, loops_of}
-use Rattle.grasp_core.specs.Queue.{Queued, datagram, dial, send, along}
-use Rattle.grasp_core.specs.Relays.{IsNoDatagram}
-use Rattle.grasp_core.specs.declared.ways.Way.{Way}
+use Rattle.grasp_core.specs.Queue.{Queued}
 use Rattle.grasp_flood.specs.Floods.{read_of}
 use Rattle.grasp_flood.specs.declared.keys.FloodKey.{FloodKey}
 use Rattle.grasp_flood.specs.declared.kept.FloodKept.{FloodKept}
@@ -21,6 +19,7 @@ use Rattle.grasp_types.specs.declared.flood.FloodRead.{FloodRead}
 use Rattle.grasp_types.specs.declared.message.Message.{Message}
 use Rattle.grasp_types.specs.declared.message.Message.TheVariants.{Noop, Discovery, Response, ReqNeg, ReqSyn, Negotiate, End, Wait, Synch, Flood, Invalid}
 use Rattle.grasp_types.specs.declared.objective.Objective.{Objective}
+use Rattle.grasp_network_floods.proofs.Queueing.{QueuedIs, queued_weaker}
 
 -- one of these calls flooded it, at the member whose address is the initiator's
 pub record Made (s : Setting) (calls : List FloodCall) (initiator : Address) (o : Objective) (locator : Option Locator) : Type 0 where
@@ -63,9 +62,7 @@ pub record MessageMade (s : Setting) (calls : List FloodCall) (m : Message) : Ty
   pub parts : PartsMade s calls m
 
 abbrev pub QueuedMade : Setting → List FloodCall → Queued → Type 0
-QueuedMade s calls (datagram link to m) = MessageMade s calls m
-QueuedMade s calls (dial stream to) = Unit {0}
-QueuedMade s calls (send stream m) = Unit {0}
+QueuedMade s calls q = QueuedIs (MessageMade s calls) q
 
 -- ---- more calls
 
@@ -101,28 +98,31 @@ pub message_more : (s : Setting) (calls more : List FloodCall) (m : Message) →
 message_more s calls more m k = record { is_message = k.is_message; parts = parts_more s calls more m k.parts }
 
 pub queued_more : (s : Setting) (calls more : List FloodCall) (q : Queued) → QueuedMade s calls q → QueuedMade s (calls ++ more) q
-queued_more s calls more (datagram link to m) k = message_more s calls more m k
-queued_more s calls more (dial stream to) k = tt
-queued_more s calls more (send stream m) k = tt
-
--- ---- what is queued
-
-pub along_made : (s : Setting) (calls : List FloodCall) (m : Message) (ways : List Way) → MessageMade s calls m → All (QueuedMade s calls) (along m ways)
-along_made s calls m [] k = All-nil (QueuedMade s calls)
-along_made s calls m (way ∷ ways) k = All-cons (QueuedMade s calls) (datagram way.link way.to m) (along m ways) k (along_made s calls m ways k)
-
-no_datagram_made : (s : Setting) (calls : List FloodCall) (q : Queued) → IsNoDatagram q → QueuedMade s calls q
-no_datagram_made s calls (datagram link to m) n = absurd n
-no_datagram_made s calls (dial stream to) n = tt
-no_datagram_made s calls (send stream m) n = tt
-
-pub none_made : (s : Setting) (calls : List FloodCall) (qs : List Queued) → All IsNoDatagram qs → All (QueuedMade s calls) qs
-none_made s calls qs all = All-weaker IsNoDatagram (QueuedMade s calls) (no_datagram_made s calls) qs all
+queued_more s calls more = queued_weaker (MessageMade s calls) (MessageMade s (calls ++ more)) (message_more s calls more)
 
 -- ---- loop counts that are lowered
 
-one_less : (a b : ℕ) → a ≤ b → a - 1 ≤ b
-one_less a b h = omega arith
+one_less : (a : ℕ) → a - 1 ≤ a
+one_less a = omega arith
+
+in_turn : (a b c : ℕ) → a ≤ b → b ≤ c → a ≤ c
+in_turn a b c h k = omega arith
+
+-- what tells the same, with a loop count that isn't higher, was made by the same call
+pub made_as : (s : Setting) (calls : List FloodCall) (initiator : Address) (o p : Objective) (locator : Option Locator) → p.name ≡ o.name → p.value ≡ o.value → p.flags ≡ o.flags → p.loops ≤ o.loops
+    → Made s calls initiator o locator → Made s calls initiator p locator
+made_as s calls initiator o p locator name value flags loops m = record {
+  call = m.call;
+  among = m.among;
+  member = m.member;
+  made_at = m.made_at;
+  address = m.address;
+  name = name ∙ m.name;
+  value = value ∙ m.value;
+  flags = flags ∙ m.flags;
+  loops = in_turn p.loops o.loops m.call.loops loops m.loops;
+  no_locator = m.no_locator;
+}
 
 still_below : (a : ℕ) → a < 2 ^ 8 → a - 1 < 2 ^ 8
 still_below a h = omega arith
@@ -132,18 +132,8 @@ objective_lowered o k = record { name = k.name; flags = k.flags; loops = still_b
 
 part_lowered : (s : Setting) (calls : List FloodCall) (initiator : Address) (part : FloodPart) → PartMade s calls initiator part
     → PartMade s calls initiator (record part { objective = record part.objective { loops = part.objective.loops - 1 } })
-part_lowered s calls initiator part m = record {
-  call = m.call;
-  among = m.among;
-  member = m.member;
-  made_at = m.made_at;
-  address = m.address;
-  name = m.name;
-  value = m.value;
-  flags = m.flags;
-  loops = one_less part.objective.loops m.call.loops m.loops;
-  no_locator = m.no_locator;
-}
+part_lowered s calls initiator part m =
+    made_as s calls initiator part.objective (record part.objective { loops = part.objective.loops - 1 }) part.locator refl refl refl (one_less part.objective.loops) m
 
 pub parts_lowered : (s : Setting) (calls : List FloodCall) (initiator : Address) (parts : List FloodPart) → All (PartMade s calls initiator) parts
     → All (PartMade s calls initiator) (first_loops parts (loops_of parts - 1))

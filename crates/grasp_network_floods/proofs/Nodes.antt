@@ -1,13 +1,12 @@
 -- What is so of each node of a network: what it keeps and queues of floods was made. Each step leaves it so.
-use Rattle.std.proofs.Common.{◌≡◌, sym, ap, ◌∙◌, subst, ℕ, max, List, All, Some}
+use Rattle.std.proofs.Common.{◌≡◌, sym, ◌∙◌, subst, ℕ, max, List, All, Some}
+use Rattle.std.proofs.lemmas.List.Elements.{All-filter}
 use Rattle.grasp_core.proofs.DatagramsAlone.{datagrams_leave}
 use Rattle.grasp_core.proofs.Remembered.{Begun, begun, relays_once}
 use Rattle.grasp_core.proofs.StreamsAlone.{peers_leave}
-use Rattle.grasp_core.specs.Alone.{LeavesTheRest}
 use Rattle.grasp_core.specs.Begin.{begin}
-use Rattle.grasp_core.specs.Draining.{after_drain}
 use Rattle.grasp_core.specs.Node.{NodeState}
-use Rattle.grasp_core.specs.Step.{Coming, Calls, TakesDatagram, Drains, NodeStep}
+use Rattle.grasp_core.specs.Step.{Coming, Calls, NodeStep}
 use Rattle.grasp_flood.specs.Floods as flood
 use Rattle.grasp_flood.specs.declared.keys.FloodKey.{FloodKey}
 use Rattle.grasp_flood.specs.declared.kept.FloodKept.{FloodKept}
@@ -19,10 +18,11 @@ use Rattle.grasp_types.specs.declared.reply.Reply.{Reply}
 use Rattle.grasp_types.specs.declared.reply.Reply.TheVariants as reply
 use Rattle.grasp_types.specs.declared.traffic.Input.{Input}
 use Rattle.grasp_types.specs.declared.traffic.Input.TheVariants as input
-use Rattle.grasp_network_floods.proofs.CallTables.{Tables, SameTables, tables_stay, call_tables, filter_entries}
-use Rattle.grasp_network_floods.proofs.Heard.{OptionMade, datagram_entries}
+use Rattle.grasp_network_floods.proofs.CallTables.{Tables, tables_stay, call_tables}
+use Rattle.grasp_network_floods.proofs.Heard.{datagram_entries}
+use Rattle.grasp_network_floods.proofs.Leaving.{stream_leaves, drain_leaves, taking}
 use Rattle.grasp_network_floods.proofs.Made.{EntryMade, QueuedMade}
-use Rattle.grasp_network_floods.proofs.Queued.{QueueMade, InputMade, input_queue}
+use Rattle.grasp_network_floods.proofs.Queued.{QueueMade, InputMade, made_queue}
 use Rattle.grasp_network_floods.proofs.Registries.{AllHaveFlags}
 use Rattle.grasp_network_floods.proofs.Ranges.{IsInRange}
 
@@ -40,7 +40,7 @@ begun_made : (s : Setting) (calls : List FloodCall) (node : ℕ) (n after : Node
 begun_made s calls node n after now b k = record {
   tables = record {
     entries = subst (λ (f : flood.Floods). All (EntryMade s calls) f.entries) (sym b.floods)
-        (filter_entries (EntryMade s calls) (λ entry. flood.is_after (max n.reading now) entry.1.end) n.floods.entries k.tables.entries);
+        (All-filter (λ entry. flood.is_after (max n.reading now) entry.1.end) (EntryMade s calls) n.floods.entries k.tables.entries);
     flags = subst AllHaveFlags (sym b.registrations) k.tables.flags;
   };
   queue = subst (All (QueuedMade s calls)) (sym b.queue) k.queue;
@@ -62,42 +62,20 @@ calls_tables P n after asa it reply.Taken k c t = absurd c
 calls_tables P n after asa it reply.Turned k c t = absurd c
 calls_tables P n after asa it reply.OutOfMemory k c t = absurd c
 
-takes_entries : (s : Setting) (calls : List FloodCall) (n after : NodeState) (link from : ℕ) (x : Coming) (r : Reply) → TakesDatagram n link from x r after → OptionMade s calls x.carried
-    → All (EntryMade s calls) n.floods.entries → All (EntryMade s calls) after.floods.entries
-takes_entries s calls n after link from x reply.Taken t k old =
-    subst (λ (m : NodeState). All (EntryMade s calls) m.floods.entries) (sym t) (datagram_entries s calls n link from x.carried k old)
-takes_entries s calls n after link from x reply.OutOfMemory t k old = subst (λ (m : NodeState). All (EntryMade s calls) m.floods.entries) (sym t) old
-takes_entries s calls n after link from x (reply.Api answer) t k old = absurd t
-takes_entries s calls n after link from x (reply.Refused refused) t k old = absurd t
-takes_entries s calls n after link from x (reply.Outputs outputs) t k old = absurd t
-takes_entries s calls n after link from x reply.Turned t k old = absurd t
-
-quiet : (stream : ℕ) (x : Coming) (n after : NodeState) → LeavesTheRest stream x n after → SameTables n after
-quiet stream x n after l = record { floods = l.floods; registrations = l.registrations }
-
-drains_same : (n after : NodeState) (max : ℕ) (r : Reply) → Drains n max r after → SameTables n after
-unfolding after_drain
-drains_same n after max (reply.Outputs outputs) d = record { floods = ap (λ (m : NodeState). m.floods) d.1; registrations = ap (λ (m : NodeState). m.registrations) d.1 }
-drains_same n after max reply.OutOfMemory d = record { floods = ap (λ (m : NodeState). m.floods) d.1; registrations = ap (λ (m : NodeState). m.registrations) d.1 }
-drains_same n after max (reply.Api answer) d = absurd d
-drains_same n after max (reply.Refused refused) d = absurd d
-drains_same n after max reply.Taken d = absurd d
-drains_same n after max reply.Turned d = absurd d
-
 acts_tables : (s : Setting) (calls : List FloodCall) (n after : NodeState) (now : ℕ) (i : Input) (x : Coming) (r : Reply) → NodeStep n now i x r after → InputMade s calls (begin n now) i x r
     → Tables (EntryMade s calls) (begin n now) → Tables (EntryMade s calls) after
 acts_tables s calls n after now (input.Api asa it) x r step k t = calls_tables (EntryMade s calls) (begin n now) after asa it r k.0 step.acts t
 acts_tables s calls n after now (input.Datagram link from bytes) x r step k t = record {
-  entries = takes_entries s calls (begin n now) after link from x r step.acts k t.entries;
+  entries = taking (λ m. All (EntryMade s calls) m.floods.entries) (begin n now) after link from x r step.acts (datagram_entries s calls (begin n now) link from x.carried k t.entries) t.entries;
   flags = subst AllHaveFlags (sym (datagrams_leave n after now link from bytes x r step).registrations) t.flags;
 }
 acts_tables s calls n after now (input.Opened stream from) x r step k t =
-    tables_stay (EntryMade s calls) (begin n now) after (quiet stream x (begin n now) after ((peers_leave n after now stream x r).0 from step)) t
+    tables_stay (EntryMade s calls) (begin n now) after (stream_leaves stream x (begin n now) after ((peers_leave n after now stream x r).0 from step)) t
 acts_tables s calls n after now (input.Bytes stream bytes) x r step k t =
-    tables_stay (EntryMade s calls) (begin n now) after (quiet stream x (begin n now) after ((peers_leave n after now stream x r).1 bytes step)) t
+    tables_stay (EntryMade s calls) (begin n now) after (stream_leaves stream x (begin n now) after ((peers_leave n after now stream x r).1 bytes step)) t
 acts_tables s calls n after now (input.Closed stream) x r step k t =
-    tables_stay (EntryMade s calls) (begin n now) after (quiet stream x (begin n now) after ((peers_leave n after now stream x r).2 step)) t
-acts_tables s calls n after now (input.Drain most) x r step k t = tables_stay (EntryMade s calls) (begin n now) after (drains_same (begin n now) after most r step.acts) t
+    tables_stay (EntryMade s calls) (begin n now) after (stream_leaves stream x (begin n now) after ((peers_leave n after now stream x r).2 step)) t
+acts_tables s calls n after now (input.Drain most) x r step k t = tables_stay (EntryMade s calls) (begin n now) after (drain_leaves (begin n now) after most r step.acts) t
 
 -- ---- a step
 
@@ -107,7 +85,7 @@ step_made s calls node n after now i x r step k made = from (begin_made s calls 
   from : NodeMade s calls node (begin n now) → NodeMade s calls node after
   from b = record {
     tables = acts_tables s calls n after now i x r step k b.tables;
-    queue = input_queue s calls (begin n now) i x r after (relays_once n after now i x r step) k b.queue;
+    queue = made_queue s calls (begin n now) i x r after (relays_once n after now i x r step) k b.queue;
     member = made.member;
     found = made.found;
     plan = step_plan n after now i x r step ∙ made.plan;

@@ -1,7 +1,7 @@
 -- Registered flags are flags: what calls on a registry leave.
-use Rattle.std.proofs.Common.{ℕ, ◌≤◌, Bool, true, false, cond, not, List, [], ◌∷◌, map, filter, All, Option, Some, None, Result, Ok, Err, arith}
+use Rattle.std.proofs.Common.{ℕ, ◌≤◌, Bool, true, false, cond, not, List, [], ◌∷◌, map, All, Option, Some, None, Result, Ok, Err, arith}
 use Rattle.std.specs.Prelude.{find, option_map}
-use Rattle.std.proofs.lemmas.List.Elements.{All-cons, All-head, All-tail, All-push}
+use Rattle.std.proofs.lemmas.List.Elements.{All-cons, All-filter, All-head, All-tail, All-push}
 use Rattle.grasp_asa.specs.Answers.{after_register_asa, after_deregister_asa, after_register_objective, after_deregister_objective, marked, after_listen, offering, after_offer}
 use Rattle.grasp_asa.specs.Registrations.{Registrations, is_owned_by, is_of, is_named}
 use Rattle.grasp_asa.specs.declared.entry.Registered.{Registered}
@@ -15,13 +15,6 @@ HasFlags o = o.flags ≤ 15
 
 abbrev pub AllHaveFlags : Registrations → Type 0
 AllHaveFlags r = All HasFlags r.objectives
-
-filter_flags : (p : Registered → Bool) (os : List Registered) → All HasFlags os → All HasFlags (filter p os)
-filter_flags p [] all = all
-filter_flags p (o ∷ os) all = by_test (p o) (filter_flags p os (All-tail HasFlags o os all)) where
-  by_test : (b : Bool) → All HasFlags (filter p os) → All HasFlags (cond b (o ∷ filter p os) (filter p os))
-  by_test true rest = All-cons HasFlags o (filter p os) (All-head HasFlags o os all) rest
-  by_test false rest = rest
 
 map_flags : (f : Registered → Registered) (os : List Registered) → ((o : Registered) → HasFlags o → HasFlags (f o)) → All HasFlags os → All HasFlags (map f os)
 map_flags f [] keep all = all
@@ -47,7 +40,7 @@ agent_flags r name (Ok asa) all = all
 agent_flags r name (Err e) all = all
 
 pub leaving_flags : (r : Registrations) (asa : ℕ) (a : Result (Unit {0}) ApiRefused) → AllHaveFlags r → AllHaveFlags (after_deregister_asa r asa a)
-leaving_flags r asa (Ok u) all = filter_flags (λ o. not (is_owned_by asa o)) r.objectives all
+leaving_flags r asa (Ok u) all = All-filter (λ o. not (is_owned_by asa o)) HasFlags r.objectives all
 leaving_flags r asa (Err e) all = all
 
 pub objective_flags : (r : Registrations) (asa : ℕ) (name : List ℕ) (flags : ℕ) (a : Result (Unit {0}) ApiRefused) → flags ≤ 15 → AllHaveFlags r
@@ -56,7 +49,7 @@ objective_flags r asa name flags (Ok u) h all = All-push HasFlags r.objectives (
 objective_flags r asa name flags (Err e) h all = all
 
 pub dropping_flags : (r : Registrations) (asa : ℕ) (name : List ℕ) (a : Result (Unit {0}) ApiRefused) → AllHaveFlags r → AllHaveFlags (after_deregister_objective r asa name a)
-dropping_flags r asa name (Ok u) all = filter_flags (λ o. not (is_of asa name o)) r.objectives all
+dropping_flags r asa name (Ok u) all = All-filter (λ o. not (is_of asa name o)) HasFlags r.objectives all
 dropping_flags r asa name (Err e) all = all
 
 pub listen_flags : (r : Registrations) (name : List ℕ) (on : Bool) (a : Result (Unit {0}) ApiRefused) → AllHaveFlags r → AllHaveFlags (after_listen r name on a)
