@@ -11,3 +11,4 @@ pub mod DialMoves
 pub mod DialNodes
 pub mod Drains
 pub mod Orders
+pub mod SessionChanges
