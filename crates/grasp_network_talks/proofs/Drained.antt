@@ -29,7 +29,7 @@ use Rattle.grasp_network.proofs.Sent.{sending_keeps_nodes}
 use Rattle.grasp_network.proofs.Staying.{put_here}
 use Rattle.grasp_network.specs.Runs.{IsReached, answered_seat, first_seat, first_world}
 use Rattle.grasp_network.specs.Sending as network
-use Rattle.grasp_network.specs.Sending.{seat_with, drained_at, drained_from, handed_over}
+use Rattle.grasp_network.specs.Sending.{seat_with, drained_at, drained_from}
 use Rattle.grasp_network.specs.Setting.{Member, Setting, numbered}
 use Rattle.grasp_network.specs.Talks.{StreamEnd, TalkState, end_at, is_same_end}
 use Rattle.grasp_network.specs.Visits.{no_choice}
@@ -38,7 +38,8 @@ use Rattle.grasp_network_bytes.proofs.AfterSteps.{IsPutOr, put_or, IsWanted, sam
 use Rattle.grasp_network_talks.proofs.Harmless.{IsLike, Harmless, handed_harmless}
 use Rattle.grasp_network_talks.proofs.NodeMoves.{FromOld, NodeMove, move_stands, move_goes}
 use Rattle.grasp_network_talks.proofs.Standing.{view_seat, EndStands, SideStands, Stands, GoesTo, NoStream, NetworkStands}
-use Rattle.grasp_network_talks.proofs.Steps.{Grounds, story_of, clear_of, comes_of, nothing_added, is_recorded, life_is, ends_apart}
+use Rattle.grasp_network_talks.proofs.Steps.{story_of, clear_of, comes_of, nothing_added, is_recorded, life_is, ends_apart}
+use Rattle.grasp_network_talks.specs.Grounds.{Grounds}
 use Rattle.grasp_network_talks.proofs.TalkRuns.{joined}
 use Rattle.grasp_network_talks.proofs.TalkSteps.{Fits}
 use Rattle.grasp_network_talks.proofs.Voices.{voices}
@@ -99,7 +100,8 @@ module _ (l : Grounds) (s : Setting) (w : WorldState) (r : IsReached s w) (k : N
         far = inl m.like.far;
       }
 
-  drain_is : NodeMove w y
+  -- a drain is a step of one node, in which no stream is new
+  pub drain_is : NodeMove w y
   drain_is = record {
     node = node;
     seat = seat;
@@ -159,19 +161,21 @@ drained_goes l s w node max r k least place t u was there m = by_seat (seat_at w
 
 -- ---- a want
 
+module _ (w : WorldState) (node : ℕ) (seat : Seat) (agent : AgentState) (least : 1 ≤ node) (here : seat_at w node ≡ Some seat) where
+  -- each node has the core that it had
+  pub had : (n : ℕ) (other : Seat) → seat_at (with_seat w node (seat_with seat seat.core agent)) n ≡ Some other
+      → (before : Seat) × (seat_at w n ≡ Some before) × (other.core ≡ before.core) × (life_of other ≡ life_of before)
+  had n other found = by_put (put_or w.seats node (seat_with seat seat.core agent) n other least found) where
+    by_put : IsPutOr w.seats node (seat_with seat seat.core agent) n other → (before : Seat) × (seat_at w n ≡ Some before) × (other.core ≡ before.core) × (life_of other ≡ life_of before)
+    by_put (inl t) = (seat, ap (λ z. seat_at w z) t.0 ∙ here, ap (λ (z : Seat). z.core) (sym t.1), ap (λ (z : Seat). life_of z) (sym t.1))
+    by_put (inr t) = (other, t.1, refl, refl)
+
 module _ (w : WorldState) (k : NetworkStands w) (node : ℕ) (seat : Seat) (agent : AgentState) (least : 1 ≤ node) (here : seat_at w node ≡ Some seat) where
   abbrev asked : Seat
   asked = seat_with seat seat.core agent
 
   abbrev x : WorldState
   x = with_seat w node (seat_with seat seat.core agent)
-
-  -- each node has the core that it had
-  had : (n : ℕ) (other : Seat) → seat_at x n ≡ Some other → (before : Seat) × (seat_at w n ≡ Some before) × (other.core ≡ before.core) × (life_of other ≡ life_of before)
-  had n other found = by_put (put_or w.seats node asked n other least found) where
-    by_put : IsPutOr w.seats node asked n other → (before : Seat) × (seat_at w n ≡ Some before) × (other.core ≡ before.core) × (life_of other ≡ life_of before)
-    by_put (inl t) = (seat, ap (λ z. seat_at w z) t.0 ∙ here, ap (λ (z : Seat). z.core) (sym t.1), ap (λ (z : Seat). life_of z) (sym t.1))
-    by_put (inr t) = (other, t.1, refl, refl)
 
   same_view : (e : StreamEnd) → view_seat e.number (seat_at x e.node) ≡ view_seat e.number (seat_at w e.node)
   same_view e = by_node (e.node == node) refl where
@@ -184,7 +188,7 @@ module _ (w : WorldState) (k : NetworkStands w) (node : ℕ) (seat : Seat) (agen
   end_still : (e : StreamEnd) (p : Party) → EndStands w e p → EndStands x e p
   end_still e p stands = record {
     fits = subst (λ v. Fits v p.stage) (sym (same_view e)) stands.fits;
-    opens = λ other past found is. let h = had e.node other found in stands.opens h.0 past h.1 (subst (λ (z : NodeState). past_of z.streams e.number ≡ Some past) h.2 is);
+    opens = λ other past found is. let h = had w node seat agent least here e.node other found in stands.opens h.0 past h.1 (subst (λ (z : NodeState). past_of z.streams e.number ≡ Some past) h.2 is);
   }
 
   side_still : (o : Option StreamEnd) (p : Party) → SideStands w o p → SideStands x o p
@@ -193,8 +197,8 @@ module _ (w : WorldState) (k : NetworkStands w) (node : ℕ) (seat : Seat) (agen
 
   pub want_stands : NetworkStands x
   want_stands = record {
-    clear = λ n other found stream. let h = had n other found in subst (λ (z : NodeState). IsClear z stream) (sym h.2) (k.clear n h.0 h.1 stream);
-    unseen = λ n other found stream none. let h = had n other found in
+    clear = λ n other found stream. let h = had w node seat agent least here n other found in subst (λ (z : NodeState). IsClear z stream) (sym h.2) (k.clear n h.0 h.1 stream);
+    unseen = λ n other found stream none. let h = had w node seat agent least here n other found in
         subst (λ (z : NodeState). view_on z stream ≡ None) (sym h.2)
         (k.unseen n h.0 h.1 stream (subst (λ life. NoStream w.talks (record { node = n; life = life; number = stream })) h.3 none));
     talks = λ place t is negotiation. still t (k.talks place t is negotiation);

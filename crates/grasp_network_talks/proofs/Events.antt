@@ -28,7 +28,8 @@ use Rattle.grasp_network_bytes.specs.Saying.{said_by, queued_for}
 use Rattle.grasp_network_talks.proofs.Harmless.{IsLike, Harmless}
 use Rattle.grasp_network_talks.proofs.NodeMoves.{FarOpens, FromOld, FromNew, NodeMove}
 use Rattle.grasp_network_talks.proofs.Standing.{NoStream, NetworkStands}
-use Rattle.grasp_network_talks.proofs.Steps.{Grounds, AddsInOrder, story_of, clear_of, comes_of, is_recorded, dialled_low, dialled_there, life_is, ends_apart}
+use Rattle.grasp_network_talks.proofs.Steps.{AddsInOrder, story_of, clear_of, comes_of, is_recorded, dialled_low, dialled_there, life_is, ends_apart}
+use Rattle.grasp_network_talks.specs.Grounds.{Grounds}
 use Rattle.grasp_network_talks.proofs.StreamsMade.{with_voices, MadeOld, MadeNew, made_from, made_stays, voices_onto, same_sends, sends_append, one_place}
 use Rattle.grasp_network_talks.proofs.TalkRuns.{joined, spoken_onto}
 use Rattle.grasp_network_talks.proofs.TalkSteps.{onto}

@@ -45,7 +45,8 @@ use Rattle.grasp_network_talks.proofs.Harmless.{same_talks, delivered_harmless, 
 use Rattle.grasp_network_talks.proofs.NodeMoves.{NodeMove, move_stands, move_goes}
 use Rattle.grasp_network_talks.proofs.Standing.{Stands, GoesTo, NoStream, NetworkStands}
 use Rattle.grasp_network_talks.proofs.TalkRuns.{ran_then}
-use Rattle.grasp_network_talks.proofs.Steps.{Grounds, BringsNothing, AddsInOrder, nothing_added, given_before, own_end, every_at}
+use Rattle.grasp_network_talks.proofs.Steps.{BringsNothing, AddsInOrder, nothing_added, given_before, own_end, every_at}
+use Rattle.grasp_network_talks.specs.Grounds.{Grounds}
 
 -- ---- inputs that bring nothing
 
@@ -205,7 +206,8 @@ module _ (l : Grounds) (s : Setting) where
         after_closing l s w r k (event.Cut n far hold) c v o is tt q
         (harmless_premade w.talks (talks_before s w (event.Cut n far hold) v c) v.node v.seat v.input (told_harmless w (reached_side w n (side_named far)))) p.reached.at.number p.is.input_is
 
-  steps : (w : WorldState) (e : Event) (c : Choice) (v : Visit) → IsReached s w → NetworkStands w → Occurs s w e c → visit_of s w e ≡ Some v → IsStep e → IsReached s (after_visit s w e v c)
+  -- what the step of an event does is a step of one node
+  pub steps : (w : WorldState) (e : Event) (c : Choice) (v : Visit) → IsReached s w → NetworkStands w → Occurs s w e c → visit_of s w e ≡ Some v → IsStep e → IsReached s (after_visit s w e v c)
       → NodeMove w (after_visit s w e v c)
   steps w (event.Clock node millis) c v r k o is stepping q = after_quiet l s w r k (event.Clock node millis) c v o is stepping q (same_pre w v) (clock_quiet s w node millis v is)
   steps w (event.Want node length longest peer) c v r k o is stepping q = absurd stepping

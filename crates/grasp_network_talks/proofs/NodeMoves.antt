@@ -87,7 +87,7 @@ pub record NodeMove (w y : WorldState) : Type 0 where
 
 -- ---- what was said before
 
-spoken_joined : (side : Side) (zs c : List Said) → reverse (spoken side (joined zs c)) ≡ reverse (spoken side c) ++ spoken side zs
+pub spoken_joined : (side : Side) (zs c : List Said) → reverse (spoken side (joined zs c)) ≡ reverse (spoken side c) ++ spoken side zs
 spoken_joined side [] c = sym (append-nil (reverse (spoken side c)))
 spoken_joined side (z ∷ zs) c = spoken_joined side zs (z ∷ c) ∙ by_side (is_side side z.side) where
   by_side : (b : Bool) → reverse (cond b (z.message ∷ spoken side c) (spoken side c)) ++ spoken side zs ≡ reverse (spoken side c) ++ cond b (z.message ∷ spoken side zs) (spoken side zs)
@@ -103,7 +103,7 @@ opened_before (x ∷ xs) ys (inr p) = inr (p.0, p.1, xs, ap (λ m. m ∷ xs) (he
 
 -- ---- a stream that makes no move
 
-append_none : (xs ys : List Message) → [] ≡ xs ++ ys → xs ≡ []
+pub append_none : (xs ys : List Message) → [] ≡ xs ++ ys → xs ≡ []
 append_none [] ys e = refl
 append_none (x ∷ xs) ys e = absurd (cons_nil x (xs ++ ys) (sym e))
 

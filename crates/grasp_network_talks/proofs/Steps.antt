@@ -12,7 +12,7 @@ use Rattle.grasp_types.specs.declared.message.Message.{Message}
 use Rattle.grasp_types.specs.declared.reply.Reply.{Reply}
 use Rattle.grasp_types.specs.declared.traffic.Input.{Input}
 use Rattle.grasp_wire.specs.Cutter.{Past}
-use Rattle.grasp_node_stories.specs.Stories.{came_by, fault_by, fault_on, Story, IsClear, OpensIt, StreamsHaveStories, ClearStreamsAreKept}
+use Rattle.grasp_node_stories.specs.Stories.{came_by, fault_by, fault_on, Story, IsClear, OpensIt}
 use Rattle.grasp_node_stories.specs.StreamMoves.{view_on, is_dial, some_move}
 use Rattle.grasp_session.specs.Conversation.{spoken}
 use Rattle.grasp_session.specs.Messages.{Side, Near, Far, other}
@@ -27,22 +27,12 @@ use Rattle.grasp_network.specs.Talks.{StreamEnd, TalkState, end_at, sent_by, is_
 use Rattle.grasp_network.specs.World.{Seat, WorldState, seat_at, end_of, life_of}
 use Rattle.grasp_network_bytes.proofs.FromReady.{first_lives}
 use Rattle.grasp_network_bytes.proofs.Sides.{same_ends}
-use Rattle.grasp_network_bytes.specs.Pieces.{WhatWasSaidIsGiven}
-use Rattle.grasp_network_bytes.specs.Records.{RecordsHoldWhatCame}
-use Rattle.grasp_network_bytes.specs.Saying.{SaidIsSentOrQueued, said_by}
-use Rattle.grasp_network_streams.specs.Ready.{Every, HasGoodEnds, HasGoodNumber, HasGoodFar, StreamsAreReady}
+use Rattle.grasp_network_bytes.specs.Saying.{said_by}
+use Rattle.grasp_network_streams.specs.Ready.{Every, HasGoodEnds, HasGoodNumber, HasGoodFar}
 use Rattle.grasp_network_talks.proofs.EndSteps.{ComesInOrder}
 use Rattle.grasp_network_talks.proofs.Standing.{NoStream, NetworkStands}
 use Rattle.grasp_network_talks.proofs.StreamsMade.{none_counted}
-
--- the laws on which it stands
-pub record Grounds : Type 0 where
-  pub stories : StreamsHaveStories
-  pub clears : ClearStreamsAreKept
-  pub ready : StreamsAreReady
-  pub said : SaidIsSentOrQueued
-  pub records : RecordsHoldWhatCame
-  pub given : WhatWasSaidIsGiven
+use Rattle.grasp_network_talks.specs.Grounds.{Grounds}
 
 pub every_at : {A : Type 0} (P : A → Type 0) (xs : List A) (place : ℕ) (x : A) → Every P xs → slice_get xs place ≡ Some x → P x
 every_at P [] place x each is = absurd (none-some x is)

@@ -218,33 +218,25 @@ pub record Both (side : Side) (t : Talk) (v u : Option Transcript) (ms ns : List
   pub mine_awake : some_move is_last_move ms ≡ false → (party talk side).stage ≡ Refused → (party t side).stage ≡ Refused
   pub theirs_awake : some_move is_last_move ns ≡ false → (party talk (other side)).stage ≡ Refused → (party t (other side)).stage ≡ Refused
 
+-- the other side of the other side
+again : (P : Side → Type 0) (side : Side) → P side → P (other (other side))
+again P Near p = p
+again P Far p = p
+
 -- the same seen from the other side
 swapped : (side : Side) (t : Talk) (v u : Option Transcript) (ms ns : List StreamMove) (zs : List Said) → Both side t v u ms ns zs → Both (other side) t u v ns ms zs
-swapped Near t v u ms ns zs b = record {
+swapped side t v u ms ns zs b = record {
   talk = b.talk;
   reached = b.reached;
   moves = b.moves;
   ran = b.ran;
   said_is = b.said_is;
   mine = b.theirs;
-  theirs = b.mine;
+  theirs = again (λ s. Fits (after_moves v ms) (party b.talk s).stage) side b.mine;
   mine_taken = b.theirs_taken;
-  theirs_taken = b.mine_taken;
+  theirs_taken = again (λ s. some_move is_last_move ms ≡ false → (party b.talk s).taken ≡ reverse (heard_in ms) ++ (party t s).taken) side b.mine_taken;
   mine_awake = b.theirs_awake;
-  theirs_awake = b.mine_awake;
-}
-swapped Far t v u ms ns zs b = record {
-  talk = b.talk;
-  reached = b.reached;
-  moves = b.moves;
-  ran = b.ran;
-  said_is = b.said_is;
-  mine = b.theirs;
-  theirs = b.mine;
-  mine_taken = b.theirs_taken;
-  theirs_taken = b.mine_taken;
-  mine_awake = b.theirs_awake;
-  theirs_awake = b.mine_awake;
+  theirs_awake = again (λ s. some_move is_last_move ms ≡ false → (party b.talk s).stage ≡ Refused → (party t s).stage ≡ Refused) side b.mine_awake;
 }
 
 -- the moves up to this side's next message, and then the others

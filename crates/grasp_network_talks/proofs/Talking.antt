@@ -22,7 +22,8 @@ use Rattle.grasp_network.specs.Views.{core_in, all_sessions, session_on, session
 use Rattle.grasp_network.specs.World.{Seat, WorldState, seat_at, life_of}
 use Rattle.grasp_network_talks.proofs.Networks.{network_stands, event_goes}
 use Rattle.grasp_network_talks.proofs.Standing.{view_seat, EndStands, SideStands, Stands}
-use Rattle.grasp_network_talks.proofs.Steps.{Grounds, life_is}
+use Rattle.grasp_network_talks.proofs.Steps.{life_is}
+use Rattle.grasp_network_talks.specs.Grounds.{Grounds}
 use Rattle.grasp_network_talks.proofs.TalkSteps.{Fits, cons_nil}
 use Rattle.grasp_network_talks.specs.GoingOn.{NegotiationsGoOn}
 use Rattle.grasp_network_talks.specs.Negotiations.{IsTalk, NegotiationsAreTalks}

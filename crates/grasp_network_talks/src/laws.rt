@@ -1,6 +1,7 @@
 //! What holds of each negotiation of a network. They say nothing at run time.
 
 ghost use Rattle.grasp_network_talks.specs.GoingOn.{NegotiationsGoOn, TurnsStay};
+ghost use Rattle.grasp_network_talks.specs.Grounds.{Grounds};
 ghost use Rattle.grasp_network_talks.specs.Knowing.{NegotiationsAreKnown};
 ghost use Rattle.grasp_network_talks.specs.Negotiations.{NegotiationsAreInOrder, NegotiationsAreTalks};
 ghost use Rattle.grasp_network_talks.specs.Safe.{TalksAreSafe};
@@ -11,9 +12,9 @@ use grasp_network_bytes::{
 use grasp_network_streams::streams_are_ready;
 use grasp_node_stories::{clear_streams_are_kept, streams_have_stories};
 
-/// Each stream whose first message asks for a negotiation is a talk of two ends that keep to the protocol.
-pub fn negotiations_are_talks()
-    ensures { NegotiationsAreTalks }
+/// What the laws on which those of negotiations stand say, as one.
+pub fn grounds_hold()
+    ensures { Grounds }
 {
     streams_have_stories();
     clear_streams_are_kept();
@@ -21,6 +22,13 @@ pub fn negotiations_are_talks()
     what_is_said_is_sent_or_queued();
     records_hold_what_came();
     what_was_said_is_given();
+}
+
+/// Each stream whose first message asks for a negotiation is a talk of two ends that keep to the protocol.
+pub fn negotiations_are_talks()
+    ensures { NegotiationsAreTalks }
+{
+    grounds_hold();
 }
 
 /// The messages of each negotiation are in the order of the protocol.
@@ -48,12 +56,7 @@ pub fn negotiations_are_known()
 pub fn negotiations_go_on()
     ensures { NegotiationsGoOn }
 {
-    streams_have_stories();
-    clear_streams_are_kept();
-    streams_are_ready();
-    what_is_said_is_sent_or_queued();
-    records_hold_what_came();
-    what_was_said_is_given();
+    grounds_hold();
 }
 
 /// While the turn is a side's own and it says nothing, nothing is said but what is invalid, and the side learns nothing.

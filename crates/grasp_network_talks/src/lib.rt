@@ -4,6 +4,6 @@
 mod laws;
 
 pub use laws::{
-    negotiations_are_in_order, negotiations_are_known, negotiations_are_talks, negotiations_go_on,
-    talks_are_safe, turns_stay,
+    grounds_hold, negotiations_are_in_order, negotiations_are_known, negotiations_are_talks,
+    negotiations_go_on, talks_are_safe, turns_stay,
 };
