@@ -1,5 +1,5 @@
 -- What the session on an end of a stream is, at its node, and that each step of the node keeps it.
-use Rattle.std.proofs.Common.{◌≡◌, refl, sym, ap, ◌∙◌, subst, ℕ, ◌==◌, ◌⊎◌, inl, inr, Bool, true, false, cond, List, [], ◌∷◌, ◌++◌, Option, None, Some, append_assoc}
+use Rattle.std.proofs.Common.{◌≡◌, refl, sym, ap, ◌∙◌, subst, ℕ, ◌==◌, ◌⊎◌, inl, inr, Bool, true, false, cond, List, [], ◌++◌, Option, None, Some, append_assoc}
 use Rattle.std.proofs.lemmas.Bool.{true≢false}
 use Rattle.std.proofs.lemmas.List.{append-nil}
 use Rattle.std.proofs.lemmas.Option.{none-some}
@@ -17,7 +17,7 @@ use Rattle.grasp_types.specs.declared.traffic.Input.TheVariants as input
 use Rattle.grasp_wire.specs.Cutter.{Past}
 use Rattle.grasp_network.specs.Keeping.{IsLonger}
 use Rattle.grasp_network_talks.proofs.EndSteps.{ComesInOrder}
-use Rattle.grasp_network_talks.proofs.TalkSteps.{cons_nil}
+use Rattle.grasp_network_talks.proofs.NodeMoves.{append_none}
 use Rattle.grasp_node_stories.proofs.Telling.{no_moves}
 use Rattle.grasp_node_stories.specs.Stories.{came_by, came_on, past_with, KeptOpen, NewlyOpen, Story, OpensIt}
 use Rattle.grasp_node_stories.specs.StreamMoves.{view_on, after_moves, said_in, heard_in, is_dial, is_last_move, some_move, MayMoves}
@@ -42,10 +42,6 @@ pub far_more : (n : NodeState) (stream : ℕ) (said more : List Message) → Far
 far_more n stream said more a = record { asked = λ v e. let k = a.asked v e in (k.0, asked_more Negotiation said more k.1); unheard = a.unheard }
 
 -- ---- a step
-
-append_none : (xs ys : List Message) → [] ≡ xs ++ ys → xs ≡ []
-append_none [] ys e = refl
-append_none (x ∷ xs) ys e = absurd (cons_nil x (xs ++ ys) (sym e))
 
 given_still : (past : Past) (i : Input) (x : Coming) (stream : ℕ) → came_by i x stream ≡ [] → (past_with past i x stream).given ≡ past.given
 given_still past (input.Bytes s bytes) x stream e = by_test (s == stream) e where

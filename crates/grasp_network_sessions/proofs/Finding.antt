@@ -21,7 +21,7 @@ use Rattle.grasp_network.specs.World.{Seat, WorldState, life_of, seat_at, end_of
 use Rattle.grasp_network_bytes.proofs.Sides.{end_found, none_there}
 use Rattle.grasp_network_talks.proofs.Networks.{network_stands}
 use Rattle.grasp_network_talks.proofs.Standing.{NoStream}
-use Rattle.grasp_network_talks.proofs.Steps.{Grounds}
+use Rattle.grasp_network_talks.specs.Grounds.{Grounds}
 use Rattle.grasp_network_talks.specs.Negotiations.{IsNegotiation}
 use Rattle.grasp_node_stories.specs.StreamMoves.{view_on}
 use Rattle.grasp_network_sessions.specs.Streams.{StreamsDiffer, HasItsStream, SessionsHaveStreams}

@@ -21,7 +21,7 @@ use Rattle.grasp_network_bytes.proofs.AfterSteps.{seats_stepped, each_seat, each
 use Rattle.grasp_network_bytes.proofs.Holding.{IsStep, parts_keep}
 use Rattle.grasp_network_talks.proofs.Drained.{first_stands}
 use Rattle.grasp_network_talks.proofs.Networks.{network_stands}
-use Rattle.grasp_network_talks.proofs.Steps.{Grounds}
+use Rattle.grasp_network_talks.specs.Grounds.{Grounds}
 use Rattle.grasp_network_sessions.specs.Streams.{StreamsDiffer}
 use Rattle.grasp_network_sessions.proofs.Lasting.{unseen_made}
 use Rattle.grasp_network_sessions.proofs.StepsDiffer.{step_differs}

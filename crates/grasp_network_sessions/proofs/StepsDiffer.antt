@@ -26,6 +26,7 @@ use Rattle.grasp_types.specs.declared.session.Kind.{Kind}
 use Rattle.grasp_types.specs.declared.session.Kind.TheVariants.{Negotiation, Synchronization}
 use Rattle.grasp_types.specs.declared.traffic.Input.{Input}
 use Rattle.grasp_types.specs.declared.traffic.Input.TheVariants as input
+use Rattle.grasp_node_laws.proofs.SessionChanges as changes
 use Rattle.grasp_node_stories.specs.Stories.{IsClear}
 use Rattle.grasp_node_stories.specs.StreamMoves.{view_on}
 use Rattle.grasp_node_stories.proofs.Beginning as beginning
@@ -35,8 +36,8 @@ use Rattle.grasp_node_stories.proofs.Nodes.{born}
 use Rattle.grasp_node_stories.proofs.Voices.{voices_begin}
 use Rattle.grasp_network_sessions.specs.Streams.{StreamsDiffer}
 use Rattle.grasp_network_sessions.proofs.Differing.{Differ, still, pieces_differ, starving_differs}
-use Rattle.grasp_network_sessions.proofs.Lasting.{differ_still, says, starts, unseen_made}
-use Rattle.grasp_network_sessions.proofs.LastingSteps.{begins, closes, opens, looks, listens_for, polls_at, stops, deregisters, deregisters_objective}
+use Rattle.grasp_network_sessions.proofs.Lasting.{Lasts, differ_still, says, starts, unseen_made}
+use Rattle.grasp_network_sessions.proofs.LastingSteps.{lasting, listens_for, polls_at, stops, deregisters, deregisters_objective}
 
 -- ---- calls
 
@@ -53,7 +54,7 @@ call_differs n asa (calls.RegisterAsa name) a none d = d
 call_differs n asa calls.DeregisterAsa a none d = differ_still n.sessions _ (deregisters n asa) d
 call_differs n asa (calls.RegisterObjective name flags) a none d = d
 call_differs n asa (calls.DeregisterObjective name) a none d = differ_still n.sessions _ (deregisters_objective n asa name) d
-call_differs n asa (calls.Discover name kind loops timeout) a none d = differ_still n.sessions _ (looks n asa name kind loops timeout (find_of n asa name kind)) d
+call_differs n asa (calls.Discover name kind loops timeout) a none d = differ_still n.sessions _ (changes.looks Lasts lasting n asa name kind loops timeout (find_of n asa name kind)) d
 call_differs n asa (calls.RequestNegotiate name value loops timeout dry peer) a none d = request_differs n asa Negotiation timeout (negotiated n asa name value loops dry) peer none d
 call_differs n asa (calls.ListenNegotiate name) a none d = differ_still n.sessions _ (listens_for n asa name) d
 call_differs n asa (calls.StopListenNegotiate name) a none d = differ_still n.sessions _ (stops n asa name) d
@@ -85,7 +86,7 @@ drain_differs n max d = d
 
 module _ (n after : NodeState) (now : ℕ) (x : Coming) (k : IsNode n) (c : (stream : ℕ) → IsClear n stream) (d : Differ n) where
   begun : Differ (begin n now)
-  begun = still n (begin n now) (begins n now) d
+  begun = still n (begin n now) (changes.begins Lasts lasting n now) d
 
   born_so : (stream : ℕ) → IsBorn stream (begin n now)
   born_so stream = born_quietly stream n (begin n now) (beginning.begins stream n now k) (born stream n k (c stream))
@@ -99,13 +100,13 @@ module _ (n after : NodeState) (now : ℕ) (x : Coming) (k : IsNode n) (c : (str
   pub step_differs : (i : Input) (r : Reply) → NodeStep n now i x r after → Differ after
   step_differs (input.Api asa call) r s = calls_differ (begin n now) after asa call r unborn s.acts begun
   step_differs (input.Datagram link from bytes) r s = subst StreamsDiffer (sym (datagrams_leave n after now link from bytes x r s).sessions) begun
-  step_differs (input.Opened stream from) r s = subst Differ (sym s.acts.1) (differ_still (begin n now).sessions _ (opens (begin n now) stream from r) begun)
+  step_differs (input.Opened stream from) r s = subst Differ (sym s.acts.1) (differ_still (begin n now).sessions _ (changes.opening_comes Lasts lasting (begin n now) stream from r) begun)
   step_differs (input.Bytes stream bytes) r s = by_reply r s.acts where
     by_reply : (q : Reply) → Acts (begin n now) (input.Bytes stream bytes) x q after → Differ after
     by_reply reply.Taken a = subst Differ (sym a) (pieces_differ (begin n now) stream (begin_kept n now k) (born_so stream) (voice_so stream) begun bytes x.added)
     by_reply reply.OutOfMemory a = starving_differs (begin n now) stream (begin_kept n now k) (born_so stream) (voice_so stream) begun after bytes x.added a
     by_reply q a = absurd a
-  step_differs (input.Closed stream) r s = subst Differ (sym s.acts.1) (differ_still (begin n now).sessions _ (closes (begin n now) stream) begun)
+  step_differs (input.Closed stream) r s = subst Differ (sym s.acts.1) (differ_still (begin n now).sessions _ (changes.closing_comes Lasts lasting (begin n now) stream) begun)
   step_differs (input.Drain max) r s = by_reply r s.acts where
     by_reply : (q : Reply) → Acts (begin n now) (input.Drain max) x q after → Differ after
     by_reply (reply.Outputs outputs) a = subst Differ (sym a.1) (drain_differs (begin n now) max begun)

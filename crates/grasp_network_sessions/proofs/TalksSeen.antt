@@ -1,12 +1,11 @@
 -- What the sessions on the ends of each stream of a network are, and that a step of a node keeps it.
-use Rattle.std.proofs.Common.{◌≡◌, refl, sym, ap, ◌∙◌, subst, ℕ, ◌==◌, ◌<◌, ◌*◌, ◌/◌, ◌%◌, ◌⊎◌, inl, inr, Bool, true, false, cond, List, [], ◌∷◌, ◌++◌, Option, None, Some, reverse, length, slice_get, append_assoc, arith}
+use Rattle.std.proofs.Common.{◌≡◌, refl, sym, ap, ◌∙◌, subst, ℕ, ◌==◌, ◌<◌, ◌*◌, ◌/◌, ◌%◌, ◌⊎◌, inl, inr, Bool, true, false, List, [], ◌++◌, Option, None, Some, reverse, slice_get, arith}
 use Rattle.std.proofs.lemmas.Bool.{eqb-true, eqb-false}
-use Rattle.std.proofs.lemmas.List.{append-nil, reverse-append}
 use Rattle.std.proofs.lemmas.Option.{none-some}
 use Rattle.grasp_core.specs.Queue.{Queued}
 use Rattle.grasp_core.specs.Sound.{IsGiven}
 use Rattle.grasp_session.specs.Conversation.{Said, spoken}
-use Rattle.grasp_session.specs.Messages.{Side, Near, Far, other, is_side}
+use Rattle.grasp_session.specs.Messages.{Side, Near, Far, other}
 use Rattle.grasp_session.specs.Transcript.{Transcript}
 use Rattle.grasp_types.specs.declared.message.Message.{Message}
 use Rattle.grasp_network.specs.Runs.{IsReached}
@@ -14,11 +13,11 @@ use Rattle.grasp_network.specs.Setting.{Setting}
 use Rattle.grasp_network.specs.Talks.{StreamEnd, TalkState, end_at}
 use Rattle.grasp_network.specs.World.{Seat, WorldState, seat_at, end_of}
 use Rattle.grasp_network_bytes.specs.Saying.{OfEachTalk}
-use Rattle.grasp_network_streams.specs.Ready.{HasGoodEnds}
-use Rattle.grasp_network_talks.proofs.NodeMoves.{FarOpens, FromOld, FromNew, NodeMove}
+use Rattle.grasp_network_talks.proofs.NodeMoves.{FarOpens, FromOld, FromNew, NodeMove, spoken_joined}
 use Rattle.grasp_network_talks.proofs.Standing.{NoStream, NetworkStands}
-use Rattle.grasp_network_talks.proofs.Steps.{Grounds, every_at, own_end, dialled_there}
-use Rattle.grasp_network_talks.proofs.TalkRuns.{joined, spoken_onto}
+use Rattle.grasp_network_talks.proofs.Steps.{own_end, dialled_there}
+use Rattle.grasp_network_talks.specs.Grounds.{Grounds}
+use Rattle.grasp_network_talks.proofs.TalkRuns.{spoken_onto}
 use Rattle.grasp_network_talks.proofs.Voices.{voices, near_says, near_silent}
 use Rattle.grasp_node_stories.specs.Stories.{gained, OpensIt}
 use Rattle.grasp_node_stories.specs.StreamMoves.{view_on, said_in, is_dial, some_move, sends_on}
@@ -38,14 +37,9 @@ pub record TalkSeen (w : WorldState) (t : TalkState) : Type 0 where
 abbrev pub TalksSeen : WorldState → Type 0
 TalksSeen w = OfEachTalk (TalkSeen w) w.talks
 
--- ---- what is said comes behind what was said
-
-spoken_joined : (side : Side) (zs c : List Said) → reverse (spoken side (joined zs c)) ≡ reverse (spoken side c) ++ spoken side zs
-spoken_joined side [] c = sym (append-nil (reverse (spoken side c)))
-spoken_joined side (z ∷ zs) c = spoken_joined side zs (z ∷ c) ∙ by_side (is_side side z.side) where
-  by_side : (b : Bool) → reverse (cond b (z.message ∷ spoken side c) (spoken side c)) ++ spoken side zs ≡ reverse (spoken side c) ++ cond b (z.message ∷ spoken side zs) (spoken side zs)
-  by_side true = ap (λ (l : List Message). l ++ spoken side zs) (reverse-append (z.message ∷ []) (spoken side c)) ∙ append_assoc (reverse (spoken side c)) (z.message ∷ []) (spoken side zs)
-  by_side false = refl
+-- each stream was dialled on an even number
+abbrev pub AreEven : WorldState → Type 0
+AreEven w = OfEachTalk (λ t. t.near.number % 2 ≡ 0) w.talks
 
 same_end : (a b : StreamEnd) → Some a ≡ Some b → a ≡ b
 same_end a b e = cc
@@ -57,7 +51,7 @@ even_given : (n d : ℕ) → n % 2 ≡ 0 → IsGiven d n → (n ≡ 2 * (n / 2))
 even_given n d even (inl odd) = absurd (let a = even in let b = odd in omega (arith, a, b))
 even_given n d even (inr low) = let a = even in let b = low in (omega (arith, a), omega (arith, a, b))
 
-module _ (l : Grounds) (s : Setting) (w y : WorldState) (r : IsReached s w) (q : IsReached s y) (m : NodeMove w y) (k : NetworkStands w) (each : TalksSeen w) where
+module _ (l : Grounds) (s : Setting) (w y : WorldState) (r : IsReached s w) (evens : AreEven y) (m : NodeMove w y) (k : NetworkStands w) (each : TalksSeen w) where
   abbrev qs : List Queued
   qs = gained m.seat.core m.new.core
 
@@ -157,9 +151,7 @@ module _ (l : Grounds) (s : Setting) (w y : WorldState) (r : IsReached s w) (q :
         ∙ (spoken_onto Near (sends_on f.stream qs) [] ∙ ((m.story f.stream).said ∙ ap (λ v. said_in v (m.story f.stream).moves) none))
 
     even : f.stream % 2 ≡ 0
-    even =
-        let g : HasGoodEnds s (length y.seats) y.dials u.near u.number u.far = every_at (λ (t : TalkState). HasGoodEnds s (length y.seats) y.dials t.near t.number t.far) y.talks place u (l.ready.ends s y q) is in
-        subst (λ (e : StreamEnd). e.number % 2 ≡ 0) f.near g.even
+    even = subst (λ (e : StreamEnd). e.number % 2 ≡ 0) f.near (evens place u is)
 
     unopened_new : OpensIt m.i f.stream → ⊥
     unopened_new opens =
