@@ -42,9 +42,10 @@ use Rattle.grasp_network_agents.specs.GoingOn.{OwnGoOn}
 use Rattle.grasp_network_agents.specs.Laws.{AgentsAreKept}
 use Rattle.grasp_network_agents.specs.Serving.{OfEachSeat}
 use Rattle.grasp_network_offers.proofs.Begun.{moves_before}
-use Rattle.grasp_network_offers.proofs.Calling.{CallsMean, called}
+use Rattle.grasp_network_offers.proofs.Calling.{called}
 use Rattle.grasp_network_offers.proofs.Going.{gives_on}
 use Rattle.grasp_network_offers.proofs.Standing.{Moved}
+use Rattle.grasp_network_offers.specs.Calls.{CallsMean}
 use Rattle.grasp_network_offers.specs.Giving.{Gives}
 use Rattle.grasp_network_offers.specs.Laws.{AgentMoves, AgentsGive, AgentsMove}
 

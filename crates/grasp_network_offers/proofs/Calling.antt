@@ -17,9 +17,9 @@ use Rattle.grasp_agent.specs.declared.giving.Giving.{Giving}
 use Rattle.grasp_agent.specs.declared.stage.Stage.TheVariants.{Serving}
 use Rattle.grasp_agent.specs.declared.want.Want.{Want}
 use Rattle.grasp_cbor.specs.DataItem.{DataItem}
-use Rattle.grasp_core.specs.Means.{ListenTells, Takes, PollFacts, StepFacts, EndFacts, StepMeans, EndMeans, PollMeans, ListenMeans}
+use Rattle.grasp_core.specs.Means.{ListenTells, Takes, PollFacts, StepFacts, EndFacts}
 use Rattle.grasp_core.specs.Draws.{next_session}
-use Rattle.grasp_core.specs.MeansRequests.{RequestMeans, negotiable}
+use Rattle.grasp_core.specs.MeansRequests.{negotiable}
 use Rattle.grasp_core.specs.Node.{NodeState}
 use Rattle.grasp_core.specs.Sound.{IsNode}
 use Rattle.grasp_core.specs.Step.{Calls, MayCall, after_call}
@@ -56,15 +56,8 @@ use Rattle.grasp_network_offers.proofs.Places.{owned_at}
 use Rattle.grasp_network_offers.proofs.Making.{Says, want_own, made_offer, made_counter, made_decline, made_acceptance}
 use Rattle.grasp_network_offers.proofs.Standing.{Moved, PlainEntry, idle_entry, same_own, nothing_moved}
 use Rattle.grasp_network_offers.proofs.Turning.{is_deciding, considered, turned}
+use Rattle.grasp_network_offers.specs.Calls.{CallsMean}
 use Rattle.grasp_network_offers.specs.Giving.{IsDeciding, OfferStands, IsOwnSession, Gives}
-
--- what the answers of the agent's calls mean
-pub record CallsMean : Type 0 where
-  pub steps : StepMeans
-  pub ends : EndMeans
-  pub polls : PollMeans
-  pub listens : ListenMeans
-  pub requests : RequestMeans
 
 -- ---- which call is next
 

@@ -3,4 +3,4 @@
 
 mod laws;
 
-pub use laws::{agents_give, agents_move};
+pub use laws::{agents_give, agents_move, calls_mean};

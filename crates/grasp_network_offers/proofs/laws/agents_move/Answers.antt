@@ -2,13 +2,4 @@ use Rattle.grasp_network_offers.proofs.Agents.{agents_move}
 use Rattle.grasp_network_offers.proofs.laws.agents_move.Goals as goal
 
 pub returns : goal.returns
-returns c =
-    agents_move c.ties_are_kept.ensures
-    (record {
-      steps = c.step_means.ensures;
-      ends = c.end_means.ensures;
-      polls = c.poll_means.ensures;
-      listens = c.listen_means.ensures;
-      requests = c.request_means.ensures;
-    })
-    c.own_sessions_go_on.ensures.begins c.agents_are_kept.ensures
+returns c = agents_move c.ties_are_kept.ensures c.calls_mean.ensures c.own_sessions_go_on.ensures.begins c.agents_are_kept.ensures
