@@ -19,7 +19,8 @@ use Rattle.grasp_network_prefixes.proofs.AgentOffers.{IsDecided, newly, IsListed
 use Rattle.grasp_network_prefixes.proofs.AgentSteps.{AgentStep, IsOfferOf, given_offer, accepted_offer, spent}
 use Rattle.grasp_network_prefixes.proofs.Listing.{offer_of, prefixes_tell}
 use Rattle.grasp_network_prefixes.proofs.QuietKeeps.{may_before}
-use Rattle.grasp_network_prefixes.proofs.Standing.{Grounds, offer_on, PrefixesStand}
+use Rattle.grasp_network_prefixes.proofs.Standing.{offer_on, PrefixesStand}
+use Rattle.grasp_network_prefixes.specs.Grounds.{Grounds}
 use Rattle.grasp_network_prefixes.specs.Apart.{HeldApart}
 
 module _ (l : Grounds) (s : Setting) (w y : WorldState) (r : IsReached s w) (q : IsReached s y) (a : AgentStep w y) (k : PrefixesStand w) where

@@ -27,7 +27,8 @@ use Rattle.grasp_network_prefixes.proofs.Listing.{passed, passes, kept_elsewhere
 use Rattle.grasp_network_prefixes.proofs.OwnSessions.{one_session, IsTalkOf}
 use Rattle.grasp_network_prefixes.proofs.Places.{place_found, far_stays}
 use Rattle.grasp_network_prefixes.proofs.QuietKeeps.{placed_still}
-use Rattle.grasp_network_prefixes.proofs.Standing.{Grounds, offer_on, IsFarAt, IsOfferedOn, IsPlaced, OffersAreKnown, PrefixesStand}
+use Rattle.grasp_network_prefixes.proofs.Standing.{offer_on, IsFarAt, IsOfferedOn, IsPlaced, OffersAreKnown, PrefixesStand}
+use Rattle.grasp_network_prefixes.specs.Grounds.{Grounds}
 
 module _ (l : Grounds) (s : Setting) (w y : WorldState) (r : IsReached s w) (q : IsReached s y) (a : AgentStep w y) (k : PrefixesStand w) where
   abbrev new : Seat

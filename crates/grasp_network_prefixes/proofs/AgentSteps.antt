@@ -33,7 +33,8 @@ use Rattle.grasp_network_prefixes.proofs.Givers.{Gave, by_entry, by_gone, gave_t
 use Rattle.grasp_network_prefixes.proofs.OwnSessions.{handle_state, handle_made, IsSessionAt, session_there, IsViewOf, view_of, IsTalkOf, talk_of}
 use Rattle.grasp_network_prefixes.proofs.Places.{same_place}
 use Rattle.grasp_network_prefixes.proofs.Speech.{never_accepted, open_unaccepted, said_acceptance, accepting_open}
-use Rattle.grasp_network_prefixes.proofs.Standing.{Grounds, offer_on, IsOfferedOn, PrefixesStand, Stays, AllStay}
+use Rattle.grasp_network_prefixes.proofs.Standing.{offer_on, IsOfferedOn, PrefixesStand, Stays, AllStay}
+use Rattle.grasp_network_prefixes.specs.Grounds.{Grounds}
 
 -- the network after an agent's own step, with what that left
 pub record AgentStep (w y : WorldState) : Type 0 where

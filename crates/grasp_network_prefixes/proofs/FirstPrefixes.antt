@@ -18,7 +18,8 @@ use Rattle.grasp_network.specs.Setting.{Member, Setting}
 use Rattle.grasp_network.specs.Visits.{no_choice}
 use Rattle.grasp_network.specs.World.{Seat, Offered, seat_at}
 use Rattle.grasp_network_prefixes.proofs.Listing.{none_in}
-use Rattle.grasp_network_prefixes.proofs.Standing.{Grounds, PrefixesStand}
+use Rattle.grasp_network_prefixes.proofs.Standing.{PrefixesStand}
+use Rattle.grasp_network_prefixes.specs.Grounds.{Grounds}
 use Rattle.grasp_network_prefixes.specs.Apart.{HeldApart}
 
 pub first_reached : (s : Setting) → IsGoodSetting s → IsReached s (first_world s)

@@ -31,7 +31,7 @@ use Rattle.grasp_network_streams.proofs.Worlds.{reached_in_order}
 use Rattle.grasp_network_talks.specs.Negotiations.{IsNegotiation}
 use Rattle.grasp_network_prefixes.proofs.OwnSessions.{one_session, session_is, IsSessionAt, session_there, IsViewOf, view_of}
 use Rattle.grasp_network_prefixes.proofs.Speech.{deciding_closed, same_requested}
-use Rattle.grasp_network_prefixes.proofs.Standing.{Grounds}
+use Rattle.grasp_network_prefixes.specs.Grounds.{Grounds}
 use Rattle.grasp_network_prefixes.specs.Apart.{IsSetAside, OffersAreSetAside}
 
 -- the session that made it: that of an entry with this offer, or one that is no longer live

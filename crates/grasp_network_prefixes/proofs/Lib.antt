@@ -11,4 +11,6 @@ pub mod AgentSteps
 pub mod AgentOffers
 pub mod AgentKeeps
 pub mod FirstPrefixes
+pub mod OwnSteps
+pub mod Networks
 pub mod Safe

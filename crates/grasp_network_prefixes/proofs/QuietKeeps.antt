@@ -16,7 +16,8 @@ use Rattle.grasp_network_offers.specs.Giving.{IsOpenOffer, IsOwnSession, EntrySt
 use Rattle.grasp_network_prefixes.proofs.OwnSessions.{one_session, session_is, handle_state, end_with}
 use Rattle.grasp_network_prefixes.proofs.Places.{far_stays}
 use Rattle.grasp_network_prefixes.proofs.Speech.{accepted_before}
-use Rattle.grasp_network_prefixes.proofs.Standing.{Grounds, IsFarAt, IsOfferedOn, IsPlaced, PrefixesStand, Stays, AllStay, SeatGoesOn, WorldGoesOn}
+use Rattle.grasp_network_prefixes.proofs.Standing.{IsFarAt, IsOfferedOn, IsPlaced, PrefixesStand, Stays, AllStay, SeatGoesOn, WorldGoesOn}
+use Rattle.grasp_network_prefixes.specs.Grounds.{Grounds}
 use Rattle.grasp_network_prefixes.specs.Apart.{HeldApart, AuthoritiesApart}
 
 -- ---- what may be accepted might be before
@@ -39,10 +40,10 @@ placed_still ts us stay o at =
     let u = stay at.place at.talk at.stands in
     record { place = at.place; talk = u.after; is = at.is; stands = u.stands }
 
--- ---- all of it
+-- ---- what is held and offered was so before
 
-module _ (l : Grounds) (s : Setting) (w y : WorldState) (r : IsReached s w) (g : WorldGoesOn w y) (k : PrefixesStand w) where
-  held_before : (node a : ℕ) → Holds y node a → Holds w node a
+module _ (w y : WorldState) (g : WorldGoesOn w y) (k : PrefixesStand w) where
+  pub held_before : (node a : ℕ) → Holds y node a → Holds w node a
   held_before node a h =
       let b = g.seats node h.seat h.here in
       record { seat = b.0; here = b.1; free = subst (λ (p : Holding). IsFree p a) b.2.pool h.free }
@@ -55,18 +56,21 @@ module _ (l : Grounds) (s : Setting) (w y : WorldState) (r : IsReached s w) (g :
   listed_before : (o : Offered) → Contains y.offers o → Contains w.offers o
   listed_before o h = subst (λ (os : List Offered). Contains os o) g.offers h
 
-  authority_before : (o : Offered) → IsAuthority y o → IsAuthority w o
+  pub authority_before : (o : Offered) → IsAuthority y o → IsAuthority w o
   authority_before o h =
       let listed = listed_before o h.listed in
       record { listed = listed; kept = kept_before o.node o.prefix h.kept; live = may_before w y g.talks o (k.known.placed o listed) h.live }
 
+-- ---- all of it
+
+module _ (l : Grounds) (s : Setting) (w y : WorldState) (r : IsReached s w) (g : WorldGoesOn w y) (k : PrefixesStand w) where
   held : HeldApart y
-  held n m a apart h j = k.held n m a apart (held_before n a h) (held_before m a j)
+  held n m a apart h j = k.held n m a apart (held_before w y g k n a h) (held_before w y g k m a j)
 
   authorities : AuthoritiesApart y
   authorities = record {
-    held = λ o h node a i j. k.authorities.held o (authority_before o h) node a i (held_before node a j);
-    others = λ o p h j differ. k.authorities.others o p (authority_before o h) (authority_before p j) differ;
+    held = λ o h node a i j. k.authorities.held o (authority_before w y g k o h) node a i (held_before w y g k node a j);
+    others = λ o p h j differ. k.authorities.others o p (authority_before w y g k o h) (authority_before w y g k p j) differ;
   }
 
   -- the stream of a session is that which it was
@@ -102,8 +106,8 @@ module _ (l : Grounds) (s : Setting) (w y : WorldState) (r : IsReached s w) (g :
   pub quiet_keeps : PrefixesStand y
   quiet_keeps = record {
     known = record {
-      once = λ o p h j. k.known.once o p (listed_before o h) (listed_before p j);
-      placed = λ o h. placed_still w.talks y.talks g.talks o (k.known.placed o (listed_before o h));
+      once = λ o p h j. k.known.once o p (listed_before w y g k o h) (listed_before w y g k p j);
+      placed = λ o h. placed_still w.talks y.talks g.talks o (k.known.placed o (listed_before w y g k o h));
       entries = entries;
       gone = gone;
     };

@@ -42,7 +42,8 @@ use Rattle.grasp_network_bytes.proofs.Holding.{IsStep}
 use Rattle.grasp_network_bytes.proofs.Inputs.{at_visit, clock_visit_is, datagram_visit_is, opening_is, piece_is, cut_is}
 use Rattle.grasp_network_prefixes.proofs.OwnSessions.{same_sessions}
 use Rattle.grasp_network_prefixes.proofs.Places.{step_stays, same_stay, handed_stay}
-use Rattle.grasp_network_prefixes.proofs.Standing.{Grounds, SeatGoesOn, WorldGoesOn, AllStay}
+use Rattle.grasp_network_prefixes.proofs.Standing.{SeatGoesOn, WorldGoesOn, AllStay}
+use Rattle.grasp_network_prefixes.specs.Grounds.{Grounds}
 
 -- a step, and not one of an agent of prefixes
 abbrev pub IsOthersStep : Event → Type 0

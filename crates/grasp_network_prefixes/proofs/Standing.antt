@@ -1,7 +1,6 @@
 -- How what is offered in a network stands: each offer with the stream for which it is.
 use Rattle.std.proofs.Common.{◌≡◌, ℕ, List, ◌++◌, Contains, Some, slice_get}
 use Rattle.grasp_agent.specs.declared.giving.Giving.{Giving}
-use Rattle.grasp_core.specs.Ties.{TiesAreKept}
 use Rattle.grasp_session.specs.Conversation.{Said}
 use Rattle.grasp_session.specs.Messages.{Side, Far}
 use Rattle.grasp_session.specs.Sessions.{SessionState}
@@ -9,28 +8,8 @@ use Rattle.grasp_types.specs.Prefix.{AddressBlock as Prefix}
 use Rattle.grasp_network.specs.Talks.{StreamEnd, TalkState, end_at}
 use Rattle.grasp_network.specs.World.{Seat, Offered, WorldState, seat_at, end_of, life_of}
 use Rattle.grasp_network_agents.specs.GoingOn.{OwnGoOn}
-use Rattle.grasp_network_agents.specs.Laws.{SessionsAreOwned, AgentsAreKept, OwnSessionsGoOn, GoneSessionsAreOwned}
 use Rattle.grasp_network_offers.specs.Giving.{IsOpenOffer, IsOwnSession}
-use Rattle.grasp_network_offers.specs.Laws.{AgentsGive, AgentsMove}
-use Rattle.grasp_network_sessions.specs.Streams.{SessionsHaveStreams}
-use Rattle.grasp_network_streams.specs.Ready.{StreamsAreReady}
-use Rattle.grasp_network_talks.specs.Knowing.{NegotiationsAreKnown}
-use Rattle.grasp_network_talks.specs.Negotiations.{NegotiationsAreInOrder}
 use Rattle.grasp_network_prefixes.specs.Apart.{HeldApart, AuthoritiesApart}
-
--- the laws on which it stands
-pub record Grounds : Type 0 where
-  pub ties : TiesAreKept
-  pub ready : StreamsAreReady
-  pub kept : AgentsAreKept
-  pub owned : SessionsAreOwned
-  pub gone_owned : GoneSessionsAreOwned
-  pub goes_on : OwnSessionsGoOn
-  pub give : AgentsGive
-  pub move : AgentsMove
-  pub streams : SessionsHaveStreams
-  pub known : NegotiationsAreKnown
-  pub in_order : NegotiationsAreInOrder
 
 -- ---- offers
 

@@ -1,6 +1,7 @@
 //! The prefixes in a network. They say nothing at run time.
 
 ghost use Rattle.grasp_network_prefixes.specs.Apart.{PrefixesStayApart};
+ghost use Rattle.grasp_network_prefixes.specs.Grounds.{Grounds};
 
 use grasp_core::ties_are_kept;
 use grasp_network_agents::{
@@ -11,9 +12,9 @@ use grasp_network_sessions::sessions_have_streams;
 use grasp_network_streams::streams_are_ready;
 use grasp_network_talks::{negotiations_are_in_order, negotiations_are_known};
 
-/// Prefixes that are held by different nodes never overlap, and an offer whose outcome isn't known stays reserved or in doubt.
-pub fn prefixes_stay_apart()
-    ensures { PrefixesStayApart }
+/// What the laws on which those of prefixes stand say, as one.
+pub fn grounds_hold()
+    ensures { Grounds }
 {
     ties_are_kept();
     streams_are_ready();
@@ -26,4 +27,11 @@ pub fn prefixes_stay_apart()
     sessions_have_streams();
     negotiations_are_known();
     negotiations_are_in_order();
+}
+
+/// Prefixes that are held by different nodes never overlap, and an offer whose outcome isn't known stays reserved or in doubt.
+pub fn prefixes_stay_apart()
+    ensures { PrefixesStayApart }
+{
+    grounds_hold();
 }

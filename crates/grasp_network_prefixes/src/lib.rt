@@ -3,4 +3,4 @@
 
 mod laws;
 
-pub use laws::prefixes_stay_apart;
+pub use laws::{grounds_hold, prefixes_stay_apart};
