@@ -1,8 +1,8 @@
 -- What is in hand was in hand before.
-use Rattle.std.proofs.Common.{◌≡◌, refl, sym, ap, ◌∙◌, subst, ℕ, inl, inr, ◌⊎◌, List, Contains, Some, None}
+use Rattle.std.proofs.Common.{◌≡◌, refl, sym, ap, ◌∙◌, subst, ℕ, inl, inr, ◌⊎◌, Contains, Some, None}
 use Rattle.std.proofs.lemmas.Bool.{true≢false, cases_eq}
 use Rattle.grasp_agent.specs.declared.act.Act.TheVariants as act
-use Rattle.grasp_pool.specs.Holdings.{Holding, IsFree, IsListed}
+use Rattle.grasp_pool.specs.Holdings.{IsFree, IsListed}
 use Rattle.grasp_types.specs.Prefix.{AddressBlock as Prefix, span_of}
 use Rattle.grasp_types.specs.declared.session.Handle.{Handle}
 use Rattle.grasp_network.proofs.Here.{some_same}
@@ -15,33 +15,20 @@ use Rattle.grasp_network_offers.specs.Laws.{FreedBy, MayGoBack, IsAcceptance}
 use Rattle.grasp_network_prefixes.proofs.AgentOffers.{IsDecided, newly, IsListedNow, was_listed, is_new, listed_now, newly_placed, NewFrom, from_old, from_free, new_from}
 use Rattle.grasp_network_prefixes.proofs.AgentSteps.{AgentStep, IsOfferOf, given_offer, accepted_offer}
 use Rattle.grasp_network_prefixes.proofs.Listing.{none_in, offer_of}
-use Rattle.grasp_network_prefixes.proofs.QuietKeeps.{may_before}
-use Rattle.grasp_network_prefixes.proofs.Standing.{Grounds, offer_on, PrefixesStand, WorldGoesOn}
+use Rattle.grasp_network_prefixes.proofs.Networks.{is_kept, in_run}
+use Rattle.grasp_network_prefixes.proofs.QuietKeeps.{may_before, held_before, authority_before}
+use Rattle.grasp_network_prefixes.proofs.Safe.{stand}
+use Rattle.grasp_network_prefixes.proofs.Standing.{offer_on, PrefixesStand, WorldGoesOn}
+use Rattle.grasp_network_prefixes.specs.Grounds.{Grounds}
 use Rattle.grasp_network_addresses.proofs.FirstHeld.{held_root}
-use Rattle.grasp_network_addresses.proofs.Networks.{is_kept, in_run}
 use Rattle.grasp_network_addresses.specs.Hands.{IsInHand, NoneIsNew, NothingAppears}
 
 -- ---- where no agent did anything
 
 module _ (w y : WorldState) (g : WorldGoesOn w y) (k : PrefixesStand w) where
-  quiet_held : (node a : ℕ) → Holds y node a → Holds w node a
-  quiet_held node a h =
-      let b = g.seats node h.seat h.here in
-      record { seat = b.0; here = b.1; free = subst (λ (p : Holding). IsFree p a) b.2.pool h.free }
-
-  quiet_kept : (node : ℕ) (p : Prefix) → Keeps y node p → Keeps w node p
-  quiet_kept node p h =
-      let b = g.seats node h.seat h.here in
-      record { seat = b.0; here = b.1; listed = subst (λ (q : Holding). IsListed q p) b.2.pool h.listed }
-
-  quiet_authority : (o : Offered) → IsAuthority y o → IsAuthority w o
-  quiet_authority o h =
-      let listed : Contains w.offers o = subst (λ (os : List Offered). Contains os o) g.offers h.listed in
-      record { listed = listed; kept = quiet_kept o.node o.prefix h.kept; live = may_before w y g.talks o (k.known.placed o listed) h.live }
-
   quiet_hand : (a : ℕ) → IsInHand y a → IsInHand w a
-  quiet_hand a (inl h) = inl (h.0, quiet_held h.0 a h.1)
-  quiet_hand a (inr o) = inr (record { offer = o.offer; authority = quiet_authority o.offer o.authority; span = o.span })
+  quiet_hand a (inl h) = inl (h.0, held_before w y g k h.0 a h.1)
+  quiet_hand a (inr o) = inr (record { offer = o.offer; authority = authority_before w y g k o.offer o.authority; span = o.span })
 
 -- ---- an agent's own step
 
@@ -144,8 +131,8 @@ none_offered s o h = none_in o h
 module _ (l : Grounds) (s : Setting) where
   none_new : (w : WorldState) → IsReached s w → NoneIsNew s w
   none_new w r = is_kept l s (NoneIsNew s) (record {
-    quiet = λ x y p k g count said n a h. n a (quiet_hand x y g k a h);
-    agent = λ x y p q k a c n address h. n address (agent_hand l s x y p q a k address h);
+    quiet = λ x y p g count said n a h. n a (quiet_hand x y g (stand l s x p) a h);
+    agent = λ x y p q a c n address h. n address (agent_hand l s x y p q a (stand l s x p) address h);
   }) first w r where
     first : NoneIsNew s (first_world s)
     first a (inl h) = (h.0, held_root s r.good h.0 a h.1)

@@ -20,11 +20,12 @@ use Rattle.grasp_network.specs.World.{Seat, Offered, WorldState, seat_at, end_of
 use Rattle.grasp_network_agents.proofs.GoingOn.{heard_alike}
 use Rattle.grasp_network_offers.proofs.Going.{StillOwn, own_on}
 use Rattle.grasp_network_offers.specs.Giving.{HasOffered, IsOwnSession}
+use Rattle.grasp_network_prefixes.proofs.Networks.{NothingSaid}
 use Rattle.grasp_network_prefixes.proofs.OwnSessions.{handle_made, end_with}
 use Rattle.grasp_network_prefixes.proofs.Places.{far_stays}
-use Rattle.grasp_network_prefixes.proofs.Standing.{Grounds, offer_on, IsFarAt, SeatGoesOn, WorldGoesOn}
+use Rattle.grasp_network_prefixes.proofs.Standing.{offer_on, IsFarAt, SeatGoesOn, WorldGoesOn}
+use Rattle.grasp_network_prefixes.specs.Grounds.{Grounds}
 use Rattle.grasp_network_talks.specs.Negotiations.{NegotiationsAreTalks}
-use Rattle.grasp_network_addresses.proofs.Networks.{NothingSaid}
 use Rattle.grasp_network_addresses.proofs.Speaking.{accepted_back}
 use Rattle.grasp_network_addresses.proofs.Talking.{IsGiver, GivesAt, gives_at, AcceptedBy, EndAccepted, open_on}
 use Rattle.grasp_network_addresses.specs.Hands.{IsInHand}

@@ -1,5 +1,4 @@
 pub mod FirstHeld
-pub mod Networks
 pub mod Listings
 pub mod Appearing
 pub mod Speaking

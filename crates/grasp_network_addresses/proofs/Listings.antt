@@ -2,9 +2,10 @@
 use Rattle.std.proofs.Common.{ℕ}
 use Rattle.grasp_network.specs.World.{Seat, Offered, WorldState}
 use Rattle.grasp_types.specs.Prefix.{AddressBlock as Prefix}
-use Rattle.grasp_network_prefixes.proofs.Standing.{Grounds, IsOfferedOn, IsPlaced}
+use Rattle.grasp_network_prefixes.proofs.Safe.{stand}
+use Rattle.grasp_network_prefixes.proofs.Standing.{IsOfferedOn, IsPlaced}
+use Rattle.grasp_network_prefixes.specs.Grounds.{Grounds}
 use Rattle.grasp_network_prefixes.proofs.Standing as prefixes
-use Rattle.grasp_network_addresses.proofs.Networks.{stand}
 use Rattle.grasp_network_addresses.specs.Known.{HasStream, IsListedFor, OffersStand, OffersAreKnown}
 
 has_stream : (w : WorldState) (o : Offered) → IsPlaced w.talks o → HasStream w o

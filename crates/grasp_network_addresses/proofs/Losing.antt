@@ -3,10 +3,11 @@ use Rattle.std.proofs.Common.{ℕ, inl}
 use Rattle.grasp_network.specs.Runs.{IsReached, first_world}
 use Rattle.grasp_network.specs.Setting.{Setting}
 use Rattle.grasp_network.specs.World.{WorldState}
-use Rattle.grasp_network_prefixes.proofs.Standing.{Grounds}
+use Rattle.grasp_network_prefixes.proofs.Networks.{is_kept, in_run}
+use Rattle.grasp_network_prefixes.proofs.Safe.{stand}
+use Rattle.grasp_network_prefixes.specs.Grounds.{Grounds}
 use Rattle.grasp_network_addresses.proofs.FirstHeld.{root_held}
 use Rattle.grasp_network_addresses.proofs.Keeping.{IsKeptIn, kept_in_hand, quiet_kept}
-use Rattle.grasp_network_addresses.proofs.Networks.{is_kept, in_run}
 use Rattle.grasp_network_addresses.proofs.OwnCalls.{CallGrounds, is_begun}
 use Rattle.grasp_network_addresses.proofs.OwnKept.{agent_kept}
 use Rattle.grasp_network_addresses.specs.Hands.{IsRoot, AllAreInHand, NothingIsLost}
@@ -17,8 +18,8 @@ AllAreKept s w = (a : ℕ) → IsRoot s a → IsKeptIn w a
 module _ (l : Grounds) (m : CallGrounds) (s : Setting) where
   all_kept : (w : WorldState) → IsReached s w → AllAreKept s w
   all_kept w r = is_kept l s (AllAreKept s) (record {
-    quiet = λ x y p k g count said kept n root. quiet_kept l m.talks m.unseen s x y p g count said n (kept n root);
-    agent = λ x y p q k a c kept n root. agent_kept l m s x y p q k a c (is_begun l m s x y p a c) n (kept n root);
+    quiet = λ x y p g count said kept n root. quiet_kept l m.talks m.unseen s x y p g count said n (kept n root);
+    agent = λ x y p q a c kept n root. agent_kept l m s x y p q (stand l s x p) a c (is_begun l m s x y p a c) n (kept n root);
   }) first w r where
     first : AllAreKept s (first_world s)
     first a root = inl (root.0, root_held s r.good root.0 a root.1)

@@ -41,22 +41,23 @@ use Rattle.grasp_network_agents.specs.GoingOn.{OwnGoOn}
 use Rattle.grasp_network_agents.specs.Laws.{AgentsServe}
 use Rattle.grasp_network_agents.specs.Serving.{Serves}
 use Rattle.grasp_network_offers.proofs.Begun.{WasSo, was_so}
-use Rattle.grasp_network_offers.proofs.Calling.{CallsMean}
 use Rattle.grasp_network_offers.proofs.Going.{gives_on}
 use Rattle.grasp_network_offers.proofs.Known.{may_say_end}
 use Rattle.grasp_network_offers.proofs.Making.{want_own}
 use Rattle.grasp_network_offers.proofs.Places.{handle_number, set_here}
+use Rattle.grasp_network_offers.specs.Calls.{CallsMean}
 use Rattle.grasp_network_offers.specs.Giving.{Gives, EntryStands, HasOffered, IsOpenOffer, IsOwnSession, OfferStands, WantStands, AcceptStands, is_offering}
 use Rattle.grasp_network_offers.specs.Laws.{IsAcceptance}
 use Rattle.grasp_network_prefixes.proofs.AgentSteps.{AgentStep, near, peer}
 use Rattle.grasp_network_prefixes.proofs.OwnSessions.{one_session, IsTalkOf}
+use Rattle.grasp_network_prefixes.proofs.OwnSteps.{IsCall}
 use Rattle.grasp_network_prefixes.proofs.Places.{same_place}
 use Rattle.grasp_network_prefixes.proofs.Speech.{accepting_open, deciding_closed}
-use Rattle.grasp_network_prefixes.proofs.Standing.{Grounds, PrefixesStand}
+use Rattle.grasp_network_prefixes.proofs.Standing.{PrefixesStand}
+use Rattle.grasp_network_prefixes.specs.Grounds.{Grounds}
 use Rattle.grasp_network_streams.proofs.Worlds.{reached_in_order}
 use Rattle.grasp_network_talks.specs.Negotiations.{NegotiationsAreTalks}
 use Rattle.grasp_network_addresses.proofs.Keeping.{GivesIt, by_entry, in_doubt}
-use Rattle.grasp_network_addresses.proofs.Networks.{IsCall}
 use Rattle.grasp_network_addresses.proofs.Speaking.{HasAccepted, NowAccepts, Spoke, accepted_back, spoke}
 use Rattle.grasp_network_addresses.proofs.Staying.{GoneStay, gone_stay}
 use Rattle.grasp_network_addresses.proofs.Talking.{AcceptedBy, EndAccepted, GivesAt}

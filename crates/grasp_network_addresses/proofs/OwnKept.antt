@@ -43,13 +43,15 @@ use Rattle.grasp_network_offers.proofs.Known.{none_accepted}
 use Rattle.grasp_network_offers.specs.Giving.{EntryStands, HasOffered, IsDeciding, IsOwnSession, OfferStands, is_offering}
 use Rattle.grasp_network_prefixes.proofs.AgentSteps.{AgentStep}
 use Rattle.grasp_network_prefixes.proofs.OwnSessions.{handle_made, handle_state, one_session}
+use Rattle.grasp_network_prefixes.proofs.OwnSteps.{IsCall}
 use Rattle.grasp_network_prefixes.proofs.Places.{far_stays, same_place}
+use Rattle.grasp_network_prefixes.proofs.Safe.{stand}
 use Rattle.grasp_network_prefixes.proofs.Speech.{never_accepted}
-use Rattle.grasp_network_prefixes.proofs.Standing.{Grounds, offer_on, IsFarAt, IsOfferedOn, PrefixesStand, Stays}
+use Rattle.grasp_network_prefixes.proofs.Standing.{offer_on, IsFarAt, IsOfferedOn, PrefixesStand, Stays}
+use Rattle.grasp_network_prefixes.specs.Grounds.{Grounds}
 use Rattle.grasp_network_addresses.proofs.AgentPools.{IsNow, is_free, is_decided, still_free, EntryNow, stays, goes, ends, entry_now}
 use Rattle.grasp_network_addresses.proofs.Keeping.{GivesIt, by_entry, in_doubt, IsGiven, IsKeptIn}
 use Rattle.grasp_network_addresses.proofs.Listed.{others_listed, own_listed}
-use Rattle.grasp_network_addresses.proofs.Networks.{IsCall, stand}
 use Rattle.grasp_network_addresses.proofs.OwnCalls.{CallGrounds, IsBegun, AcceptsNow, end_now, accepted_held}
 use Rattle.grasp_network_addresses.proofs.Polling.{HasEnded, has_ended}
 use Rattle.grasp_network_addresses.proofs.Talking.{GivesAt, IsGiver, gives_at, open_on}

@@ -20,8 +20,8 @@ use Rattle.grasp_types.specs.declared.session.Handle.{Handle}
 use Rattle.grasp_types.specs.declared.session.Outcome.{Outcome}
 use Rattle.grasp_types.specs.declared.session.Progress.{Progress}
 use Rattle.grasp_types.specs.declared.session.Progress.TheVariants as progress
-use Rattle.grasp_network_offers.proofs.Calling.{CallsMean}
 use Rattle.grasp_network_offers.proofs.Places.{owned_at}
+use Rattle.grasp_network_offers.specs.Calls.{CallsMean}
 use Rattle.grasp_network_prefixes.proofs.Listing.{first_in}
 
 -- the session that had this handle has this outcome, and isn't live any more

@@ -34,9 +34,9 @@ use Rattle.grasp_types.specs.declared.session.Handle.{Handle}
 use Rattle.grasp_types.specs.declared.session.Outcome.{Outcome}
 use Rattle.grasp_network_agents.proofs.GoingOn.{IsHearing, hearing, heard_alike}
 use Rattle.grasp_network_agents.specs.GoingOn.{OnlyHears, OwnGoOn}
-use Rattle.grasp_network_offers.proofs.Calling.{CallsMean}
 use Rattle.grasp_network_offers.proofs.Making.{Says}
 use Rattle.grasp_network_offers.proofs.Places.{owned_at}
+use Rattle.grasp_network_offers.specs.Calls.{CallsMean}
 use Rattle.grasp_network_prefixes.proofs.Listing.{either_in}
 
 -- ---- acceptances in sessions

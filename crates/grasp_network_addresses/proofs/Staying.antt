@@ -22,7 +22,7 @@ use Rattle.grasp_types.specs.declared.reply.Reply.{Reply}
 use Rattle.grasp_types.specs.declared.reply.Reply.TheVariants as reply
 use Rattle.grasp_types.specs.declared.session.Handle.{Handle}
 use Rattle.grasp_types.specs.declared.session.Outcome.{Outcome}
-use Rattle.grasp_network_offers.proofs.Calling.{CallsMean}
+use Rattle.grasp_network_offers.specs.Calls.{CallsMean}
 use Rattle.grasp_network_prefixes.proofs.Listing.{more_in}
 
 -- ---- what is no longer live stays so

@@ -28,7 +28,8 @@ use Rattle.grasp_network_streams.proofs.Worlds.{reached_in_order}
 use Rattle.grasp_network_talks.specs.Negotiations.{IsNegotiation, IsTalk, NegotiationsAreTalks}
 use Rattle.grasp_network_prefixes.proofs.OwnSessions.{IsSessionAt, session_there, IsTalkOf, talk_of}
 use Rattle.grasp_network_prefixes.proofs.Places.{same_place}
-use Rattle.grasp_network_prefixes.proofs.Standing.{Grounds, IsFarAt, Stays, AllStay}
+use Rattle.grasp_network_prefixes.proofs.Standing.{IsFarAt, Stays, AllStay}
+use Rattle.grasp_network_prefixes.specs.Grounds.{Grounds}
 use Rattle.grasp_network_addresses.proofs.Speaking.{HasAccepted, fresh_far}
 
 -- ---- what a side has said
