@@ -65,22 +65,6 @@ pub nothing_begins : (a : Option (List ℕ)) (bytes : List ℕ) → AppendsFront
 nothing_begins None bytes = tt
 nothing_begins (Some x) bytes = passes_front (Some x) (Some x) bytes bytes (passes_held (Some x) bytes)
 
--- a line and its end, in two pieces
-
-two_pieces : (old line spelled : List ℕ) → line ≡ spelled → (old ++ line) ++ 10 ∷ [] ≡ old ++ (spelled ++ 10 ∷ [])
-two_pieces old line spelled e = append_assoc old line (10 ∷ []) ∙ ap (λ l. old ++ (l ++ 10 ∷ [])) e
-
-pub line_passes : (a b c : Option (List ℕ)) (old held later line spelled : List ℕ) → line ≡ spelled → Passes a b held (old ++ line) → Passes b c later (held ++ 10 ∷ [])
-    → Passes a c later (old ++ (spelled ++ 10 ∷ []))
-line_passes a b c old held later line spelled e p q = subst (Passes a c later) (two_pieces old line spelled e) (passes_more a b c held (old ++ line) later (10 ∷ []) p q)
-
-pub line_front : (a b c : Option (List ℕ)) (old held line spelled : List ℕ) → line ≡ spelled → Passes a b held (old ++ line) → AppendsFront b c (held ++ 10 ∷ [])
-    → AppendsFront a c (old ++ (spelled ++ 10 ∷ []))
-line_front a b c old held line spelled e p q = subst (AppendsFront a c) (two_pieces old line spelled e) (passes_then_front a b c held (old ++ line) (10 ∷ []) p q)
-
-pub line_begun : (a b : Option (List ℕ)) (old line spelled : List ℕ) → line ≡ spelled → AppendsFront a b (old ++ line) → AppendsFront a b (old ++ (spelled ++ 10 ∷ []))
-line_begun a b old line spelled e p = subst (AppendsFront a b) (two_pieces old line spelled e) (front_of_more a b (old ++ line) (10 ∷ []) p)
-
 -- ---- what a beginning of the lines is a beginning of
 
 first_given : (limit : ℕ) (fed : List ℕ) (cutter : Cutter) (past : Past) → Stands cutter past → cut_limit cutter ≡ limit → past.fed ≡ fed → ComeFirst limit fed past.given
