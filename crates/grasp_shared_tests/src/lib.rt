@@ -1,6 +1,10 @@
-//! Passes of one node, on one thread, with ample memory. The crate tested has no tests of its own, so that it
+//! Passes of one node, on one thread and on two, with ample memory. The crate tested has no tests of its own, so that it
 //! is proved once.
 #![tactic(auto)]
 
 #[cfg(test)]
 mod passes;
+#[cfg(test)]
+mod registrations;
+#[cfg(test)]
+mod threads;
