@@ -1,12 +1,12 @@
 -- The program's one call: its words, what it reads, and what it makes of that.
-use Rattle.std.specs.Prelude.{◌≡◌, ◌≤◌, ◌⊎◌, ℕ, Bool, false, List, [], ◌∷◌, Option, None, Some, IfSome, codes, bytes_eq}
+use Rattle.std.specs.Prelude.{◌≡◌, ◌≤◌, ◌⊎◌, ℕ, Bool, false, List, [], ◌∷◌, Option, None, Some, IfSome, IsTrue, codes, bytes_eq}
 use Rattle.std.specs.Io.KnownBytes.{Appends}
 use Rattle.grasp_config.specs.Config.{HasConfig}
 use Rattle.grasp_config.specs.declared.config.NodeConfig.{NodeConfig}
 use Rattle.grasp_io.specs.Known.{AppendsFront}
-use Rattle.grasp_io.specs.Told.{Stays}
+use Rattle.grasp_io.specs.Told.{Stays, Grows}
 use Rattle.grasp_daemon.specs.Lines.{crew_text}
-use Rattle.grasp_daemon.specs.Plans.{IsPlanOf}
+use Rattle.grasp_daemon.specs.Plans.{IsPlanOf, link_plan_of}
 use Rattle.grasp_daemon.specs.Runs.{Ran}
 use Rattle.grasp_daemon.specs.Tells.{LinksTold, Told}
 use Rattle.grasp_daemon.specs.declared.exit.Status.{Status}
@@ -95,12 +95,18 @@ IsOkOrMemory (BadConfig key) = ⊥
 
 -- ---- what it did
 
--- nothing was asked of the links, and nothing was given to them
+-- nothing was asked of the links, and nothing was given to them; whether they were opened isn't said
 pub record NothingPassed (old new : LinksTold) : Type 0 where
   pub waits : Stays old.waits new.waits
   pub given : Stays old.given new.given
   pub handed : Stays old.handed new.handed
   pub faults : old.faults ≤ new.faults
+
+-- the links were opened once, with the plan of this configuration, and nothing passed
+pub record OpensLinks (config : NodeConfig) (old new : LinksTold) : Type 0 where
+  pub is_open : IsTrue new.is_open
+  pub plans : Grows old.plans new.plans (link_plan_of config)
+  pub passed : NothingPassed old new
 
 -- the node of the plan made its turns, and then the lines of its agents were written
 pub record RunsPlan (plan : DaemonPlan) (old new : Told) (before after : Option (List ℕ)) : Type 0 where
@@ -113,7 +119,7 @@ pub record RunsConfig (config : NodeConfig) (seed : List ℕ) (old new : Told) (
   pub plan : DaemonPlan
   pub planned : IsPlanOf config seed plan
   pub opened : LinksTold
-  pub opens : NothingPassed old.links opened
+  pub opens : OpensLinks config old.links opened
   pub runs : RunsPlan plan (record { readings = old.readings; links = opened }) new before after
 
 -- this is the input, where it is told
@@ -146,7 +152,7 @@ pub record BeginsConfig (config : NodeConfig) (seed : List ℕ) (old new : Told)
   pub plan : DaemonPlan
   pub planned : IsPlanOf config seed plan
   pub opened : LinksTold
-  pub opens : NothingPassed old.links opened
+  pub opens : OpensLinks config old.links opened
   pub begins : BeginsPlan plan (record { readings = old.readings; links = opened }) new before after
 
 -- the input has a configuration, whose node did so
@@ -157,17 +163,33 @@ pub record BeginsInput (left : Option (List ℕ)) (seed : List ℕ) (old new : T
   pub has : HasConfig input config
   pub begins : BeginsConfig config seed old new before after
 
--- no turn was made: the clock wasn't read, and the links were not asked and handed nothing
-pub record NoTurn (old new : Told) : Type 0 where
+-- the links were opened, and no turn was made: the clock wasn't read
+pub record OpensConfig (config : NodeConfig) (old new : Told) : Type 0 where
   pub readings : new.readings ≡ old.readings
-  pub links : NothingPassed old.links new.links
+  pub links : OpensLinks config old.links new.links
+
+-- no turn was made: nothing was touched, or the links were opened
+abbrev pub NoTurn : NodeConfig → Told → Told → Type 0
+NoTurn config old new = (new ≡ old) ⊎ OpensConfig config old new
+
+-- the input has a configuration, whose links were opened
+pub record OpensInput (left : Option (List ℕ)) (old new : Told) : Type 0 where
+  pub input : List ℕ
+  pub told : IsInput left input
+  pub config : NodeConfig
+  pub has : HasConfig input config
+  pub opens : OpensConfig config old new
+
+-- no turn was made: nothing was touched, or the links of the input's configuration were opened
+abbrev pub NoTurnOfInput : Option (List ℕ) → Told → Told → Type 0
+NoTurnOfInput left old new = (new ≡ old) ⊎ OpensInput left old new
 
 -- the links were opened, and then the node of the configuration made its turns, in which agents may have stopped
 pub record TurnsOfConfig (config : NodeConfig) (seed : List ℕ) (old new : Told) : Type 0 where
   pub plan : DaemonPlan
   pub planned : IsPlanOf config seed plan
   pub opened : LinksTold
-  pub opens : NothingPassed old.links opened
+  pub opens : OpensLinks config old.links opened
   pub ran : Ran plan (record { readings = old.readings; links = opened }) new None
 
 -- the input has a configuration, whose node did so
@@ -180,4 +202,4 @@ pub record TurnsOfInput (left : Option (List ℕ)) (seed : List ℕ) (old new : 
 
 -- no turn was made, or all turns of the input's node were
 abbrev pub NoneOrAllTurns : Option (List ℕ) → List ℕ → Told → Told → Type 0
-NoneOrAllTurns left seed old new = NoTurn old new ⊎ TurnsOfInput left seed old new
+NoneOrAllTurns left seed old new = NoTurnOfInput left old new ⊎ TurnsOfInput left seed old new

@@ -1,17 +1,20 @@
 -- What the links and the clock of a node tell of its turns, where they tell it.
-use Rattle.std.specs.Prelude.{◌≡◌, ◌≤◌, ◌⊎◌, ℕ, List, [], ◌∷◌, Option}
+use Rattle.std.specs.Prelude.{◌≡◌, ◌≤◌, ◌⊎◌, ℕ, Bool, List, [], ◌∷◌, Option}
 use Rattle.grasp_io.specs.Faults.{Rose}
 use Rattle.grasp_io.specs.Told.{Stays, Grows}
 use Rattle.grasp_io.specs.Links.{Waits, Gives}
 use Rattle.grasp_io.specs.declared.links.Asked.{Asked}
 use Rattle.grasp_io.specs.declared.links.Asked.TheVariants as asked
+use Rattle.grasp_io.specs.declared.links.LinkPlan.{LinkPlan}
 use Rattle.grasp_types.specs.declared.reply.Reply.{Reply}
 use Rattle.grasp_types.specs.declared.traffic.Input.{Input}
 use Rattle.grasp_types.specs.declared.traffic.Output.{Output}
 use Rattle.grasp_daemon.specs.Turns.{Asking, got, nothing, no_memory, Turn, turn_outputs, outputs_in}
 
--- what links tell: the waits of the asks, the inputs given and the outputs handed over so far, and how often they failed
+-- what links tell: whether they are open, the plans that they were opened with, the waits of the asks, the inputs given and the outputs handed over so far, and how often they failed
 pub record LinksTold : Type 0 where
+  pub is_open : Bool
+  pub plans : Option (List LinkPlan)
   pub waits : Option (List ℕ)
   pub given : Option (List Input)
   pub handed : Option (List Output)
@@ -22,8 +25,8 @@ pub record Told : Type 0 where
   pub readings : Option (List ℕ)
   pub links : LinksTold
 
-abbrev pub links_told : Option (List ℕ) → Option (List Input) → Option (List Output) → ℕ → LinksTold
-links_told waits given handed faults = record { waits = waits; given = given; handed = handed; faults = faults }
+abbrev pub links_told : Bool → Option (List LinkPlan) → Option (List ℕ) → Option (List Input) → Option (List Output) → ℕ → LinksTold
+links_told is_open plans waits given handed faults = record { is_open = is_open; plans = plans; waits = waits; given = given; handed = handed; faults = faults }
 
 abbrev pub told : Option (List ℕ) → LinksTold → Told
 told readings links = record { readings = readings; links = links }
@@ -43,15 +46,19 @@ asked_in (got i r) = asked.Got i
 asked_in nothing = asked.Nothing
 asked_in no_memory = asked.OutOfMemory
 
--- the links were asked once, with this wait, and that came of it; nothing was handed over
+-- the links were asked once, with this wait, and that came of it; nothing was opened or handed over
 pub record AsksOnce (wait : ℕ) (old : LinksTold) (asking : Asking) (new : LinksTold) : Type 0 where
+  pub is_open : new.is_open ≡ old.is_open
+  pub plans : Stays old.plans new.plans
   pub waits : Waits old.waits new.waits (asked_in asking) wait
   pub given : Gives old.given new.given (asked_in asking)
   pub handed : Stays old.handed new.handed
   pub faults : old.faults ≤ new.faults
 
--- these outputs were handed over, and nothing was asked
+-- these outputs were handed over, and nothing was opened or asked
 pub record HandsOnly (old : LinksTold) (outputs : List Output) (new : LinksTold) : Type 0 where
+  pub is_open : new.is_open ≡ old.is_open
+  pub plans : Stays old.plans new.plans
   pub waits : Stays old.waits new.waits
   pub given : Stays old.given new.given
   pub handed : HandsAll old.handed old.faults outputs new.handed new.faults

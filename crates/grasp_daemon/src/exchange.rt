@@ -27,7 +27,7 @@ pub(crate) fn exchange<R: Wait, L: Links, C: Clock>(
     clock: &mut C,
 ) -> u64
     requires { IsRootOf shared.now root.old }
-    ensures { Exchanges shared.now wait root.old (told (C.readings clock.old) (links_told (L.waits links.old) (L.given links.old) (L.handed links.old) (L.faults links.old))) result root.new (told (C.readings clock.new) (links_told (L.waits links.new) (L.given links.new) (L.handed links.new) (L.faults links.new))) }
+    ensures { Exchanges shared.now wait root.old (told (C.readings clock.old) (links_told (L.is_open links.old) (L.plans links.old) (L.waits links.old) (L.given links.old) (L.handed links.old) (L.faults links.old))) result root.new (told (C.readings clock.new) (links_told (L.is_open links.new) (L.plans links.new) (L.waits links.new) (L.given links.new) (L.handed links.new) (L.faults links.new))) }
 {
     let now = clock.now();
     let away = take_in(rt, shared, now, wait, root, links);
@@ -46,7 +46,7 @@ fn take_in<R: Wait, L: Links>(
     links: &mut L,
 ) -> Option<u64>
     requires { IsRootOf shared.now root.old }
-    ensures { TakesIn shared.now now wait root.old (links_told (L.waits links.old) (L.given links.old) (L.handed links.old) (L.faults links.old)) result root.new (links_told (L.waits links.new) (L.given links.new) (L.handed links.new) (L.faults links.new)) }
+    ensures { TakesIn shared.now now wait root.old (links_told (L.is_open links.old) (L.plans links.old) (L.waits links.old) (L.given links.old) (L.handed links.old) (L.faults links.old)) result root.new (links_told (L.is_open links.new) (L.plans links.new) (L.waits links.new) (L.given links.new) (L.handed links.new) (L.faults links.new)) }
 {
     match links.ask(wait) {
         Asked::Got(input) => give_in(rt, shared, now, root, input),
@@ -92,7 +92,7 @@ fn is_away(reply: &Reply) -> bool
 /// Drains the node, and hands its outputs over.
 fn drain_out<R: Wait, L: Links>(rt: &R, shared: &Shared, now: u64, root: &mut Root, links: &mut L)
     requires { IsRootOf shared.now root.old }
-    ensures { DrainsOut shared.now now 64 root.old (links_told (L.waits links.old) (L.given links.old) (L.handed links.old) (L.faults links.old)) root.new (links_told (L.waits links.new) (L.given links.new) (L.handed links.new) (L.faults links.new)) }
+    ensures { DrainsOut shared.now now 64 root.old (links_told (L.is_open links.old) (L.plans links.old) (L.waits links.old) (L.given links.old) (L.handed links.old) (L.faults links.old)) root.new (links_told (L.is_open links.new) (L.plans links.new) (L.waits links.new) (L.given links.new) (L.handed links.new) (L.faults links.new)) }
 {
     let reply = shared.root_call(rt, root, now, Input::Drain { max: DRAIN });
     hand_over(links, &reply);
@@ -102,7 +102,7 @@ fn drain_out<R: Wait, L: Links>(rt: &R, shared: &Shared, now: u64, root: &mut Ro
 pub(crate) fn drain_last<L: Links>(shared: &Shared, now: u64, root: &mut Root, links: &mut L)
     requires own { IsRootOf shared.now root.old }
     requires alone { out_of root.old ≡ 0 }
-    ensures { DrainsOut shared.now now 320 root.old (links_told (L.waits links.old) (L.given links.old) (L.handed links.old) (L.faults links.old)) root.new (links_told (L.waits links.new) (L.given links.new) (L.handed links.new) (L.faults links.new)) }
+    ensures { DrainsOut shared.now now 320 root.old (links_told (L.is_open links.old) (L.plans links.old) (L.waits links.old) (L.given links.old) (L.handed links.old) (L.faults links.old)) root.new (links_told (L.is_open links.new) (L.plans links.new) (L.waits links.new) (L.given links.new) (L.handed links.new) (L.faults links.new)) }
 {
     match shared.root_try_call(root, now, Input::Drain { max: LAST_DRAIN }) {
         Ok(reply) => hand_over(links, &reply),
@@ -113,7 +113,7 @@ pub(crate) fn drain_last<L: Links>(shared: &Shared, now: u64, root: &mut Root, l
 /// Hands over the outputs that a drain was answered.
 #[tactic(auto, using(crate::proofs::Told::hands_nothing))]
 fn hand_over<L: Links>(links: &mut L, reply: &Reply)
-    ensures { HandsOnly (links_told (L.waits links.old) (L.given links.old) (L.handed links.old) (L.faults links.old)) (outputs_in reply.now) (links_told (L.waits links.new) (L.given links.new) (L.handed links.new) (L.faults links.new)) }
+    ensures { HandsOnly (links_told (L.is_open links.old) (L.plans links.old) (L.waits links.old) (L.given links.old) (L.handed links.old) (L.faults links.old)) (outputs_in reply.now) (links_told (L.is_open links.new) (L.plans links.new) (L.waits links.new) (L.given links.new) (L.handed links.new) (L.faults links.new)) }
 {
     match reply {
         Reply::Outputs(outputs) => send_all(links, outputs.slice()),
@@ -127,7 +127,7 @@ fn hand_over<L: Links>(links: &mut L, reply: &Reply)
 
 /// Hands over outputs in order.
 fn send_all<L: Links>(links: &mut L, outputs: &[Output])
-    ensures { HandsOnly (links_told (L.waits links.old) (L.given links.old) (L.handed links.old) (L.faults links.old)) outputs.now (links_told (L.waits links.new) (L.given links.new) (L.handed links.new) (L.faults links.new)) }
+    ensures { HandsOnly (links_told (L.is_open links.old) (L.plans links.old) (L.waits links.old) (L.given links.old) (L.handed links.old) (L.faults links.old)) outputs.now (links_told (L.is_open links.new) (L.plans links.new) (L.waits links.new) (L.given links.new) (L.handed links.new) (L.faults links.new)) }
 {
     for output in outputs {
         let _sent = links.send(output);
@@ -137,7 +137,7 @@ fn send_all<L: Links>(links: &mut L, outputs: &[Output])
 /// Closes a stream that was turned away.
 #[tactic(auto, using(crate::proofs::Told::hands_nothing))]
 fn close_again<L: Links>(links: &mut L, away: Option<u64>)
-    ensures { HandsOnly (links_told (L.waits links.old) (L.given links.old) (L.handed links.old) (L.faults links.old)) (closings away) (links_told (L.waits links.new) (L.given links.new) (L.handed links.new) (L.faults links.new)) }
+    ensures { HandsOnly (links_told (L.is_open links.old) (L.plans links.old) (L.waits links.old) (L.given links.old) (L.handed links.old) (L.faults links.old)) (closings away) (links_told (L.is_open links.new) (L.plans links.new) (L.waits links.new) (L.given links.new) (L.handed links.new) (L.faults links.new)) }
 {
     if let Some(stream) = away {
         let _sent = links.send(&Output::Close { stream });

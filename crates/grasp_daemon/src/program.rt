@@ -7,6 +7,7 @@ ghost use Rattle.grasp_config.specs.Laws.{IsInRange};
 ghost use Rattle.grasp_config.specs.declared.fault.ConfigKey.{ConfigKey};
 ghost use Rattle.grasp_io.specs.Faults.{Rose};
 ghost use Rattle.grasp_io.specs.Known.{AppendsFront};
+ghost use Rattle.grasp_io.specs.Told.{Stays};
 ghost use Rattle.grasp_daemon.specs.Lines.{crew_text};
 ghost use Rattle.grasp_daemon.specs.Program.{config_limit, is_run, IsBeforeLinks, IsAfterConfig, IsAfterInput, IsOfConfig, IsOfTurns, IsOkOrMemory, NothingPassed, RunsPlan, RunsConfig, RunsInput, BeginsPlan, BeginsConfig, BeginsInput, NoTurn, TurnsOfConfig, NoneOrAllTurns, IsConfigured};
 ghost use Rattle.grasp_daemon.specs.Runs.{Ran, workers_of};
@@ -35,9 +36,9 @@ const CONFIG_LIMIT: u64 = 65_536;
 /// Runs the node that the source configures, and says how it ended.
 ///
 /// The words are to be `run` and one more, which names what the source reads. The source is read to its end, and the
-/// links are opened. Then the node makes its turns, and at the end it writes a line of the prefixes that it holds, one
-/// for each want and one for each reader. `OutOfMemory` may come wherever memory is wanted: before the first turn, or after
-/// the last one, where agents may have stopped. Nothing was written then.
+/// links are opened with the plan of the configuration. Then the node makes its turns, and at the end it writes a line of
+/// the prefixes that it holds, one for each want and one for each reader. `OutOfMemory` may come wherever memory is wanted:
+/// before the first turn, or after the last one, where agents may have stopped. Nothing was written then.
 pub fn node_main<R: Threads + Wait + Sync, S: Source, K: Sink, L: Links, C: Clock>(
     rt: &R,
     alloc: Global,
@@ -63,18 +64,19 @@ pub fn node_main<R: Threads + Wait + Sync, S: Source, K: Sink, L: Links, C: Cloc
     ensures untouched { IsBeforeLinks result → links.new ≡ links.old }
     ensures clock_untouched { IsBeforeLinks result → clock.new ≡ clock.old }
 
-    // Then the links are opened.
+    // Then the links are opened once, with the plan of the configuration. After a fault of that no plan is told.
     ensures link_fault { result ≡ Status.LinkFault → Rose (L.faults links.old) (L.faults links.new) }
-    ensures nothing_passed { result ≡ Status.LinkFault → NothingPassed (links_told (L.waits links.old) (L.given links.old) (L.handed links.old) (L.faults links.old)) (links_told (L.waits links.new) (L.given links.new) (L.handed links.new) (L.faults links.new)) }
+    ensures nothing_passed { result ≡ Status.LinkFault → NothingPassed (links_told (L.is_open links.old) (L.plans links.old) (L.waits links.old) (L.given links.old) (L.handed links.old) (L.faults links.old)) (links_told (L.is_open links.new) (L.plans links.new) (L.waits links.new) (L.given links.new) (L.handed links.new) (L.faults links.new)) }
+    ensures unopened { result ≡ Status.LinkFault → Stays (L.plans links.old) (L.plans links.new) }
     ensures clock_unread { result ≡ Status.LinkFault → clock.new ≡ clock.old }
 
     // Then the node makes its turns, and its lines are written. After a fault of writing a front of them is; where memory is
-    // wanted, no turn was made, or all were.
-    ensures done { result ≡ Status.Ok → RunsInput (S.left source.old) seed (told (C.readings clock.old) (links_told (L.waits links.old) (L.given links.old) (L.handed links.old) (L.faults links.old))) (told (C.readings clock.new) (links_told (L.waits links.new) (L.given links.new) (L.handed links.new) (L.faults links.new))) (K.written sink.old) (K.written sink.new) }
+    // wanted, no turn was made, whether the links were opened or not, or all were.
+    ensures done { result ≡ Status.Ok → RunsInput (S.left source.old) seed (told (C.readings clock.old) (links_told (L.is_open links.old) (L.plans links.old) (L.waits links.old) (L.given links.old) (L.handed links.old) (L.faults links.old))) (told (C.readings clock.new) (links_told (L.is_open links.new) (L.plans links.new) (L.waits links.new) (L.given links.new) (L.handed links.new) (L.faults links.new))) (K.written sink.old) (K.written sink.new) }
     ensures write_fault { result ≡ Status.WriteFault → Rose (K.faults sink.old) (K.faults sink.new) }
-    ensures begun { result ≡ Status.WriteFault → BeginsInput (S.left source.old) seed (told (C.readings clock.old) (links_told (L.waits links.old) (L.given links.old) (L.handed links.old) (L.faults links.old))) (told (C.readings clock.new) (links_told (L.waits links.new) (L.given links.new) (L.handed links.new) (L.faults links.new))) (K.written sink.old) (K.written sink.new) }
+    ensures begun { result ≡ Status.WriteFault → BeginsInput (S.left source.old) seed (told (C.readings clock.old) (links_told (L.is_open links.old) (L.plans links.old) (L.waits links.old) (L.given links.old) (L.handed links.old) (L.faults links.old))) (told (C.readings clock.new) (links_told (L.is_open links.new) (L.plans links.new) (L.waits links.new) (L.given links.new) (L.handed links.new) (L.faults links.new))) (K.written sink.old) (K.written sink.new) }
     ensures unwritten { result ≢ Status.Ok → result ≢ Status.WriteFault → sink.new ≡ sink.old }
-    ensures memory { result ≡ Status.OutOfMemory → NoneOrAllTurns (S.left source.old) seed (told (C.readings clock.old) (links_told (L.waits links.old) (L.given links.old) (L.handed links.old) (L.faults links.old))) (told (C.readings clock.new) (links_told (L.waits links.new) (L.given links.new) (L.handed links.new) (L.faults links.new))) }
+    ensures memory { result ≡ Status.OutOfMemory → NoneOrAllTurns (S.left source.old) seed (told (C.readings clock.old) (links_told (L.is_open links.old) (L.plans links.old) (L.waits links.old) (L.given links.old) (L.handed links.old) (L.faults links.old))) (told (C.readings clock.new) (links_told (L.is_open links.new) (L.plans links.new) (L.waits links.new) (L.given links.new) (L.handed links.new) (L.faults links.new))) }
 
     // Where nothing outside fails, the input alone decides, unless memory is wanted.
     ensures complete { is_run (map string_bytes words.now) ≡ true → ¬ Rose (S.faults source.old) (S.faults source.new) → ¬ Rose (L.faults links.old) (L.faults links.new) → ¬ Rose (K.faults sink.old) (K.faults sink.new)
@@ -116,18 +118,19 @@ pub fn node_run<R: Threads + Wait + Sync, S: Source, K: Sink, L: Links, C: Clock
     ensures untouched { IsBeforeLinks result → links.new ≡ links.old }
     ensures clock_untouched { IsBeforeLinks result → clock.new ≡ clock.old }
 
-    // Then the links are opened.
+    // Then the links are opened once, with the plan of the configuration. After a fault of that no plan is told.
     ensures link_fault { result ≡ Status.LinkFault → Rose (L.faults links.old) (L.faults links.new) }
-    ensures nothing_passed { result ≡ Status.LinkFault → NothingPassed (links_told (L.waits links.old) (L.given links.old) (L.handed links.old) (L.faults links.old)) (links_told (L.waits links.new) (L.given links.new) (L.handed links.new) (L.faults links.new)) }
+    ensures nothing_passed { result ≡ Status.LinkFault → NothingPassed (links_told (L.is_open links.old) (L.plans links.old) (L.waits links.old) (L.given links.old) (L.handed links.old) (L.faults links.old)) (links_told (L.is_open links.new) (L.plans links.new) (L.waits links.new) (L.given links.new) (L.handed links.new) (L.faults links.new)) }
+    ensures unopened { result ≡ Status.LinkFault → Stays (L.plans links.old) (L.plans links.new) }
     ensures clock_unread { result ≡ Status.LinkFault → clock.new ≡ clock.old }
 
     // Then the node makes its turns, and its lines are written. After a fault of writing a front of them is; where memory is
-    // wanted, no turn was made, or all were.
-    ensures done { result ≡ Status.Ok → RunsInput (S.left source.old) seed (told (C.readings clock.old) (links_told (L.waits links.old) (L.given links.old) (L.handed links.old) (L.faults links.old))) (told (C.readings clock.new) (links_told (L.waits links.new) (L.given links.new) (L.handed links.new) (L.faults links.new))) (K.written sink.old) (K.written sink.new) }
+    // wanted, no turn was made, whether the links were opened or not, or all were.
+    ensures done { result ≡ Status.Ok → RunsInput (S.left source.old) seed (told (C.readings clock.old) (links_told (L.is_open links.old) (L.plans links.old) (L.waits links.old) (L.given links.old) (L.handed links.old) (L.faults links.old))) (told (C.readings clock.new) (links_told (L.is_open links.new) (L.plans links.new) (L.waits links.new) (L.given links.new) (L.handed links.new) (L.faults links.new))) (K.written sink.old) (K.written sink.new) }
     ensures write_fault { result ≡ Status.WriteFault → Rose (K.faults sink.old) (K.faults sink.new) }
-    ensures begun { result ≡ Status.WriteFault → BeginsInput (S.left source.old) seed (told (C.readings clock.old) (links_told (L.waits links.old) (L.given links.old) (L.handed links.old) (L.faults links.old))) (told (C.readings clock.new) (links_told (L.waits links.new) (L.given links.new) (L.handed links.new) (L.faults links.new))) (K.written sink.old) (K.written sink.new) }
+    ensures begun { result ≡ Status.WriteFault → BeginsInput (S.left source.old) seed (told (C.readings clock.old) (links_told (L.is_open links.old) (L.plans links.old) (L.waits links.old) (L.given links.old) (L.handed links.old) (L.faults links.old))) (told (C.readings clock.new) (links_told (L.is_open links.new) (L.plans links.new) (L.waits links.new) (L.given links.new) (L.handed links.new) (L.faults links.new))) (K.written sink.old) (K.written sink.new) }
     ensures unwritten { result ≢ Status.Ok → result ≢ Status.WriteFault → sink.new ≡ sink.old }
-    ensures memory { result ≡ Status.OutOfMemory → NoneOrAllTurns (S.left source.old) seed (told (C.readings clock.old) (links_told (L.waits links.old) (L.given links.old) (L.handed links.old) (L.faults links.old))) (told (C.readings clock.new) (links_told (L.waits links.new) (L.given links.new) (L.handed links.new) (L.faults links.new))) }
+    ensures memory { result ≡ Status.OutOfMemory → NoneOrAllTurns (S.left source.old) seed (told (C.readings clock.old) (links_told (L.is_open links.old) (L.plans links.old) (L.waits links.old) (L.given links.old) (L.handed links.old) (L.faults links.old))) (told (C.readings clock.new) (links_told (L.is_open links.new) (L.plans links.new) (L.waits links.new) (L.given links.new) (L.handed links.new) (L.faults links.new))) }
 
     // Where nothing outside fails, the input alone decides, unless memory is wanted.
     ensures complete { is_run (map string_bytes words.now) ≡ true → ¬ Rose (S.faults source.old) (S.faults source.new) → ¬ Rose (L.faults links.old) (L.faults links.new) → ¬ Rose (K.faults sink.old) (K.faults sink.new)
@@ -178,13 +181,14 @@ fn run_input<R: Threads + Wait + Sync, S: Source, K: Sink, L: Links, C: Clock, G
     ensures untouched { IsBeforeLinks result → links.new ≡ links.old }
     ensures clock_untouched { IsBeforeLinks result → clock.new ≡ clock.old }
     ensures link_fault { result ≡ Status.LinkFault → Rose (L.faults links.old) (L.faults links.new) }
-    ensures nothing_passed { result ≡ Status.LinkFault → NothingPassed (links_told (L.waits links.old) (L.given links.old) (L.handed links.old) (L.faults links.old)) (links_told (L.waits links.new) (L.given links.new) (L.handed links.new) (L.faults links.new)) }
+    ensures nothing_passed { result ≡ Status.LinkFault → NothingPassed (links_told (L.is_open links.old) (L.plans links.old) (L.waits links.old) (L.given links.old) (L.handed links.old) (L.faults links.old)) (links_told (L.is_open links.new) (L.plans links.new) (L.waits links.new) (L.given links.new) (L.handed links.new) (L.faults links.new)) }
+    ensures unopened { result ≡ Status.LinkFault → Stays (L.plans links.old) (L.plans links.new) }
     ensures clock_unread { result ≡ Status.LinkFault → clock.new ≡ clock.old }
-    ensures done { result ≡ Status.Ok → RunsInput (S.left source.old) seed (told (C.readings clock.old) (links_told (L.waits links.old) (L.given links.old) (L.handed links.old) (L.faults links.old))) (told (C.readings clock.new) (links_told (L.waits links.new) (L.given links.new) (L.handed links.new) (L.faults links.new))) (K.written sink.old) (K.written sink.new) }
+    ensures done { result ≡ Status.Ok → RunsInput (S.left source.old) seed (told (C.readings clock.old) (links_told (L.is_open links.old) (L.plans links.old) (L.waits links.old) (L.given links.old) (L.handed links.old) (L.faults links.old))) (told (C.readings clock.new) (links_told (L.is_open links.new) (L.plans links.new) (L.waits links.new) (L.given links.new) (L.handed links.new) (L.faults links.new))) (K.written sink.old) (K.written sink.new) }
     ensures write_fault { result ≡ Status.WriteFault → Rose (K.faults sink.old) (K.faults sink.new) }
-    ensures begun { result ≡ Status.WriteFault → BeginsInput (S.left source.old) seed (told (C.readings clock.old) (links_told (L.waits links.old) (L.given links.old) (L.handed links.old) (L.faults links.old))) (told (C.readings clock.new) (links_told (L.waits links.new) (L.given links.new) (L.handed links.new) (L.faults links.new))) (K.written sink.old) (K.written sink.new) }
+    ensures begun { result ≡ Status.WriteFault → BeginsInput (S.left source.old) seed (told (C.readings clock.old) (links_told (L.is_open links.old) (L.plans links.old) (L.waits links.old) (L.given links.old) (L.handed links.old) (L.faults links.old))) (told (C.readings clock.new) (links_told (L.is_open links.new) (L.plans links.new) (L.waits links.new) (L.given links.new) (L.handed links.new) (L.faults links.new))) (K.written sink.old) (K.written sink.new) }
     ensures unwritten { result ≢ Status.Ok → result ≢ Status.WriteFault → sink.new ≡ sink.old }
-    ensures memory { result ≡ Status.OutOfMemory → NoneOrAllTurns (S.left source.old) seed (told (C.readings clock.old) (links_told (L.waits links.old) (L.given links.old) (L.handed links.old) (L.faults links.old))) (told (C.readings clock.new) (links_told (L.waits links.new) (L.given links.new) (L.handed links.new) (L.faults links.new))) }
+    ensures memory { result ≡ Status.OutOfMemory → NoneOrAllTurns (S.left source.old) seed (told (C.readings clock.old) (links_told (L.is_open links.old) (L.plans links.old) (L.waits links.old) (L.given links.old) (L.handed links.old) (L.faults links.old))) (told (C.readings clock.new) (links_told (L.is_open links.new) (L.plans links.new) (L.waits links.new) (L.given links.new) (L.handed links.new) (L.faults links.new))) }
 {
     let input = match read_all(alloc, source, CONFIG_LIMIT) {
         Ok(input) => input,
@@ -201,7 +205,7 @@ fn run_input<R: Threads + Wait + Sync, S: Source, K: Sink, L: Links, C: Clock, G
 }
 
 /// Opens the links of the configuration, and runs its node.
-#[tactic(auto, using(crate::proofs::MainRuns::runs_config, crate::proofs::MainRuns::begins_config, crate::proofs::MainRuns::stops_at_plans, crate::proofs::MainRuns::stops_at_turns, crate::proofs::Configured::few_beacons, crate::proofs::Configured::few_readers))]
+#[tactic(auto, using(crate::proofs::MainRuns::opens_links, crate::proofs::MainRuns::runs_config, crate::proofs::MainRuns::begins_config, crate::proofs::MainRuns::stops_at_plans, crate::proofs::MainRuns::stops_at_turns, crate::proofs::Configured::few_beacons, crate::proofs::Configured::few_readers))]
 fn run_config<R: Threads + Wait + Sync, K: Sink, L: Links, C: Clock, G: Gate + Sync>(
     rt: &R,
     alloc: Global,
@@ -215,13 +219,14 @@ fn run_config<R: Threads + Wait + Sync, K: Sink, L: Links, C: Clock, G: Gate + S
     requires { IsInRange config }
     ensures ends { IsOfConfig result }
     ensures link_fault { result ≡ Status.LinkFault → Rose (L.faults links.old) (L.faults links.new) }
-    ensures nothing_passed { result ≡ Status.LinkFault → NothingPassed (links_told (L.waits links.old) (L.given links.old) (L.handed links.old) (L.faults links.old)) (links_told (L.waits links.new) (L.given links.new) (L.handed links.new) (L.faults links.new)) }
+    ensures nothing_passed { result ≡ Status.LinkFault → NothingPassed (links_told (L.is_open links.old) (L.plans links.old) (L.waits links.old) (L.given links.old) (L.handed links.old) (L.faults links.old)) (links_told (L.is_open links.new) (L.plans links.new) (L.waits links.new) (L.given links.new) (L.handed links.new) (L.faults links.new)) }
+    ensures unopened { result ≡ Status.LinkFault → Stays (L.plans links.old) (L.plans links.new) }
     ensures clock_unread { result ≡ Status.LinkFault → clock.new ≡ clock.old }
-    ensures done { result ≡ Status.Ok → RunsConfig config seed (told (C.readings clock.old) (links_told (L.waits links.old) (L.given links.old) (L.handed links.old) (L.faults links.old))) (told (C.readings clock.new) (links_told (L.waits links.new) (L.given links.new) (L.handed links.new) (L.faults links.new))) (K.written sink.old) (K.written sink.new) }
+    ensures done { result ≡ Status.Ok → RunsConfig config seed (told (C.readings clock.old) (links_told (L.is_open links.old) (L.plans links.old) (L.waits links.old) (L.given links.old) (L.handed links.old) (L.faults links.old))) (told (C.readings clock.new) (links_told (L.is_open links.new) (L.plans links.new) (L.waits links.new) (L.given links.new) (L.handed links.new) (L.faults links.new))) (K.written sink.old) (K.written sink.new) }
     ensures write_fault { result ≡ Status.WriteFault → Rose (K.faults sink.old) (K.faults sink.new) }
-    ensures begun { result ≡ Status.WriteFault → BeginsConfig config seed (told (C.readings clock.old) (links_told (L.waits links.old) (L.given links.old) (L.handed links.old) (L.faults links.old))) (told (C.readings clock.new) (links_told (L.waits links.new) (L.given links.new) (L.handed links.new) (L.faults links.new))) (K.written sink.old) (K.written sink.new) }
+    ensures begun { result ≡ Status.WriteFault → BeginsConfig config seed (told (C.readings clock.old) (links_told (L.is_open links.old) (L.plans links.old) (L.waits links.old) (L.given links.old) (L.handed links.old) (L.faults links.old))) (told (C.readings clock.new) (links_told (L.is_open links.new) (L.plans links.new) (L.waits links.new) (L.given links.new) (L.handed links.new) (L.faults links.new))) (K.written sink.old) (K.written sink.new) }
     ensures unwritten { result ≢ Status.Ok → result ≢ Status.WriteFault → sink.new ≡ sink.old }
-    ensures memory { result ≡ Status.OutOfMemory → NoTurn (told (C.readings clock.old) (links_told (L.waits links.old) (L.given links.old) (L.handed links.old) (L.faults links.old))) (told (C.readings clock.new) (links_told (L.waits links.new) (L.given links.new) (L.handed links.new) (L.faults links.new))) ⊎ TurnsOfConfig config seed (told (C.readings clock.old) (links_told (L.waits links.old) (L.given links.old) (L.handed links.old) (L.faults links.old))) (told (C.readings clock.new) (links_told (L.waits links.new) (L.given links.new) (L.handed links.new) (L.faults links.new))) }
+    ensures memory { result ≡ Status.OutOfMemory → NoTurn config (told (C.readings clock.old) (links_told (L.is_open links.old) (L.plans links.old) (L.waits links.old) (L.given links.old) (L.handed links.old) (L.faults links.old))) (told (C.readings clock.new) (links_told (L.is_open links.new) (L.plans links.new) (L.waits links.new) (L.given links.new) (L.handed links.new) (L.faults links.new))) ⊎ TurnsOfConfig config seed (told (C.readings clock.old) (links_told (L.is_open links.old) (L.plans links.old) (L.waits links.old) (L.given links.old) (L.handed links.old) (L.faults links.old))) (told (C.readings clock.new) (links_told (L.is_open links.new) (L.plans links.new) (L.waits links.new) (L.given links.new) (L.handed links.new) (L.faults links.new))) }
 {
     let Ok(joining) = link_plan(&config) else {
         return Status::OutOfMemory;
@@ -249,11 +254,11 @@ fn run_plan<R: Threads + Wait + Sync, K: Sink, L: Links, C: Clock, G: Gate + Syn
     requires beacons { length plan.beacons < 255 }
     requires readers { length plan.readers < 255 }
     ensures ends { IsOfTurns result }
-    ensures done { result ≡ Status.Ok → RunsPlan plan (told (C.readings clock.old) (links_told (L.waits links.old) (L.given links.old) (L.handed links.old) (L.faults links.old))) (told (C.readings clock.new) (links_told (L.waits links.new) (L.given links.new) (L.handed links.new) (L.faults links.new))) (K.written sink.old) (K.written sink.new) }
+    ensures done { result ≡ Status.Ok → RunsPlan plan (told (C.readings clock.old) (links_told (L.is_open links.old) (L.plans links.old) (L.waits links.old) (L.given links.old) (L.handed links.old) (L.faults links.old))) (told (C.readings clock.new) (links_told (L.is_open links.new) (L.plans links.new) (L.waits links.new) (L.given links.new) (L.handed links.new) (L.faults links.new))) (K.written sink.old) (K.written sink.new) }
     ensures write_fault { result ≡ Status.WriteFault → Rose (K.faults sink.old) (K.faults sink.new) }
-    ensures begun { result ≡ Status.WriteFault → BeginsPlan plan (told (C.readings clock.old) (links_told (L.waits links.old) (L.given links.old) (L.handed links.old) (L.faults links.old))) (told (C.readings clock.new) (links_told (L.waits links.new) (L.given links.new) (L.handed links.new) (L.faults links.new))) (K.written sink.old) (K.written sink.new) }
+    ensures begun { result ≡ Status.WriteFault → BeginsPlan plan (told (C.readings clock.old) (links_told (L.is_open links.old) (L.plans links.old) (L.waits links.old) (L.given links.old) (L.handed links.old) (L.faults links.old))) (told (C.readings clock.new) (links_told (L.is_open links.new) (L.plans links.new) (L.waits links.new) (L.given links.new) (L.handed links.new) (L.faults links.new))) (K.written sink.old) (K.written sink.new) }
     ensures unwritten { result ≡ Status.OutOfMemory → sink.new ≡ sink.old }
-    ensures memory { result ≡ Status.OutOfMemory → ((told (C.readings clock.new) (links_told (L.waits links.new) (L.given links.new) (L.handed links.new) (L.faults links.new))) ≡ (told (C.readings clock.old) (links_told (L.waits links.old) (L.given links.old) (L.handed links.old) (L.faults links.old)))) ⊎ Ran plan (told (C.readings clock.old) (links_told (L.waits links.old) (L.given links.old) (L.handed links.old) (L.faults links.old))) (told (C.readings clock.new) (links_told (L.waits links.new) (L.given links.new) (L.handed links.new) (L.faults links.new))) None }
+    ensures memory { result ≡ Status.OutOfMemory → ((told (C.readings clock.new) (links_told (L.is_open links.new) (L.plans links.new) (L.waits links.new) (L.given links.new) (L.handed links.new) (L.faults links.new))) ≡ (told (C.readings clock.old) (links_told (L.is_open links.old) (L.plans links.old) (L.waits links.old) (L.given links.old) (L.handed links.old) (L.faults links.old)))) ⊎ Ran plan (told (C.readings clock.old) (links_told (L.is_open links.old) (L.plans links.old) (L.waits links.old) (L.given links.old) (L.handed links.old) (L.faults links.old))) (told (C.readings clock.new) (links_told (L.is_open links.new) (L.plans links.new) (L.waits links.new) (L.given links.new) (L.handed links.new) (L.faults links.new))) None }
 {
     match run_node(rt, alloc, plan, links, clock, gate) {
         Ok(daemon) => write_lines(alloc, &daemon, sink),

@@ -27,7 +27,7 @@ pub fn run_node<R: Threads + Wait + Sync, L: Links, C: Clock, G: Gate + Sync>(
 ) -> Result<Daemon, OutOfMemory>
     requires beacons { length plan.beacons < 255 }
     requires readers { length plan.readers < 255 }
-    ensures { RunsNode plan (told (C.readings clock.old) (links_told (L.waits links.old) (L.given links.old) (L.handed links.old) (L.faults links.old))) result (told (C.readings clock.new) (links_told (L.waits links.new) (L.given links.new) (L.handed links.new) (L.faults links.new))) }
+    ensures { RunsNode plan (told (C.readings clock.old) (links_told (L.is_open links.old) (L.plans links.old) (L.waits links.old) (L.given links.old) (L.handed links.old) (L.faults links.old))) result (told (C.readings clock.new) (links_told (L.is_open links.new) (L.plans links.new) (L.waits links.new) (L.given links.new) (L.handed links.new) (L.faults links.new))) }
 {
     let DaemonPlan {
         node,

@@ -30,7 +30,7 @@ run-requires-after_bounds g c κs within =
 
 pub returns-in-Ok-run : goal.returns-in-Ok-run
 returns-in-Ok-run g c =
-    let tell : _ → LinksTold = λ links. links_told (g.L.Links.waits links) (g.L.Links.given links) (g.L.Links.handed links) (g.L.Links.faults links) in
+    let tell : _ → LinksTold = λ links. links_told (g.L.Links.is_open links) (g.L.Links.plans links) (g.L.Links.waits links) (g.L.Links.given links) (g.L.Links.handed links) (g.L.Links.faults links) in
     let plan = c.args.plan in
     let seats = of_plan plan c.slice-held.result.now c.slice-announced.result.now c.slice-read.result.now c.in-Ok.daemon.seats.items c.slice-held.ensures c.slice-announced.ensures c.slice-read.ensures c.in-Ok.ensures.seats in
     let ran = c.in-Ok-run.ensures (first_node plan.node) (crew_of plan) c.in-Ok.ensures.core seats in
