@@ -1,0 +1,51 @@
+-- Which elements pass a test, and what a filter leaves.
+use Rattle.std.proofs.Common.{zero, suc, ◌≡◌, ℕ, ◌<◌, Bool, true, false, cond, ◌||◌, List, [], ◌∷◌, length, filter, get_or, All, ◌⊎◌, inl, inr, refl, sym, ap, ◌∙◌, subst, true≢false, arith}
+use Rattle.std.specs.Prelude.{Any, Contains, slice_index_or}
+use Rattle.std.specs.List.{list_any}
+use Rattle.std.proofs.lemmas.List.Elements.{All-nil, All-cons, Contains-get_or}
+use Rattle.grasp_flood.specs.Laws.{IsPartOf}
+
+pub both_false : (s t : Bool) → (s || t) ≡ false → (s ≡ false) × (t ≡ false)
+both_false true t e = absurd (true≢false e)
+both_false false t e = (refl, e)
+
+pub any_here : {X : Type 0} (P : X → Type 0) (x : X) (xs : List X) → P x → Any P (x ∷ xs)
+any_here P x xs p = (0, x, omega arith, refl, p)
+
+pub any_later : {X : Type 0} (P : X → Type 0) (x : X) (xs : List X) → Any P xs → Any P (x ∷ xs)
+any_later P x xs (i, y, h, e, p) = (suc i, y, omega (arith, h), e, p)
+
+-- one that passes, where one does
+pub one_passes : {X : Type 0} (p : X → Bool) (P : X → Type 0) → ((x : X) → p x ≡ true → P x) → (xs : List X) → list_any p xs ≡ true → Any P xs
+one_passes p P means [] e = absurd (true≢false (sym e))
+one_passes p P means (x ∷ xs) e = by (p x) refl (one_passes p P means xs) e
+  where
+    by : (b : Bool) → p x ≡ b → (list_any p xs ≡ true → Any P xs) → (b || list_any p xs) ≡ true → Any P (x ∷ xs)
+    by true t rest h = any_here P x xs (means x t)
+    by false t rest h = any_later P x xs (rest h)
+
+-- none passes, where none does
+pub none_passes : {X : Type 0} (p : X → Bool) (P : X → Type 0) → ((x : X) → p x ≡ false → P x) → (xs : List X) → list_any p xs ≡ false → All P xs
+none_passes p P means [] e = All-nil P
+none_passes p P means (x ∷ xs) e =
+    let h = both_false (p x) (list_any p xs) e in
+    All-cons P x xs (means x h.0) (none_passes p P means xs h.1)
+
+-- a filter leaves a part, in the same order
+pub part_filter : {X : Type 0} (p : X → Bool) (xs : List X) → IsPartOf (filter p xs) xs
+part_filter p [] = refl
+part_filter p (x ∷ xs) = let rest = part_filter p xs in
+    elim (p x) as (λ b. IsPartOf (cond b (x ∷ filter p xs) (filter p xs)) (x ∷ xs)) [ true ↦ inr (filter p xs, refl, rest) | false ↦ inl rest ]
+
+-- a filter keeps what passes
+pub filter_keeps : {X : Type 0} (p : X → Bool) (xs : List X) (x : X) → Contains xs x → p x ≡ true → Contains (filter p xs) x
+filter_keeps p [] x (k, h, e) t = absurd (omega arith)
+filter_keeps p (y ∷ ys) x (zero, h, e) t =
+    let there : p y ≡ true = ap p e ∙ t in
+    subst (λ b. Contains (cond b (y ∷ filter p ys) (filter p ys)) x) (sym there) (0, omega arith, e)
+filter_keeps p (y ∷ ys) x (suc k, h, e) t =
+    let rest = filter_keeps p ys x (k, omega (arith, h), e) t in
+    elim (p y) as (λ b. Contains (cond b (y ∷ filter p ys) (filter p ys)) x) [ true ↦ (suc rest.0, omega (arith, rest.1), rest.2) | false ↦ rest ]
+
+pub all_stay : {X : Type 0} (p : X → Bool) (P : X → Type 0) → ((x : X) → P x → p x ≡ true) → (xs : List X) → All (λ x. P x → Contains (filter p xs) x) xs
+all_stay p P passes xs = λ k d h holds. filter_keeps p xs (get_or xs k d) (Contains-get_or xs k d h) (passes (get_or xs k d) holds)
