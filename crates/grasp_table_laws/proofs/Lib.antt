@@ -1,2 +1,5 @@
 pub mod Lists
 pub mod FloodLaws
+pub mod DiscoveryLaws
+pub mod Responses
+pub mod Lifetimes

@@ -1,5 +1,5 @@
 -- Which elements pass a test, and what a filter leaves.
-use Rattle.std.proofs.Common.{zero, suc, ◌≡◌, ℕ, ◌<◌, Bool, true, false, cond, ◌||◌, List, [], ◌∷◌, length, filter, get_or, All, ◌⊎◌, inl, inr, refl, sym, ap, ◌∙◌, subst, true≢false, arith}
+use Rattle.std.proofs.Common.{zero, suc, ◌≡◌, ℕ, ◌<◌, Bool, true, false, cond, ◌||◌, List, [], ◌∷◌, length, map, filter, get_or, All, ◌⊎◌, inl, inr, refl, sym, ap, ◌∙◌, subst, true≢false, arith}
 use Rattle.std.specs.Prelude.{Any, Contains, slice_index_or}
 use Rattle.std.specs.List.{list_any}
 use Rattle.std.proofs.lemmas.List.Elements.{All-nil, All-cons, Contains-get_or}
@@ -49,3 +49,36 @@ filter_keeps p (y ∷ ys) x (suc k, h, e) t =
 
 pub all_stay : {X : Type 0} (p : X → Bool) (P : X → Type 0) → ((x : X) → P x → p x ≡ true) → (xs : List X) → All (λ x. P x → Contains (filter p xs) x) xs
 all_stay p P passes xs = λ k d h holds. filter_keeps p xs (get_or xs k d) (Contains-get_or xs k d h) (passes (get_or xs k d) holds)
+
+-- Where one of a list is
+
+pub any_cases : {X : Type 0} (P : X → Type 0) (x : X) (xs : List X) → Any P (x ∷ xs) → P x ⊎ Any P xs
+any_cases P x xs (zero, y, h, e, p) = inl (subst P (sym e) p)
+any_cases P x xs (suc i, y, h, e, p) = inr (i, y, omega (arith, h), e, p)
+
+pub any_none : {X : Type 0} (P : X → Type 0) → Any P [] → ⊥
+any_none P (i, x, h, e, p) = omega (arith, h)
+
+pub any_weaker : {X : Type 0} (P Q : X → Type 0) → ((x : X) → P x → Q x) → (xs : List X) → Any P xs → Any Q xs
+any_weaker P Q weaker xs (i, x, h, e, p) = (i, x, h, e, weaker x p)
+
+-- each is one of the list
+pub all_any : {X : Type 0} (R : X → X → Type 0) → ((x : X) → R x x) → (xs : List X) → All (λ x. Any (R x) xs) xs
+all_any R same xs = λ k d h. let there = Contains-get_or xs k d h in (there.0, get_or xs k d, there.1, there.2, same (get_or xs k d))
+
+-- what a filter leaves is one of the list, and passes
+pub any_filter : {X : Type 0} (p : X → Bool) (P : X → Type 0) (xs : List X) → Any P (filter p xs) → Any (λ x. (p x ≡ true) × P x) xs
+any_filter p P [] a = absurd (any_none P a)
+any_filter p P (x ∷ xs) a = by (p x) refl (any_filter p P xs) a
+  where
+    by : (b : Bool) → p x ≡ b → (Any P (filter p xs) → Any (λ y. (p y ≡ true) × P y) xs) → Any P (cond b (x ∷ filter p xs) (filter p xs)) → Any (λ y. (p y ≡ true) × P y) (x ∷ xs)
+    by true t rest here = elim (any_cases P x (filter p xs) here) as (λ _. Any (λ y. (p y ≡ true) × P y) (x ∷ xs)) [
+      | inl q ↦ any_here (λ y. (p y ≡ true) × P y) x xs (t, q)
+      | inr q ↦ any_later (λ y. (p y ≡ true) × P y) x xs (rest q)
+    ]
+    by false t rest later = any_later (λ y. (p y ≡ true) × P y) x xs (rest later)
+
+pub contains_map : {X Y : Type 0} (f : X → Y) (xs : List X) (x : X) → Contains xs x → Contains (map f xs) (f x)
+contains_map f [] x (k, h, e) = absurd (omega arith)
+contains_map f (y ∷ ys) x (zero, h, e) = (0, omega arith, ap f e)
+contains_map f (y ∷ ys) x (suc k, h, e) = let rest = contains_map f ys x (k, omega (arith, h), e) in (suc rest.0, omega (arith, rest.1), rest.2)

@@ -1,6 +1,11 @@
 //! Laws of the tables of a node in plain terms: what they answer, what they keep and for how long. No code runs here.
 #![tactic(auto)]
 
+mod discoveries;
 mod floods;
 
+pub use discoveries::{
+    answers_are_cached, discoveries_are_known, known_is_live, locators_end_in_time,
+    memories_are_of_discoveries,
+};
 pub use floods::{drops_take_one, flood_ends_are_later, floods_are_known, known_floods_renew};
