@@ -3,3 +3,5 @@ pub mod FloodLaws
 pub mod DiscoveryLaws
 pub mod Responses
 pub mod Lifetimes
+pub mod RefusalLaws
+pub mod RegistryLaws

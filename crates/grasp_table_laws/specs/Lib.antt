@@ -1,2 +1,4 @@
 pub mod Floods
 pub mod Discoveries
+pub mod Refusals
+pub mod Registrations
