@@ -1,5 +1,5 @@
 -- What a node answers to a discovery, and what it remembers of it.
-use Rattle.std.proofs.Common.{zero, suc, ◌≡◌, ◌≢◌, ℕ, ◌<◌, ◌≤◌, Bool, true, false, cond, nat_lt, nat_eq, length, refl, sym, ap, ◌∙◌, true≢false, arith, ltb-true}
+use Rattle.std.proofs.Common.{◌≡◌, ◌≢◌, ℕ, ◌<◌, ◌≤◌, Bool, true, false, cond, nat_lt, nat_eq, length, refl, sym, ap, ◌∙◌, true≢false, arith, ltb-true}
 use Rattle.grasp_types.specs.declared.objective.Objective.{Objective}
 use Rattle.grasp_types.specs.declared.origin.Origin.{Origin}
 use Rattle.grasp_types.specs.declared.session.Kind.TheVariants.{Negotiation, Synchronization}
@@ -9,7 +9,7 @@ use Rattle.grasp_types.proofs.Same.{same_origin_decides}
 use Rattle.grasp_discovery.specs.declared.answers.Cause.{Cause}
 use Rattle.grasp_discovery.specs.declared.answers.Heard.TheVariants.{Known, NoPlace, New}
 use Rattle.grasp_discovery.specs.declared.memory.Memory.{Memory}
-use Rattle.grasp_discovery.specs.Discoveries.{Discoveries, remembers, memory_from, end_of}
+use Rattle.grasp_discovery.specs.Discoveries.{remembers, memory_from, end_of}
 use Rattle.grasp_table_laws.specs.Discoveries.{IsHeardAs, DiscoveriesAreKnown, IsMemoryOf, MemoriesAreOfDiscoveries, LocatorsEndInTime}
 use Rattle.grasp_table_laws.proofs.Lists.{one_passes, none_passes}
 

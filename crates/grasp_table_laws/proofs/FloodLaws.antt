@@ -11,9 +11,9 @@ use Rattle.grasp_flood.specs.declared.heard.Heard.TheVariants.{Known, NoPlace, N
 use Rattle.grasp_flood.specs.declared.keys.FloodKey.{FloodKey}
 use Rattle.grasp_flood.specs.declared.kept.FloodKept.{FloodKept}
 use Rattle.grasp_flood.specs.Flood.{same_key}
-use Rattle.grasp_flood.specs.Floods.{Floods, remembers, is_made_by, after_renewal, later_end, end_of}
+use Rattle.grasp_flood.specs.Floods.{remembers, is_made_by, after_renewal, later_end, end_of}
 use Rattle.grasp_flood.proofs.SameKeys.{same_key_decides}
-use Rattle.grasp_table_laws.specs.Floods.{IsHeardAs, FloodsAreKnown, IsMadeBy, IsRenewed, KnownFloodsRenew, DropsTakeOne, IsLater, FloodEndsAreLater}
+use Rattle.grasp_table_laws.specs.Floods.{IsHeardAs, FloodsAreKnown, IsRenewed, KnownFloodsRenew, DropsTakeOne, IsLater, FloodEndsAreLater}
 use Rattle.grasp_table_laws.proofs.Lists.{one_passes, none_passes, part_filter, all_stay}
 
 -- A test that decides whether two are one

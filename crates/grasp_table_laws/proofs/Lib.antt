@@ -5,3 +5,4 @@ pub mod Responses
 pub mod Lifetimes
 pub mod RefusalLaws
 pub mod RegistryLaws
+pub mod SynchronizationLaws

@@ -1,8 +1,7 @@
 -- What is told of a topic, and for how long.
-use Rattle.std.proofs.Common.{zero, suc, ◌≡◌, ℕ, ◌+◌, ◌-◌, ◌<◌, ◌≤◌, Bool, true, false, nat_lt, min, List, [], ◌∷◌, length, map, filter, fold, get_or, Option, Some, None, All, ◌⊎◌, inl, inr, refl, sym, ap, ◌∙◌, subst, arith, ltb-true, lt-ltb}
+use Rattle.std.proofs.Common.{◌≡◌, ℕ, ◌+◌, ◌-◌, ◌<◌, ◌≤◌, Bool, true, false, nat_lt, min, List, [], ◌∷◌, length, map, fold, All, ◌⊎◌, inl, inr, refl, sym, ap, ◌∙◌, subst, arith, ltb-true, lt-ltb}
 use Rattle.std.specs.Prelude.{Any, Contains, option_map}
-use Rattle.std.proofs.lemmas.List.Elements.{All-nil, All-cons, All-map, All-contains, All-weaker, All-contains_itself, Contains-get_or, filter_passes}
-use Rattle.grasp_types.specs.declared.address.Locator.{Locator}
+use Rattle.std.proofs.lemmas.List.Elements.{All-nil, All-cons, All-map, All-contains, All-weaker}
 use Rattle.grasp_discovery.specs.declared.cached.Cached.{Cached}
 use Rattle.grasp_discovery.specs.Discoveries.{is_live, live, least_left, locators_of, cached_under, known_of}
 use Rattle.grasp_table_laws.specs.Discoveries.{IsToldOf, IsKnownOf, KnownIsLive}
@@ -115,7 +114,7 @@ known_live all topic now = by (live now (cached_under topic all.entries)) refl
         (ended now (cached_under topic all.entries) e)
     by (x ∷ xs) e =
         let some : 1 ≤ length (map (λ (c : Cached). c.locator) (live now (cached_under topic all.entries))) =
-            subst (λ ys. 1 ≤ length (map (λ (c : Cached). c.locator) ys)) (sym e) (omega arith) in
+        subst (λ ys. 1 ≤ length (map (λ (c : Cached). c.locator) ys)) (sym e) (omega arith) in
         subst (λ ys. IsToldOf now (cached_under topic all.entries) (map (λ c. c.locator) ys) (least_left now ys)
-            → IsKnownOf now (cached_under topic all.entries) (option_map (λ ls. (ls, least_left now ys)) (locators_of ys))) (sym e) (λ t. t)
+        → IsKnownOf now (cached_under topic all.entries) (option_map (λ ls. (ls, least_left now ys)) (locators_of ys))) (sym e) (λ t. t)
         (told now (cached_under topic all.entries) some)

@@ -1,6 +1,6 @@
 -- Which elements pass a test, and what a filter leaves.
-use Rattle.std.proofs.Common.{zero, suc, ◌≡◌, ℕ, ◌<◌, Bool, true, false, cond, ◌||◌, List, [], ◌∷◌, length, map, filter, get_or, All, ◌⊎◌, inl, inr, refl, sym, ap, ◌∙◌, subst, true≢false, arith}
-use Rattle.std.specs.Prelude.{Any, Contains, slice_index_or}
+use Rattle.std.proofs.Common.{zero, suc, ◌≡◌, Bool, true, false, cond, ◌||◌, List, [], ◌∷◌, map, filter, get_or, All, ◌⊎◌, inl, inr, refl, sym, ap, ◌∙◌, subst, true≢false, arith}
+use Rattle.std.specs.Prelude.{Any, Contains}
 use Rattle.std.specs.List.{list_any}
 use Rattle.std.proofs.lemmas.List.Elements.{All-nil, All-cons, Contains-get_or}
 use Rattle.grasp_flood.specs.Laws.{IsPartOf}

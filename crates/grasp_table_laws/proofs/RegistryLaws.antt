@@ -1,12 +1,11 @@
 -- What the look-ups of a registry say of what is registered.
-use Rattle.std.proofs.Common.{zero, suc, ◌≡◌, ◌≢◌, ℕ, ◌<◌, Bool, true, false, cond, ◌&&◌, nat_eq, List, [], ◌∷◌, length, map, filter, get_or, Option, Some, None, ◌⊎◌, inl, inr, refl, sym, ap, ◌∙◌, subst, true≢false, arith, eq-eqb}
-use Rattle.std.specs.Prelude.{◌↔◌, Any, Contains, AllPairs, find, option_map, bytes_eq}
+use Rattle.std.proofs.Common.{zero, suc, ◌≡◌, ◌≢◌, ℕ, Bool, true, false, cond, ◌&&◌, List, [], ◌∷◌, map, filter, get_or, Option, Some, None, ◌⊎◌, inl, inr, refl, sym, ap, ◌∙◌, true≢false, arith, eq-eqb}
+use Rattle.std.specs.Prelude.{Any, Contains, AllPairs, find, option_map}
 use Rattle.std.proofs.lemmas.Slice.Eq.{bytes_eq-Decides}
-use Rattle.grasp_cbor.specs.DataItem.{DataItem}
 use Rattle.grasp_flood.specs.Laws.{IsPartOf}
 use Rattle.grasp_asa.specs.declared.entry.Registered.{Registered}
 use Rattle.grasp_asa.specs.Registrations.{Registrations, IsRegistry, is_named, is_owned_by}
-use Rattle.grasp_asa.specs.Answers.{flags_registered, listener_of, value_offered, offer_of, names_of}
+use Rattle.grasp_asa.specs.Answers.{flags_registered, listener_of, value_offered, offer_of}
 use Rattle.grasp_table_laws.specs.Registrations.{FlagsAreRegistered, ListenersAreRegistered, OffersAreRegistered, LookUpsSay, NamesSay}
 use Rattle.grasp_table_laws.proofs.Lists.{any_here, any_later, any_cases, any_none, any_weaker, any_filter}
 

@@ -1,20 +1,17 @@
 -- What a response leaves in the cache.
-use Rattle.std.proofs.Common.{zero, suc, ◌≡◌, ◌≢◌, ℕ, ◌+◌, ◌<◌, ◌≤◌, Bool, true, false, cond, ◌||◌, nat_lt, max, List, [], ◌∷◌, length, fold, Option, Some, None, All, ◌⊎◌, inl, inr, refl, sym, ap, ◌∙◌, subst, true≢false, arith}
+use Rattle.std.proofs.Common.{◌≡◌, ◌≢◌, ℕ, ◌≤◌, Bool, true, false, cond, ◌||◌, nat_lt, max, List, [], ◌∷◌, length, All, ◌⊎◌, inl, inr, refl, sym, ap, ◌∙◌, subst, true≢false, arith}
 use Rattle.std.specs.Prelude.{Contains}
 use Rattle.std.proofs.lemmas.List.Elements.{All-nil, All-cons, All-head, All-tail, All-weaker, All-contains_itself}
-use Rattle.grasp_types.specs.declared.address.Address.{Address}
 use Rattle.grasp_types.specs.declared.address.Locator.{Locator}
-use Rattle.grasp_types.specs.declared.origin.Origin.{Origin}
 use Rattle.grasp_types.specs.Same.{same_locator}
 use Rattle.grasp_types.proofs.Same.{same_locator_decides}
-use Rattle.grasp_discovery.specs.declared.answers.Answered.{Answered}
 use Rattle.grasp_discovery.specs.declared.cached.Cached.{Cached}
 use Rattle.grasp_discovery.specs.declared.topic.Topic.{Topic}
 use Rattle.grasp_discovery.specs.Topic.{same_topic}
-use Rattle.grasp_discovery.specs.Discoveries.{Discoveries, has_locator, put_locator, keep_locator, keep_locators, cached_under, has_topic, put_entry, after_response, after_answered, asker_of}
+use Rattle.grasp_discovery.specs.Discoveries.{Discoveries, has_locator, put_locator, keep_locator, keep_locators, cached_under, has_topic, put_entry, after_response, after_answered}
 use Rattle.grasp_discovery.proofs.SameTopics.{same_topic_decides}
-use Rattle.grasp_table_laws.specs.Discoveries.{IsCachedUntil, HasEightOthers, HasManyOthers, CachesWhatItTells, ResponsesAreCached, AnswersAreCached}
-use Rattle.grasp_table_laws.proofs.Lists.{both_false, any_here, any_later, any_cases, any_none, all_any, none_passes}
+use Rattle.grasp_table_laws.specs.Discoveries.{IsCachedUntil, HasEightOthers, HasManyOthers, CachesWhatItTells, AnswersAreCached}
+use Rattle.grasp_table_laws.proofs.Lists.{any_here, any_later, any_cases, any_none, all_any, none_passes}
 
 -- a cached locator with the later of two ends
 abbrev later : Cached → ℕ → Cached

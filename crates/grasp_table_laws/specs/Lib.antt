@@ -2,3 +2,4 @@ pub mod Floods
 pub mod Discoveries
 pub mod Refusals
 pub mod Registrations
+pub mod Synchronizations

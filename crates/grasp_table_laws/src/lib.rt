@@ -5,6 +5,7 @@ mod discoveries;
 mod floods;
 mod refusals;
 mod registrations;
+mod synchronizations;
 
 pub use discoveries::{
     answers_are_cached, discoveries_are_known, known_is_live, locators_end_in_time,
@@ -13,3 +14,4 @@ pub use discoveries::{
 pub use floods::{drops_take_one, flood_ends_are_later, floods_are_known, known_floods_renew};
 pub use refusals::{readings_are_sums, refusals_differ};
 pub use registrations::{look_ups_say, names_say};
+pub use synchronizations::{requesters_wait, synchronized_outcomes_came, synchs_are_heard};
