@@ -6,7 +6,7 @@ use Rattle.grasp_flood.specs.Laws.{IsPartOf}
 use Rattle.grasp_asa.specs.declared.entry.Registered.{Registered}
 use Rattle.grasp_asa.specs.Registrations.{Registrations, IsRegistry, is_named, is_owned_by}
 use Rattle.grasp_asa.specs.Answers.{flags_registered, listener_of, value_offered, offer_of}
-use Rattle.grasp_table_laws.specs.Registrations.{FlagsAreRegistered, ListenersAreRegistered, OffersAreRegistered, LookUpsSay, NamesSay}
+use Rattle.grasp_table_laws.specs.Registrations.{FlagsAreRegistered, ListenersAreRegistered, OffersAreRegistered, LookUpsAreRegistered, NamesAreRegistered}
 use Rattle.grasp_table_laws.proofs.Lists.{any_here, any_later, any_cases, any_none, any_weaker, any_filter}
 
 -- What is found
@@ -112,7 +112,7 @@ offers_say r is name value = (forth (find (is_named name) r.objectives) refl, ba
         ap offer_of (found_once name (is_named name) (name_means name) r.objectives is.objective_names x (k, x, h, e, (refl, named name x q.0)))
         ∙ q.1
 
-pub look_ups : LookUpsSay
+pub look_ups : LookUpsAreRegistered
 look_ups r is = record { flags = flags_say r is; listeners = listeners_say r is; offers = offers_say r is }
 
 -- The names of an agent
@@ -148,7 +148,7 @@ there_named p (o ∷ os) name a = by (p o) refl (any_cases (λ o. (p o ≡ true)
     by false e (inl h) rest = absurd (true≢false (sym h.0 ∙ e))
     by false e (inr h) rest = rest h
 
-pub names_own : NamesSay
+pub names_own : NamesAreRegistered
 names_own r asa = record {
   each = λ name. (
     λ there. any_weaker (λ o. (is_owned_by asa o ≡ true) × (o.name ≡ name)) (λ o. (o.owner ≡ asa) × (o.name ≡ name)) (λ o h. (owner_means asa o h.0, h.1)) r.objectives

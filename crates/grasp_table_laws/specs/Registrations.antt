@@ -20,19 +20,21 @@ abbrev pub OffersAreRegistered : Registrations → Type 0
 OffersAreRegistered r = (name : List ℕ) (value : DataItem)
     → value_offered r name ≡ Some value ↔ Any (λ o. (o.name ≡ name) × (o.offered ≡ Some value)) r.objectives
 
--- so it is in every registry
-pub record LookUpsAreRegistered (r : Registrations) : Type 0 where
+-- what is looked up under a name is what is registered under it
+pub record IsLookedUp (r : Registrations) : Type 0 where
   pub flags : FlagsAreRegistered r
   pub listeners : ListenersAreRegistered r
   pub offers : OffersAreRegistered r
 
-abbrev pub LookUpsSay : Type 0
-LookUpsSay = (r : Registrations) → IsRegistry r → LookUpsAreRegistered r
+-- so it is in every registry
+abbrev pub LookUpsAreRegistered : Type 0
+LookUpsAreRegistered = (r : Registrations) → IsRegistry r → IsLookedUp r
 
 -- the names of an agent are those of the objectives that it registered, in the order of their registration
 pub record NamesAreItsOwn (r : Registrations) (asa : ℕ) : Type 0 where
   pub each : (name : List ℕ) → Contains (names_of r asa) name ↔ Any (λ o. (o.owner ≡ asa) × (o.name ≡ name)) r.objectives
   pub order : IsPartOf (names_of r asa) (map (λ o. o.name) r.objectives)
 
-abbrev pub NamesSay : Type 0
-NamesSay = (r : Registrations) (asa : ℕ) → NamesAreItsOwn r asa
+-- so it is with each agent
+abbrev pub NamesAreRegistered : Type 0
+NamesAreRegistered = (r : Registrations) (asa : ℕ) → NamesAreItsOwn r asa

@@ -1,14 +1,14 @@
 //! What the look-ups of a registry say of what is registered. These functions say nothing at run time.
 
-ghost use Rattle.grasp_table_laws.specs.Registrations.{LookUpsSay, NamesSay};
+ghost use Rattle.grasp_table_laws.specs.Registrations.{LookUpsAreRegistered, NamesAreRegistered};
 
 /// The flags, the listener and the offered value of a name are those of the one objective that is registered under it, and
 /// none exactly where there is none such.
-pub fn look_ups_say()
-    ensures { LookUpsSay }
+pub fn look_ups_are_registered()
+    ensures { LookUpsAreRegistered }
 {}
 
 /// The names of an agent are exactly those of the objectives that it registered, in the order of their registration.
-pub fn names_say()
-    ensures { NamesSay }
+pub fn names_are_registered()
+    ensures { NamesAreRegistered }
 {}
