@@ -6,3 +6,4 @@ pub mod Lifetimes
 pub mod RefusalLaws
 pub mod RegistryLaws
 pub mod SynchronizationLaws
+pub mod SearchLaws

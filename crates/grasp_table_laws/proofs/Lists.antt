@@ -1,6 +1,6 @@
 -- Which elements pass a test, and what a filter leaves.
-use Rattle.std.proofs.Common.{zero, suc, ◌≡◌, Bool, true, false, cond, ◌||◌, List, [], ◌∷◌, map, filter, get_or, All, ◌⊎◌, inl, inr, refl, sym, ap, ◌∙◌, subst, true≢false, arith}
-use Rattle.std.specs.Prelude.{Any, Contains}
+use Rattle.std.proofs.Common.{zero, suc, ◌≡◌, Bool, true, false, cond, ◌&&◌, ◌||◌, Some, None, List, [], ◌∷◌, map, filter, get_or, All, ◌⊎◌, inl, inr, refl, sym, ap, ◌∙◌, subst, true≢false, arith}
+use Rattle.std.specs.Prelude.{Any, Contains, find}
 use Rattle.std.specs.List.{list_any}
 use Rattle.std.proofs.lemmas.List.Elements.{All-nil, All-cons, Contains-get_or}
 use Rattle.grasp_flood.specs.Laws.{IsPartOf}
@@ -82,3 +82,31 @@ pub contains_map : {X Y : Type 0} (f : X → Y) (xs : List X) (x : X) → Contai
 contains_map f [] x (k, h, e) = absurd (omega arith)
 contains_map f (y ∷ ys) x (zero, h, e) = (0, omega arith, ap f e)
 contains_map f (y ∷ ys) x (suc k, h, e) = let rest = contains_map f ys x (k, omega (arith, h), e) in (suc rest.0, omega (arith, rest.1), rest.2)
+
+-- What is found
+
+-- what `find` finds is one of the list, and passes
+pub found_one : {X : Type 0} (p : X → Bool) (xs : List X) (x : X) → find p xs ≡ Some x → Any (λ y. (y ≡ x) × (p y ≡ true)) xs
+found_one p [] x e = absurd (cc)
+found_one p (y ∷ ys) x e = by (p y) refl e (found_one p ys x)
+  where
+    by : (b : Bool) → p y ≡ b → cond b (Some y) (find p ys) ≡ Some x → (find p ys ≡ Some x → Any (λ z. (z ≡ x) × (p z ≡ true)) ys) → Any (λ z. (z ≡ x) × (p z ≡ true)) (y ∷ ys)
+    by true t s rest = let same : y ≡ x = cc in any_here (λ z. (z ≡ x) × (p z ≡ true)) y ys (same, t)
+    by false t s rest = any_later (λ z. (z ≡ x) × (p z ≡ true)) y ys (rest s)
+
+-- where `find` finds none, none passes
+pub found_none : {X : Type 0} (p : X → Bool) (xs : List X) → find p xs ≡ None → All (λ x. p x ≡ false) xs
+found_none p [] e = All-nil (λ x. p x ≡ false)
+found_none p (x ∷ xs) e = by (p x) refl e (found_none p xs)
+  where
+    by : (b : Bool) → p x ≡ b → cond b (Some x) (find p xs) ≡ None → (find p xs ≡ None → All (λ y. p y ≡ false) xs) → All (λ y. p y ≡ false) (x ∷ xs)
+    by true t s rest = absurd (cc)
+    by false t s rest = All-cons (λ y. p y ≡ false) x xs t (rest s)
+
+pub both : (s t : Bool) → (s && t) ≡ true → (s ≡ true) × (t ≡ true)
+both true t e = (refl, e)
+both false t e = absurd (true≢false (sym e))
+
+pub each : (s t : Bool) → s ≡ true → t ≡ true → (s && t) ≡ true
+each true t e d = d
+each false t e d = absurd (true≢false (sym e))

@@ -7,18 +7,9 @@ use Rattle.grasp_asa.specs.declared.entry.Registered.{Registered}
 use Rattle.grasp_asa.specs.Registrations.{Registrations, IsRegistry, is_named, is_owned_by}
 use Rattle.grasp_asa.specs.Answers.{flags_registered, listener_of, value_offered, offer_of}
 use Rattle.grasp_table_laws.specs.Registrations.{FlagsAreRegistered, ListenersAreRegistered, OffersAreRegistered, LookUpsAreRegistered, NamesAreRegistered}
-use Rattle.grasp_table_laws.proofs.Lists.{any_here, any_later, any_cases, any_none, any_weaker, any_filter}
+use Rattle.grasp_table_laws.proofs.Lists.{any_here, any_later, any_cases, any_none, any_weaker, any_filter, found_one, both}
 
 -- What is found
-
--- what `find` finds is one of the list, and passes
-found_one : {X : Type 0} (p : X → Bool) (xs : List X) (x : X) → find p xs ≡ Some x → Any (λ y. (y ≡ x) × (p y ≡ true)) xs
-found_one p [] x e = absurd (cc)
-found_one p (y ∷ ys) x e = by (p y) refl e (found_one p ys x)
-  where
-    by : (b : Bool) → p y ≡ b → cond b (Some y) (find p ys) ≡ Some x → (find p ys ≡ Some x → Any (λ z. (z ≡ x) × (p z ≡ true)) ys) → Any (λ z. (z ≡ x) × (p z ≡ true)) (y ∷ ys)
-    by true t s rest = let same : y ≡ x = cc in any_here (λ z. (z ≡ x) × (p z ≡ true)) y ys (same, t)
-    by false t s rest = any_later (λ z. (z ≡ x) × (p z ≡ true)) y ys (rest s)
 
 module _ (name : List ℕ) (p : Registered → Bool) (means : (o : Registered) → p o ≡ true → o.name ≡ name) where
   -- where no name is there twice, the one that passes is found
@@ -46,10 +37,6 @@ name_means name o e = (bytes_eq-Decides o.name name).0 e
 
 named : (name : List ℕ) (o : Registered) → o.name ≡ name → is_named name o ≡ true
 named name o e = (bytes_eq-Decides o.name name).1 e
-
-both : (s t : Bool) → (s && t) ≡ true → (s ≡ true) × (t ≡ true)
-both true t e = (refl, e)
-both false t e = absurd (true≢false (sym e))
 
 -- Flags
 

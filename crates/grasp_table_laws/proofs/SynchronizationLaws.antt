@@ -19,6 +19,7 @@ use Rattle.grasp_session.specs.Messages.{Side, Near, Far, is_side}
 use Rattle.grasp_session.specs.Transcript.{Mark, Expired, Closed, Starved, Faulty, Transcript, session_of, request_of, turn_of, is_mine, is_over, is_going, kept_of, last_offer, opening, outcome_of, mark_outcome, entries_outcome, message_outcome, verdict_outcome}
 use Rattle.grasp_session.specs.Transcript.{Saying, SayStep, SayWait, SayEnd, SayInvalid, act_of, refusal, message_of, having_said, after_said, is_negotiation, is_awaited, is_good_step, receive, with_kept, with_mark, after_heard, Deed, Does, Gets, Suffers, after_deed, after_deeds}
 use Rattle.grasp_session.specs.Made.{IsBuilt}
+use Rattle.grasp_table_laws.proofs.Lists.{both, each}
 use Rattle.grasp_table_laws.specs.Synchronizations.{IsSynchronized, OutcomesCame, IsAwaited, SynchsAreHeard, RequestersWait}
 
 -- Whatever befalls an end
@@ -59,14 +60,6 @@ module _ (P : Transcript → Type 0) (k : KeptByDeeds P) where
       (by_deeds (opening b.kind b.role b.timeout b.now b.session b.objective) b.deeds (k.opens b.kind b.role b.timeout b.now b.session b.objective))
 
 -- What is heard
-
-both : (s t : Bool) → (s && t) ≡ true → (s ≡ true) × (t ≡ true)
-both true t e = (refl, e)
-both false t e = absurd (true≢false (sym e))
-
-each : (s t : Bool) → s ≡ true → t ≡ true → (s && t) ≡ true
-each true t e d = d
-each false t e d = absurd (true≢false (sym e))
 
 kept_where : (going test : Bool) → cond going (cond test Kept Bad) Ignored ≡ Kept → (going ≡ true) × (test ≡ true)
 kept_where true true e = (refl, refl)

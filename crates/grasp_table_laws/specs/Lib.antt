@@ -3,3 +3,4 @@ pub mod Discoveries
 pub mod Refusals
 pub mod Registrations
 pub mod Synchronizations
+pub mod Searches
