@@ -1,7 +1,6 @@
 -- What a node answers to a flood, and what is left of what floods told.
-use Rattle.std.proofs.Common.{zero, suc, ◌≡◌, ◌≢◌, ℕ, ◌<◌, ◌≤◌, Bool, true, false, cond, not, nat_lt, nat_eq, max, List, [], ◌∷◌, length, map, filter, All, Option, Some, None, inl, inr, refl, sym, ap, ◌∙◌, true≢false, arith, ltb-true}
+use Rattle.std.proofs.Common.{zero, suc, ◌≡◌, ◌≢◌, ℕ, ◌<◌, ◌≤◌, Bool, true, false, cond, nat_lt, nat_eq, max, List, [], ◌∷◌, length, map, Option, Some, None, inl, inr, refl, sym, ap, ◌∙◌, true≢false, arith, ltb-true}
 use Rattle.std.specs.List.{AllZip}
-use Rattle.std.proofs.lemmas.List.Elements.{All-weaker, filter_passes}
 use Rattle.grasp_types.specs.declared.origin.Origin.{Origin}
 use Rattle.grasp_types.specs.Origin.{origin_of}
 use Rattle.grasp_types.specs.Same.{same_origin}
@@ -14,7 +13,7 @@ use Rattle.grasp_flood.specs.Flood.{same_key}
 use Rattle.grasp_flood.specs.Floods.{remembers, is_made_by, after_renewal, later_end, end_of}
 use Rattle.grasp_flood.proofs.SameKeys.{same_key_decides}
 use Rattle.grasp_table_laws.specs.Floods.{IsHeardAs, FloodsAreKnown, IsRenewed, KnownFloodsRenew, DropsTakeOne, IsLater, FloodEndsAreLater}
-use Rattle.grasp_table_laws.proofs.Lists.{one_passes, none_passes, part_filter, all_stay}
+use Rattle.grasp_table_laws.proofs.Lists.{one_passes, none_passes, has_dropped}
 
 -- A test that decides whether two are one
 
@@ -56,26 +55,15 @@ known_renew floods now flood ttl parts = (record { entries = all_renewed flood (
 
 -- What a drop leaves
 
-passes_other : (key : FloodKey) (entry : FloodKey × FloodKept) → entry.0 ≢ key → not (same_key key entry.0) ≡ true
-passes_other key entry other = by (same_key key entry.0) refl
-  where
-    by : (b : Bool) → same_key key entry.0 ≡ b → not b ≡ true
-    by true e = absurd (other (sym ((same_key_decides key entry.0).0 e)))
-    by false e = refl
+key_means : (key : FloodKey) (entry : FloodKey × FloodKept) → same_key key entry.0 ≡ true → entry.0 ≡ key
+key_means key entry e = sym ((same_key_decides key entry.0).0 e)
 
-other_passes : (key : FloodKey) (entry : FloodKey × FloodKept) → not (same_key key entry.0) ≡ true → entry.0 ≢ key
-other_passes key entry e same = true≢false (sym e ∙ ap not ((same_key_decides key entry.0).1 (sym same)))
-
-others_left : (key : FloodKey) (entries : List (FloodKey × FloodKept)) → All (λ entry. entry.0 ≢ key) (filter (λ entry. not (same_key key entry.0)) entries)
-others_left key entries =
-    All-weaker (λ entry. not (same_key key entry.0) ≡ true) (λ entry. entry.0 ≢ key) (other_passes key) (filter (λ entry. not (same_key key entry.0)) entries)
-    (filter_passes (λ entry. not (same_key key entry.0)) entries)
+is_key : (key : FloodKey) (entry : FloodKey × FloodKept) → entry.0 ≡ key → same_key key entry.0 ≡ true
+is_key key entry same = (same_key_decides key entry.0).1 (sym same)
 
 pub drops_one : DropsTakeOne
 drops_one floods key = record {
-  gone = others_left key floods.entries;
-  others = all_stay (λ entry. not (same_key key entry.0)) (λ entry. entry.0 ≢ key) (passes_other key) floods.entries;
-  order = part_filter (λ entry. not (same_key key entry.0)) floods.entries;
+  entries = has_dropped (λ entry. same_key key entry.0) (λ entry. entry.0 ≡ key) (key_means key) (is_key key) floods.entries;
   memories = refl;
 }
 

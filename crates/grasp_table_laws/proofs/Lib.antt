@@ -7,3 +7,4 @@ pub mod RefusalLaws
 pub mod RegistryLaws
 pub mod SynchronizationLaws
 pub mod SearchLaws
+pub mod RegistryCalls

@@ -1,9 +1,10 @@
 -- Which elements pass a test, and what a filter leaves.
-use Rattle.std.proofs.Common.{zero, suc, ◌≡◌, Bool, true, false, cond, ◌&&◌, ◌||◌, Some, None, List, [], ◌∷◌, map, filter, get_or, All, ◌⊎◌, inl, inr, refl, sym, ap, ◌∙◌, subst, true≢false, arith}
+use Rattle.std.proofs.Common.{zero, suc, ◌≡◌, Bool, true, false, cond, not, ◌&&◌, ◌||◌, Some, None, List, [], ◌∷◌, map, filter, get_or, All, ◌⊎◌, inl, inr, refl, sym, ap, ◌∙◌, subst, true≢false, arith}
 use Rattle.std.specs.Prelude.{Any, Contains, find}
 use Rattle.std.specs.List.{list_any}
-use Rattle.std.proofs.lemmas.List.Elements.{All-nil, All-cons, Contains-get_or}
+use Rattle.std.proofs.lemmas.List.Elements.{All-nil, All-cons, All-weaker, Contains-get_or, filter_passes}
 use Rattle.grasp_flood.specs.Laws.{IsPartOf}
+use Rattle.grasp_table_laws.specs.Dropping.{HasDropped}
 
 pub both_false : (s t : Bool) → (s || t) ≡ false → (s ≡ false) × (t ≡ false)
 both_false true t e = absurd (true≢false e)
@@ -110,3 +111,25 @@ both false t e = absurd (true≢false (sym e))
 pub each : (s t : Bool) → s ≡ true → t ≡ true → (s && t) ≡ true
 each true t e d = d
 each false t e d = absurd (true≢false (sym e))
+
+-- What has gone
+
+-- where a test that means something fails, that doesn't hold
+pub not_where : (b : Bool) (P : Type 0) → (P → b ≡ true) → b ≡ false → ¬ P
+not_where b P is e p = true≢false (sym (is p) ∙ e)
+
+passes_not : (b : Bool) (P : Type 0) → (b ≡ true → P) → ¬ P → not b ≡ true
+passes_not true P means n = absurd (n (means refl))
+passes_not false P means n = refl
+
+not_passes : (b : Bool) (P : Type 0) → (P → b ≡ true) → not b ≡ true → ¬ P
+not_passes b P is e p = true≢false (sym e ∙ ap not (is p))
+
+-- a filter drops what a test passes
+pub has_dropped : {X : Type 0} (p : X → Bool) (Gone : X → Type 0) → ((x : X) → p x ≡ true → Gone x) → ((x : X) → Gone x → p x ≡ true) → (xs : List X)
+    → HasDropped Gone xs (filter (λ x. not (p x)) xs)
+has_dropped p Gone means is xs = record {
+  gone = All-weaker (λ x. not (p x) ≡ true) (λ x. ¬ Gone x) (λ x. not_passes (p x) (Gone x) (is x)) (filter (λ x. not (p x)) xs) (filter_passes (λ x. not (p x)) xs);
+  others = all_stay (λ x. not (p x)) (λ x. ¬ Gone x) (λ x. passes_not (p x) (Gone x) (means x)) xs;
+  order = part_filter (λ x. not (p x)) xs;
+}

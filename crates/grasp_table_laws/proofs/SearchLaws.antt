@@ -1,7 +1,7 @@
 -- How a search stands, what ends it, and who asked for a response.
 use Rattle.std.proofs.Common.{◌≡◌, ◌≢◌, ℕ, Bool, true, false, cond, not, nat_eq, List, [], ◌∷◌, map, filter, Option, Some, None, All, refl, sym, ap, ◌∙◌, true≢false, arith, eq-eqb}
 use Rattle.std.specs.Prelude.{Any, find}
-use Rattle.std.proofs.lemmas.List.Elements.{All-nil, All-cons, All-weaker, filter_passes}
+use Rattle.std.proofs.lemmas.List.Elements.{All-nil, All-cons, All-weaker}
 use Rattle.grasp_types.specs.declared.address.Address.{Address}
 use Rattle.grasp_types.specs.declared.origin.Origin.{Origin}
 use Rattle.grasp_types.specs.Same.{same_address, same_origin}
@@ -16,7 +16,7 @@ use Rattle.grasp_discovery.specs.Topic.{same_topic}
 use Rattle.grasp_discovery.specs.Discoveries.{Discoveries, is_search_of, is_numbered, cached_under, locators_of, find_reply, memory_of, own_search, asked}
 use Rattle.grasp_discovery.proofs.SameTopics.{same_topic_decides}
 use Rattle.grasp_table_laws.specs.Searches.{IsSearchOf, StandsSo, FindsSay, DropsSearches, EndsSo, SearchesEnd, IsNotOwn, IsAskedBy, AskersAsked}
-use Rattle.grasp_table_laws.proofs.Lists.{any_here, any_later, any_weaker, part_filter, all_stay, found_one, found_none, both, each}
+use Rattle.grasp_table_laws.proofs.Lists.{any_here, any_later, any_weaker, found_one, found_none, both, each, not_where, has_dropped}
 
 -- What the tests mean
 
@@ -28,18 +28,6 @@ search_means asa topic search e =
 
 is_search : (asa : ℕ) (topic : Topic) (search : Search) → IsSearchOf asa topic search → is_search_of asa topic search ≡ true
 is_search asa topic search (a, t) = each (nat_eq search.asa asa) (same_topic topic search.topic) (eq-eqb search.asa asa a) ((same_topic_decides topic search.topic).1 (sym t))
-
--- where a test that means something fails, that doesn't hold
-not_where : (b : Bool) (P : Type 0) → (P → b ≡ true) → b ≡ false → ¬ P
-not_where b P means e p = true≢false (sym (means p) ∙ e)
-
--- where it doesn't hold, the test fails
-passes_not : (b : Bool) (P : Type 0) → (b ≡ true → P) → ¬ P → not b ≡ true
-passes_not true P means n = absurd (n (means refl))
-passes_not false P means n = refl
-
-not_passes : (b : Bool) (P : Type 0) → (P → b ≡ true) → not b ≡ true → ¬ P
-not_passes b P means e p = true≢false (sym e ∙ ap not (means p))
 
 -- How a search stands
 
@@ -78,16 +66,9 @@ finds_say all asa topic = by (cached_under topic all.entries) refl (find (is_sea
 abbrev without : (Search → Bool) → Discoveries → Discoveries
 without p all = record all { searches = filter (λ search. not (p search)) all.searches }
 
-drops : (p : Search → Bool) (Which : Search → Type 0) → ((search : Search) → p search ≡ true → Which search) → ((search : Search) → Which search → p search ≡ true)
-    → (all : Discoveries) → DropsSearches Which all (without p all)
-drops p Which means is all = record {
-  gone = All-weaker (λ search. not (p search) ≡ true) (λ search. ¬ Which search) (λ search. not_passes (p search) (Which search) (is search))
-      (filter (λ search. not (p search)) all.searches) (filter_passes (λ search. not (p search)) all.searches);
-  others = all_stay (λ search. not (p search)) (λ search. ¬ Which search) (λ search. passes_not (p search) (Which search) (means search)) all.searches;
-  order = part_filter (λ search. not (p search)) all.searches;
-  entries = refl;
-  memories = refl;
-}
+drops : (p : Search → Bool) (Gone : Search → Type 0) → ((search : Search) → p search ≡ true → Gone search) → ((search : Search) → Gone search → p search ≡ true)
+    → (all : Discoveries) → DropsSearches Gone all (without p all)
+drops p Gone means is all = record { searches = has_dropped p Gone means is all.searches; entries = refl; memories = refl }
 
 ends_so : (all : Discoveries) (asa : ℕ) (topic : Topic) (answer : Find) → EndsSo all asa topic answer
 ends_so all asa topic (Found locators) = drops (is_search_of asa topic) (IsSearchOf asa topic) (search_means asa topic) (is_search asa topic) all

@@ -1,5 +1,5 @@
 -- What a node answers to a flood, and what is left of what floods told (RFC 8990, section 2.5.6.2).
-use Rattle.std.specs.Prelude.{◌≡◌, ◌≢◌, ℕ, ◌<◌, ◌≤◌, ◌⊎◌, List, length, Option, Some, None, All, Any, Contains}
+use Rattle.std.specs.Prelude.{◌≡◌, ◌≢◌, ℕ, ◌<◌, ◌≤◌, ◌⊎◌, List, length, Option, Some, None, All, Any}
 use Rattle.std.specs.Bool.{⊤}
 use Rattle.std.specs.List.{AllZip}
 use Rattle.grasp_types.specs.declared.flood.FloodPart.{FloodPart}
@@ -11,7 +11,7 @@ use Rattle.grasp_flood.specs.declared.heard.Heard.TheVariants.{Known, NoPlace, N
 use Rattle.grasp_flood.specs.declared.keys.FloodKey.{FloodKey}
 use Rattle.grasp_flood.specs.declared.kept.FloodKept.{FloodKept}
 use Rattle.grasp_flood.specs.Floods.{Floods, end_of, later_end, heard_reply, after_heard, after_drop}
-use Rattle.grasp_flood.specs.Laws.{IsPartOf}
+use Rattle.grasp_table_laws.specs.Dropping.{HasDropped}
 
 -- the flood is not remembered
 abbrev pub IsUnknown : Floods → Origin → Type 0
@@ -47,11 +47,9 @@ abbrev pub KnownFloodsRenew : Type 0
 KnownFloodsRenew = (floods : Floods) (now : ℕ) (flood : Origin) (ttl : ℕ) (parts : List FloodPart)
     → RenewsItsOwn floods now flood ttl parts × (after_heard floods now flood ttl parts NoPlace ≡ floods)
 
--- without a key: nothing is kept under it, whatever is kept under another stays, in the same order, and so do the memories
+-- without a key: what is kept under it has gone, and nothing else
 pub record DropsTheKey (floods : Floods) (key : FloodKey) : Type 0 where
-  pub gone : All (λ entry. entry.0 ≢ key) (after_drop floods key).entries
-  pub others : All (λ entry. entry.0 ≢ key → Contains (after_drop floods key).entries entry) floods.entries
-  pub order : IsPartOf (after_drop floods key).entries floods.entries
+  pub entries : HasDropped (λ entry. entry.0 ≡ key) floods.entries (after_drop floods key).entries
   pub memories : (after_drop floods key).memories ≡ floods.memories
 
 -- so it is with each key

@@ -1,9 +1,8 @@
 -- How a search stands, what ends it, and who asked for a response (RFC 8990, section 2.5.4).
-use Rattle.std.specs.Prelude.{◌≡◌, ◌≢◌, ℕ, ◌≤◌, true, false, [], ◌∷◌, ◌++◌, length, map, Option, Some, None, All, Any, Contains}
+use Rattle.std.specs.Prelude.{◌≡◌, ◌≢◌, ℕ, ◌≤◌, true, false, [], ◌∷◌, ◌++◌, length, map, Option, Some, None, All, Any}
 use Rattle.grasp_types.specs.declared.address.Address.{Address}
 use Rattle.grasp_types.specs.declared.origin.Origin.{Origin}
 use Rattle.grasp_types.specs.Reading.{reading_after}
-use Rattle.grasp_flood.specs.Laws.{IsPartOf}
 use Rattle.grasp_discovery.specs.declared.answers.Answered.{Answered}
 use Rattle.grasp_discovery.specs.declared.answers.Answered.TheVariants.{Mine, Relay, Stranger}
 use Rattle.grasp_discovery.specs.declared.answers.Find.{Find}
@@ -11,6 +10,7 @@ use Rattle.grasp_discovery.specs.declared.answers.Find.TheVariants.{Found, NotYe
 use Rattle.grasp_discovery.specs.declared.search.Search.{Search}
 use Rattle.grasp_discovery.specs.declared.topic.Topic.{Topic}
 use Rattle.grasp_discovery.specs.Discoveries.{Discoveries, cached_under, find_answer, after_find, without_asa, search_from, with_search, asker_of}
+use Rattle.grasp_table_laws.specs.Dropping.{HasDropped}
 
 -- the search is this agent's for this topic
 abbrev pub IsSearchOf : ℕ → Topic → Search → Type 0
@@ -28,11 +28,9 @@ StandsSo all asa topic Fresh = (cached_under topic all.entries ≡ []) × All (�
 abbrev pub FindsSay : Type 0
 FindsSay = (all : Discoveries) (asa : ℕ) (topic : Topic) → StandsSo all asa topic (find_answer all asa topic)
 
--- these searches have gone, and no other; all else is as it was
-pub record DropsSearches (Which : Search → Type 0) (all after : Discoveries) : Type 0 where
-  pub gone : All (λ search. ¬ Which search) after.searches
-  pub others : All (λ search. ¬ Which search → Contains after.searches search) all.searches
-  pub order : IsPartOf after.searches all.searches
+-- these searches have gone, and nothing else
+pub record DropsSearches (Gone : Search → Type 0) (all after : Discoveries) : Type 0 where
+  pub searches : HasDropped Gone all.searches after.searches
   pub entries : after.entries ≡ all.entries
   pub memories : after.memories ≡ all.memories
 

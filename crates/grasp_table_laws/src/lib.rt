@@ -14,6 +14,6 @@ pub use discoveries::{
 };
 pub use floods::{drops_take_one, flood_ends_are_later, floods_are_known, known_floods_renew};
 pub use refusals::{readings_are_sums, refusals_differ};
-pub use registrations::{look_ups_are_registered, names_are_registered};
+pub use registrations::{look_ups_are_registered, names_are_registered, registries_are_left};
 pub use searches::{askers_asked, finds_say, searches_end};
 pub use synchronizations::{requesters_wait, synchronized_outcomes_came, synchs_are_heard};
