@@ -1,5 +1,6 @@
 -- What a node answers to a discovery, and what it remembers of it.
 use Rattle.std.proofs.Common.{◌≡◌, ◌≢◌, ℕ, ◌<◌, ◌≤◌, Bool, true, false, cond, nat_lt, nat_eq, length, refl, sym, ap, ◌∙◌, true≢false, arith, ltb-true}
+use Rattle.std.proofs.lemmas.List.Elements.{Contains-push}
 use Rattle.grasp_types.specs.declared.objective.Objective.{Objective}
 use Rattle.grasp_types.specs.declared.origin.Origin.{Origin}
 use Rattle.grasp_types.specs.declared.session.Kind.TheVariants.{Negotiation, Synchronization}
@@ -9,9 +10,9 @@ use Rattle.grasp_types.proofs.Same.{same_origin_decides}
 use Rattle.grasp_discovery.specs.declared.answers.Cause.{Cause}
 use Rattle.grasp_discovery.specs.declared.answers.Heard.TheVariants.{Known, NoPlace, New}
 use Rattle.grasp_discovery.specs.declared.memory.Memory.{Memory}
-use Rattle.grasp_discovery.specs.Discoveries.{remembers, memory_from, end_of}
-use Rattle.grasp_table_laws.specs.Discoveries.{IsHeardAs, DiscoveriesAreKnown, IsMemoryOf, MemoriesAreOfDiscoveries, LocatorsEndInTime}
-use Rattle.grasp_table_laws.proofs.Lists.{one_passes, none_passes}
+use Rattle.grasp_discovery.specs.Discoveries.{Discoveries, remembers, memory_from, end_of}
+use Rattle.grasp_table_laws.specs.Discoveries.{IsHeardAs, DiscoveriesAreKnown, IsMemoryOf, RemembersIt, MemoriesAreOfDiscoveries, LocatorsEndInTime}
+use Rattle.grasp_table_laws.proofs.Lists.{one_passes, none_passes, one_more}
 
 same_means : (origin : Origin) (memory : Origin × Memory) → same_origin origin memory.0 ≡ true → memory.0 ≡ origin
 same_means origin memory e = sym ((same_origin_decides origin memory.0).0 e)
@@ -38,8 +39,16 @@ memory_of now cause objective = record {
   end = refl;
 }
 
+remembers_it : (all : Discoveries) (origin : Origin) (memory : Memory) → RemembersIt all origin memory
+remembers_it all origin memory = record {
+  memories = one_more all.memories (origin, memory);
+  itself = Contains-push all.memories (origin, memory);
+  searches = refl;
+  entries = refl;
+}
+
 pub memories_of : MemoriesAreOfDiscoveries
-memories_of = record { memory = memory_of; known = λ all origin memory. refl; no_place = λ all origin memory. refl }
+memories_of = record { memory = memory_of; new = remembers_it; known = λ all origin memory. refl; no_place = λ all origin memory. refl }
 
 -- When locators end
 

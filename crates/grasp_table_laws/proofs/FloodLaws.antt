@@ -13,7 +13,7 @@ use Rattle.grasp_flood.specs.Flood.{same_key}
 use Rattle.grasp_flood.specs.Floods.{remembers, is_made_by, after_renewal, later_end, end_of}
 use Rattle.grasp_flood.proofs.SameKeys.{same_key_decides}
 use Rattle.grasp_table_laws.specs.Floods.{IsHeardAs, FloodsAreKnown, IsRenewed, KnownFloodsRenew, DropsTakeOne, IsLater, FloodEndsAreLater}
-use Rattle.grasp_table_laws.proofs.Lists.{one_passes, none_passes, has_dropped}
+use Rattle.grasp_table_laws.proofs.Lists.{one_passes, none_passes, has_dropped, one_more}
 
 -- A test that decides whether two are one
 
@@ -51,7 +51,11 @@ all_renewed flood last [] = tt
 all_renewed flood last (e ∷ es) = (renewed flood last e, all_renewed flood last es)
 
 pub known_renew : KnownFloodsRenew
-known_renew floods now flood ttl parts = (record { entries = all_renewed flood (end_of now ttl) floods.entries; memories = refl }, refl)
+known_renew floods now flood ttl parts = (
+  record { entries = all_renewed flood (end_of now ttl) floods.entries; memories = refl },
+  one_more floods.memories (flood, reading_after now 120000),
+  refl,
+)
 
 -- What a drop leaves
 

@@ -1,8 +1,8 @@
 -- Which elements pass a test, and what a filter leaves.
-use Rattle.std.proofs.Common.{zero, suc, ◌≡◌, Bool, true, false, cond, not, ◌&&◌, ◌||◌, Some, None, List, [], ◌∷◌, map, filter, get_or, All, ◌⊎◌, inl, inr, refl, sym, ap, ◌∙◌, subst, true≢false, arith}
+use Rattle.std.proofs.Common.{zero, suc, ◌≡◌, Bool, true, false, cond, not, ◌&&◌, ◌||◌, Some, None, List, [], ◌∷◌, ◌++◌, map, filter, get_or, All, ◌⊎◌, inl, inr, refl, sym, ap, ◌∙◌, subst, true≢false, arith}
 use Rattle.std.specs.Prelude.{Any, Contains, find}
 use Rattle.std.specs.List.{list_any}
-use Rattle.std.proofs.lemmas.List.Elements.{All-nil, All-cons, All-weaker, Contains-get_or, filter_passes}
+use Rattle.std.proofs.lemmas.List.Elements.{All-nil, All-cons, All-weaker, All-push, All-contains_itself, Contains-get_or, filter_passes}
 use Rattle.grasp_flood.specs.Laws.{IsPartOf}
 use Rattle.grasp_table_laws.specs.Dropping.{HasDropped}
 
@@ -133,3 +133,7 @@ has_dropped p Gone means is xs = record {
   others = all_stay (λ x. not (p x)) (λ x. ¬ Gone x) (λ x. passes_not (p x) (Gone x) (means x)) xs;
   order = part_filter (λ x. not (p x)) xs;
 }
+
+-- one more is the last
+pub one_more : {X : Type 0} (xs : List X) (x : X) → All (λ y. Contains xs y ⊎ (y ≡ x)) (xs ++ x ∷ [])
+one_more xs x = All-push (λ y. Contains xs y ⊎ (y ≡ x)) xs x (All-weaker (Contains xs) (λ y. Contains xs y ⊎ (y ≡ x)) (λ y there. inl there) xs (All-contains_itself xs)) (inr refl)

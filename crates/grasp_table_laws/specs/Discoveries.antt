@@ -41,9 +41,17 @@ pub record IsMemoryOf (now : ℕ) (from : Cause) (objective : Objective) (memory
   pub synchronization : has_neg objective.flags ≡ false → memory.topic.kind ≡ Synchronization
   pub end : memory.end ≡ reading_after now 60000
 
+-- a new discovery is remembered so, and else nothing changes
+pub record RemembersIt (all : Discoveries) (origin : Origin) (memory : Memory) : Type 0 where
+  pub memories : All (λ one. Contains all.memories one ⊎ (one ≡ (origin, memory))) (after_heard all origin memory New).memories
+  pub itself : Contains (after_heard all origin memory New).memories (origin, memory)
+  pub searches : (after_heard all origin memory New).searches ≡ all.searches
+  pub entries : (after_heard all origin memory New).entries ≡ all.entries
+
 -- so it is with each; and one that is known, or has no place, changes nothing
 pub record MemoriesAreOfDiscoveries : Type 0 where
   pub memory : (now : ℕ) (cause : Cause) (objective : Objective) → IsMemoryOf now cause objective (memory_from now cause objective)
+  pub new : (all : Discoveries) (origin : Origin) (memory : Memory) → RemembersIt all origin memory
   pub known : (all : Discoveries) (origin : Origin) (memory : Memory) → after_heard all origin memory Known ≡ all
   pub no_place : (all : Discoveries) (origin : Origin) (memory : Memory) → after_heard all origin memory NoPlace ≡ all
 

@@ -1,5 +1,5 @@
 -- What a node answers to a flood, and what is left of what floods told (RFC 8990, section 2.5.6.2).
-use Rattle.std.specs.Prelude.{◌≡◌, ◌≢◌, ℕ, ◌<◌, ◌≤◌, ◌⊎◌, List, length, Option, Some, None, All, Any}
+use Rattle.std.specs.Prelude.{◌≡◌, ◌≢◌, ℕ, ◌<◌, ◌≤◌, ◌⊎◌, List, length, Option, Some, None, All, Any, Contains}
 use Rattle.std.specs.Bool.{⊤}
 use Rattle.std.specs.List.{AllZip}
 use Rattle.grasp_types.specs.declared.flood.FloodPart.{FloodPart}
@@ -42,10 +42,15 @@ pub record RenewsItsOwn (floods : Floods) (now : ℕ) (flood : Origin) (ttl : �
   pub entries : AllZip (IsRenewed flood (end_of now ttl)) floods.entries (after_heard floods now flood ttl parts Known).entries
   pub memories : (after_heard floods now flood ttl parts Known).memories ≡ floods.memories
 
+-- what is remembered after a new flood was remembered before, or is this flood, for 120000 ms
+abbrev pub RemembersIt : Floods → ℕ → Origin → ℕ → List FloodPart → Type 0
+RemembersIt floods now flood ttl parts =
+    All (λ memory. Contains floods.memories memory ⊎ (memory ≡ (flood, reading_after now 120000))) (after_heard floods now flood ttl parts New).memories
+
 -- so it is with each, and one without a place changes nothing
 abbrev pub KnownFloodsRenew : Type 0
 KnownFloodsRenew = (floods : Floods) (now : ℕ) (flood : Origin) (ttl : ℕ) (parts : List FloodPart)
-    → RenewsItsOwn floods now flood ttl parts × (after_heard floods now flood ttl parts NoPlace ≡ floods)
+    → RenewsItsOwn floods now flood ttl parts × RemembersIt floods now flood ttl parts × (after_heard floods now flood ttl parts NoPlace ≡ floods)
 
 -- without a key: what is kept under it has gone, and nothing else
 pub record DropsTheKey (floods : Floods) (key : FloodKey) : Type 0 where

@@ -8,8 +8,8 @@ pub fn discoveries_are_known()
     ensures { DiscoveriesAreKnown }
 {}
 
-/// What is remembered of a discovery is the neighbour that caused it and what it looks for, for 60000 ms. One that is
-/// known, or has no place, changes nothing.
+/// What is remembered of a discovery is the neighbour that caused it and what it looks for, for 60000 ms; a new one is
+/// remembered so, and else nothing changes. One that is known, or has no place, changes nothing.
 pub fn memories_are_of_discoveries()
     ensures { MemoriesAreOfDiscoveries }
 {}

@@ -8,7 +8,7 @@ pub fn floods_are_known()
 {}
 
 /// A known flood renews what it told to the later of the two ends, and changes nothing else; one without a place changes
-/// nothing.
+/// nothing; and after a new one no other is remembered than before, but for itself.
 pub fn known_floods_renew()
     ensures { KnownFloodsRenew }
 {}
