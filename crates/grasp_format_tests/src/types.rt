@@ -1,29 +1,18 @@
-//! Ranges at their edges, copies and comparisons.
+//! Lists and copies.
 
-use grasp_cbor::{Chars, Item, Items, Octets};
+use grasp_cbor::{Chars, Item, Octets};
 use grasp_types::*;
 use std::alloc::Global;
 use std::fmt::Debug;
 use std::process::Abort;
 use std::test::Fail;
 
-/// An item that nests so deep: empty lists within lists.
-fn nested(alloc: Global, depth: u64) -> Result<Item, Fail> {
-    let mut item = Item::Uint(7);
-    for _ in 0..depth {
-        let mut items = Items::new(alloc);
-        items.push(item)?;
-        item = Item::List(items);
-    }
-    Ok(item)
-}
-
 fn objective(alloc: Global, loops: u8) -> Result<Objective, Fail> {
     Ok(Objective {
         name: Chars::of(alloc, "PrefixManager")?,
         flags: Flags::DISC_NEG,
         loops,
-        value: Some(Value::of(nested(alloc, 13)?).map_err(|_| "value")?),
+        value: Some(Value::of(Item::Uint(7)).map_err(|_| "value")?),
     })
 }
 
@@ -41,40 +30,6 @@ fn copies<T: Debug + Drop + Plain>(rt: &impl Abort, alloc: Global, a: &T) -> Res
     let b = a.copy()?;
     let second = format!(in alloc; "{b:?}")?;
     assert_eq!(rt; first.as_str(), second.as_str());
-    Ok(())
-}
-
-#[test]
-fn prefixes_and_flags_at_the_edges(rt: HostRuntime) {
-    for (address, length, is_prefix) in [
-        (0, 0, false),
-        (1 << 127, 1, true),
-        (1 << 126, 1, false),
-        (1, 128, true),
-        (0, 129, false),
-    ] {
-        assert_eq!(rt; Prefix::of(address, length).is_some(), is_prefix);
-    }
-    assert!(rt; Flags::of(16).is_none());
-    let flags = Flags::DISC_NEG.with_dry(true);
-    assert_eq!(rt; flags.bits(), 11);
-    assert!(rt; flags.has_disc() && flags.has_dry());
-    assert!(rt; flags.has_kind(Kind::Negotiation));
-    assert!(rt; !flags.has_kind(Kind::Synchronization));
-}
-
-#[test]
-fn addresses_and_locators(rt: HostRuntime) -> Result<(), Fail> {
-    let loopback = Address::of_bytes(&[0x7f, 0, 0, 1]);
-    assert_eq!(rt; loopback, Some(Address::V4(0x7f00_0001)));
-    let uri = locator(rt.alloc())?;
-    let dialable = Locator::V4 {
-        address: 0x7f00_0001,
-        proto: Proto::Tcp,
-        port: 7017,
-    };
-    assert!(rt; dialable.is_dialable() && !uri.is_dialable());
-    assert!(rt; uri == uri.copy()? && uri != dialable);
     Ok(())
 }
 
@@ -137,10 +92,4 @@ fn copies_of_messages_inputs_and_replies(rt: HostRuntime) -> Result<(), Fail> {
     })?;
     copies(&rt, alloc, &Reply::Outputs(outputs))?;
     Ok(())
-}
-
-#[test]
-fn refusals(rt: HostRuntime) {
-    assert_eq!(rt; ApiRefused::LoopsSpent.number(), 14);
-    assert_eq!(rt; ApiRefused::LoopsSpent.name(), "LoopsSpent");
 }

@@ -22,7 +22,7 @@ pub fn answer_text(alloc: Global, out: &mut String, reply: &Reply) -> Result<(),
 }
 
 /// Appends a refusal, by its number and its name.
-fn push_refused(out: &mut String, refused: ApiRefused) -> Result<(), OutOfMemory> {
+pub fn push_refused(out: &mut String, refused: ApiRefused) -> Result<(), OutOfMemory> {
     push_word(out, "refused")?;
     push_number(out, u64::from(refused.number()))?;
     push_word(out, refused.name())
@@ -53,7 +53,7 @@ fn push_api(alloc: Global, out: &mut String, answer: &ApiAnswer) -> Result<(), O
 }
 
 /// Appends a word and a number.
-fn push_numbered(out: &mut String, word: &str, number: u64) -> Result<(), OutOfMemory> {
+pub fn push_numbered(out: &mut String, word: &str, number: u64) -> Result<(), OutOfMemory> {
     push_word(out, word)?;
     push_number(out, number)
 }
@@ -68,7 +68,11 @@ fn push_found(alloc: Global, out: &mut String, locators: &[Locator]) -> Result<(
 }
 
 /// Appends what floods told.
-fn push_floods(alloc: Global, out: &mut String, reads: &[FloodRead]) -> Result<(), OutOfMemory> {
+pub fn push_floods(
+    alloc: Global,
+    out: &mut String,
+    reads: &[FloodRead],
+) -> Result<(), OutOfMemory> {
     push_word(out, "floods")?;
     for read in reads {
         push_address(alloc, out, read.initiator)?;

@@ -44,7 +44,7 @@ fn read_datagram(alloc: Global, words: &mut Words<'_>) -> Result<Input, LineFaul
 }
 
 /// Takes bytes.
-fn read_bytes(alloc: Global, words: &mut Words<'_>) -> Result<Octets, LineFault> {
+pub fn read_bytes(alloc: Global, words: &mut Words<'_>) -> Result<Octets, LineFault> {
     let (word, _) = words.next()?;
     match bytes(alloc, word)? {
         Some(bytes) => Ok(Octets::from_vec(bytes)),

@@ -1,6 +1,6 @@
-//! Worked rows of single steps of nodes. Standard input is a table of rows; a row is inputs of nodes to which nothing has
-//! happened before it, each with the answer that must come. What differs is written, and last how many rows there are and
-//! how many differ.
+//! Worked rows of single steps of nodes, and of what nodes are made of. Standard input is a table of rows; a row is lines
+//! with the answer that must come to each, and nothing has happened before it. What differs is written, and last how many
+//! rows there are and how many differ.
 //!
 //! A table is lines; one that begins with `#` is a comment, and empty ones are passed over. `row NAME` begins a row, and
 //! these lines belong to it:
@@ -10,7 +10,8 @@
 //! - `NODE NOW INPUT = ANSWER` is one step: the node's number, the reading of its clock, the input, and its answer;
 //! - `NODE kept = COUNT`, `NODE reading = NOW`, `NODE stream HANDLE = STREAM` and `NODE state STREAM = SESSION goes` are what
 //!   can be read of a node: with `ends` for `goes` where the session has an outcome, and `none` where there is nothing;
-//! - `NODE opens = yes` tells that the node can be opened, and with `no` that it can't.
+//! - `NODE opens = yes` tells that the node can be opened, and with `no` that it can't;
+//! - lines of agents, of pools and of bytes, which stand below.
 //!
 //! Node k has the address whose bytes are `fd`, fourteen zero bytes and k; it listens there with TCP on port 7017. Its seed
 //! is 31 zero bytes and k. Its links are those of the row that name it, in order, and its neighbours on one are the other
@@ -33,6 +34,24 @@
 //! BYTES`, `dial STREAM LOCATOR`, `send STREAM BYTES` and `close STREAM`. Texts, values, bytes, addresses, objectives and
 //! locators are written as in the line of a message.
 //!
+//! A node may have an agent that decides for itself. `NODE agent prefix ADDRESS LENGTH .. = open` opens one with these roots,
+//! `NODE agent beacon NUMBER TTL LOOPS TEXT VALUE = open` and `NODE agent reader NUMBER TEXT = open` open the others; what is
+//! answered for bad roots stands at the pools. `NODE NOW next CALL = ANSWER` makes the agent's next call, which must be this
+//! one, and tells the agent the answer; where it is another, the answer is `makes` and that call. `NODE want LENGTH LONGEST PEER`
+//! is answered `ok`, `busy LENGTH LONGEST` or `full`. `NODE tells` is answered `wanting` or `content`, how the last want ended, and
+//! the pool; of a reader what it has read; and of a beacon nothing but the word.
+//!
+//! A row may have a pool. `pool open ADDRESS LENGTH .. = open` opens it with these roots, or the answer is `toomany`, `badroot
+//! PLACE` or `overlap FIRST SECOND`. `pool take LENGTH` is answered by a prefix or `none`; `pool back PREFIX`, `pool confirm PREFIX` and
+//! `pool doubt PREFIX` by `done` or `unreserved`; `pool gain PREFIX` by `can gained`, `cannot overlaps PREFIX` or `cannot full`;
+//! `pool room` by a count; and `pool holds` by `free PREFIX .. reserved PREFIX .. doubt PREFIX ..`.
+//!
+//! `item LIMIT BYTES` is answered by the shortest encoding of the item that begins the bytes and, where bytes follow it, by how
+//! many it takes, or by `partial`, `malformed AT`, `nottext AT`, `toodeep AT` or `toolong`. `message LIMIT BYTES` is answered by the line
+//! of the one message that the bytes are, or by such a word, `notmessage AT`, `truncated AT` or `trailing AT`; `line LIMIT LINE` by
+//! the bytes of the line's message, `badtext AT` or `toolong`. `stream LIMIT SIZE BYTES` cuts bytes that come in pieces of this size:
+//! the answer has each message behind the count of bytes that had come, then `taken COUNT waiting COUNT`.
+//!
 //! `for COUNT WORD ..` and `end` stand around lines that are run so often. In a line `{i}` is 0, 1, 2 and so on, `{next}` is 1,
 //! 2, 3, `{even}` is 0, 2, 4, `{odd}` is 1, 3, 5, `{word}` is the word of this turn, and `{COUNT*WORD}` is the word so often.
 //! No such block stands in another.
@@ -41,11 +60,14 @@
 //! where a line is none of a table.
 #![tactic(auto)]
 
+mod agent;
 mod answer;
 mod calls;
 mod fault;
+mod format;
 mod input;
 mod plan;
+mod pool;
 mod repeat;
 mod row;
 mod seat;

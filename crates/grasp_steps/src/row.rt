@@ -1,14 +1,18 @@
 // One row of the table.
+use crate::calls::read_call;
 use crate::fault::LineFault;
+use crate::format::{ask_item, ask_line, ask_message, ask_stream};
 use crate::input::read_input;
+use crate::pool::ask_pool;
 use crate::seat::Seat;
+use grasp_pool::Pool;
 use grasp_text::{Words, number, push_word};
 use std::alloc::Global;
 
 /// The most bytes of a message where a row doesn't say it.
 const SIZE: u32 = 2048;
 
-/// A row that is being run: its links and its nodes.
+/// A row that is being run: its links, its nodes and its pool.
 #[derive(Drop)]
 pub struct Row {
     alloc: Global,
@@ -16,6 +20,7 @@ pub struct Row {
     limit: u32,
     links: Vec<Vec<u8>>,
     seats: Vec<Seat>,
+    pool: Option<Pool>,
     /// Something differed.
     pub is_wrong: bool,
 }
@@ -29,6 +34,7 @@ impl Row {
             limit: SIZE,
             links: Vec::new(alloc),
             seats: Vec::new(alloc),
+            pool: None,
             is_wrong: false,
         })
     }
@@ -88,6 +94,31 @@ impl Row {
 
     /// Appends the words of the answer to what stands before it.
     fn ask(&mut self, out: &mut String, question: &str) -> Result<(), LineFault> {
+        match question.split_once(' ') {
+            Some(("line", rest)) => ask_line(self.alloc, out, rest),
+            Some((kind @ ("pool" | "item" | "message" | "stream"), rest)) => {
+                self.ask_alone(out, kind, rest)
+            }
+            _ => self.ask_node(out, question),
+        }
+    }
+
+    /// Appends the answer of the row's pool, or what bytes are.
+    fn ask_alone(&mut self, out: &mut String, kind: &str, rest: &str) -> Result<(), LineFault> {
+        let alloc = self.alloc;
+        let mut words = Words::of(rest.as_bytes());
+        match kind {
+            "pool" => ask_pool(alloc, out, &mut words, &mut self.pool)?,
+            "item" => ask_item(alloc, out, &mut words)?,
+            "message" => ask_message(alloc, out, &mut words)?,
+            _ => ask_stream(alloc, out, &mut words)?,
+        }
+        words.end()?;
+        Ok(())
+    }
+
+    /// Appends the answer of a node.
+    fn ask_node(&mut self, out: &mut String, question: &str) -> Result<(), LineFault> {
         let alloc = self.alloc;
         let mut words = Words::of(question.as_bytes());
         let node = words.number(255)? as u8;
@@ -96,30 +127,15 @@ impl Row {
             words.end()?;
             return self.tell_opens(out, node);
         }
-        let seat = self.seat(node)?;
-        let (word, _) = words.next()?;
-        match word {
-            b"kept" => seat.tell_kept(out)?,
-            b"reading" => seat.tell_reading(out)?,
-            b"stream" => seat.tell_stream(out, words.number(u64::MAX)?)?,
-            b"state" => seat.tell_state(out, words.number(u64::MAX)?)?,
-            _ => {
-                let now = number(word, u64::MAX).ok_or(LineFault::Bad)?;
-                let input = read_input(alloc, &mut words, seat)?;
-                seat.step(alloc, out, now, input)?;
-            }
-        }
+        ask_seat(alloc, out, &mut words, self.seat(node)?)?;
         words.end()?;
         Ok(())
     }
 
     /// Appends whether the node of this number can be opened.
     fn tell_opens(&self, out: &mut String, node: u8) -> Result<(), LineFault> {
-        match Seat::of(self.alloc, node, self.links.as_slice(), self.limit) {
-            Ok(_) => push_word(out, "yes")?,
-            Err(LineFault::Bad) => push_word(out, "no")?,
-            Err(LineFault::OutOfMemory) => return Err(LineFault::OutOfMemory),
-        }
+        let opens = Seat::opens(self.alloc, node, self.links.as_slice(), self.limit)?;
+        push_word(out, if opens { "yes" } else { "no" })?;
         Ok(())
     }
 
@@ -140,4 +156,56 @@ impl Row {
     fn place_of(&self, node: u8) -> Option<usize> {
         self.seats.iter().position(|seat| seat.node == node)
     }
+}
+
+/// Appends the answer of a node that is there.
+fn ask_seat(
+    alloc: Global,
+    out: &mut String,
+    words: &mut Words<'_>,
+    seat: &mut Seat,
+) -> Result<(), LineFault> {
+    let (word, _) = words.next()?;
+    match word {
+        b"agent" => seat.open_agent(alloc, out, words),
+        b"want" => seat.want(out, words),
+        b"tells" => seat.tell_agent(alloc, out),
+        _ => match number(word, u64::MAX) {
+            Some(now) => step(alloc, out, words, seat, now),
+            None => tell(out, words, seat, word),
+        },
+    }
+}
+
+/// Appends what can be read of a node.
+fn tell(
+    out: &mut String,
+    words: &mut Words<'_>,
+    seat: &Seat,
+    what: &[u8],
+) -> Result<(), LineFault> {
+    match what {
+        b"kept" => seat.tell_kept(out),
+        b"reading" => seat.tell_reading(out),
+        b"stream" => seat.tell_stream(out, words.number(u64::MAX)?),
+        b"state" => seat.tell_state(out, words.number(u64::MAX)?),
+        _ => Err(LineFault::Bad),
+    }
+}
+
+/// Runs a step of a node: an input, or the call that its agent makes next.
+fn step(
+    alloc: Global,
+    out: &mut String,
+    words: &mut Words<'_>,
+    seat: &mut Seat,
+    now: u64,
+) -> Result<(), LineFault> {
+    if words.is_next(b"next") {
+        words.exactly(b"next")?;
+        let call = read_call(alloc, words, seat)?;
+        return seat.next(alloc, out, now, call);
+    }
+    let input = read_input(alloc, words, seat)?;
+    seat.step(alloc, out, now, input)
 }
