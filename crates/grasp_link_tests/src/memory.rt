@@ -1,17 +1,11 @@
-//! Links and clocks in memory, and what reads the machine's clock, files and random source.
+//! Links in memory, and what reads the machine's clock, files and random source.
 
-ghost use Rattle.std.specs.Prelude.{◌≡◌, ◌<◌};
-
-use grasp_cbor::Octets;
 use grasp_io::{
-    Arrival, Asked, Clock, Failed, FileSource, LinkPlan, Links, MemClock, MemLinks, ReadError,
-    Sent, Source, StdClock, random_seed, read_all,
+    Arrival, Asked, Clock, FileSource, LinkPlan, Links, MemLinks, ReadError, Sent, Source,
+    StdClock, random_seed, read_all,
 };
 use grasp_types::{Address, Input, List, Locator, Output, Proto};
 use std::alloc::Global;
-use std::marker::Brand;
-use std::sync::ledger::{Blank, Ledger};
-use std::test::Fail;
 
 fn plan(alloc: Global) -> LinkPlan {
     LinkPlan {
@@ -50,68 +44,25 @@ fn links_in_memory(rt: HostRuntime) {
             ask: 2,
             input: Input::Closed { stream: 1 },
         },
-        Arrival {
-            ask: 5,
-            input: opening(3),
-        },
-        Arrival {
-            ask: 6,
-            input: Input::Drain { max: 1 },
-        },
     ];
     let mut links = MemLinks::new(rt.alloc(), &arrivals)
         .quiet_at(&[2])
         .failing_at(&[1]);
     assert_eq!(rt; links.open(&plan(rt.alloc())), Ok(()));
-    for (wait, stream) in [
-        (10, Some(1)),
-        (20, None),
-        (30, Some(1)),
-        (40, None),
-        (50, Some(3)),
-        (60, None),
-    ] {
+    for (wait, stream) in [(10, Some(1)), (20, None), (30, Some(1)), (40, None)] {
         assert_eq!(rt; ask(&mut links, wait), stream, "wait {wait}");
     }
     assert_eq!(rt; links.send(&Output::Close { stream: 0 }), Sent::Failed);
     assert_eq!(rt; links.send(&Output::Close { stream: 2 }), Sent::Sent);
-    assert_eq!(rt; links.waits(), [10, 20, 30, 40, 50, 60].as_slice());
+    assert_eq!(rt; links.waits(), [10, 20, 30, 40].as_slice());
     assert!(rt; matches!(links.handed(), [Output::Close { stream: 2 }]));
 }
 
 #[test]
-fn links_that_fail(rt: HostRuntime) {
-    let mut links = MemLinks::new(rt.alloc(), &[]).failing_at(&[1]).refusing();
-    assert_eq!(rt; links.open(&plan(rt.alloc())), Err(Failed));
-    let bytes = Octets::new(rt.alloc());
-    let output = Output::Datagram {
-        link: 0,
-        to: 0,
-        bytes,
-    };
-    assert_eq!(rt; links.send(&output), Sent::Lost);
-}
-
-/// Whether a clock that is given the first list gives the second.
-fn reads<L: Ledger>(blank: Blank, given: &[u64], read: &[u64]) -> bool
-    requires name { blank.name ≡ L.name }
-    requires parts { blank.parts ≡ L.parts }
-    requires some { 0 < blank.parts }
-{
-    let mut clock = MemClock::<L>::new(blank, given);
-    read.iter().all(|reading| clock.now() == *reading)
-}
-
-#[test]
-fn clocks(rt: HostRuntime) {
-    assert!(rt; reads::<Brand>(Blank::new(1), &[3, 5, 4], &[3, 5, 5, 5]));
+fn clock_files_and_seeds(rt: HostRuntime) {
     let mut clock = StdClock::new(rt);
     let first = clock.now();
     assert!(rt; first <= clock.now());
-}
-
-#[test]
-fn files_and_seeds(rt: HostRuntime) {
     let mut file = FileSource::open(&rt, "/dev/zero");
     let mut block = [1; 4];
     assert_eq!(rt; file.read(&mut block), Ok(4));
