@@ -1,4 +1,5 @@
-//! Nodes to which nothing, a flood or a stream comes, one that announces, and one whose links can't be opened.
+//! Nodes to which nothing, a flood or a stream comes, one that announces, one that wants, one whose links can't be opened, and
+//! configurations that are none.
 
 use crate::row::{Fault, Incoming, Row, differs};
 use grasp_config::ConfigKey;
@@ -49,6 +50,37 @@ beacon = [{ name = \"b\", value = \"x08\", ttl = 1000, loops = 6 }]
 reader = [{ name = \"a\" }]
 ";
 
+/// A node that wants a prefix of a peer that never answers.
+const WANTS: &str = "\
+address = \"fd000000000000000000000000000002\"
+listen = \"7f000001:7017\"
+turns = 3
+want = [{ length = 56, longest = 64, peer = \"7f000001:7018\" }]
+";
+
+/// A key that a configuration doesn't have.
+const UNKNOWN_KEY: &str = "\
+address = \"fd000000000000000000000000000001\"
+listen = \"7f000001:7017\"
+turns = 3
+size_limit = 2048
+";
+
+/// Roots of which one lies in the other.
+const ROOTS_OVERLAP: &str = "\
+address = \"fd000000000000000000000000000001\"
+listen = \"7f000001:7017\"
+turns = 3
+roots = [\"20010db8000000000000000000000000/48\", \"20010db8000000000000000000000000/56\"]
+";
+
+/// The value of the last key is missing.
+const NOT_TOML: &str = "\
+address = \"fd000000000000000000000000000001\"
+listen = \"7f000001:7017\"
+turns =
+";
+
 const HOLDS: &str = "prefixes held 20010db8000000000000000000000000/48 reserved doubt\n";
 
 /// The reader's calls may all come before the flood.
@@ -81,7 +113,7 @@ pub(crate) const READER_HEARS: Row<'static> = Row {
     ..IDLE_NODE
 };
 
-const ROWS: [Row<'static>; 7] = [
+const ROWS: [Row<'static>; 11] = [
     IDLE_NODE,
     READER_HEARS,
     Row {
@@ -92,6 +124,42 @@ const ROWS: [Row<'static>; 7] = [
         },
         texts: &[""],
         asks: 0,
+        ..IDLE_NODE
+    },
+    Row {
+        name: "unknown_key",
+        config: UNKNOWN_KEY,
+        status: Status::BadConfig {
+            key: ConfigKey::Unknown,
+        },
+        texts: &[""],
+        asks: 0,
+        ..IDLE_NODE
+    },
+    Row {
+        name: "roots_overlap",
+        config: ROOTS_OVERLAP,
+        status: Status::BadConfig {
+            key: ConfigKey::Roots,
+        },
+        texts: &[""],
+        asks: 0,
+        ..IDLE_NODE
+    },
+    Row {
+        name: "not_toml",
+        config: NOT_TOML,
+        status: Status::BadConfig {
+            key: ConfigKey::Toml,
+        },
+        texts: &[""],
+        asks: 0,
+        ..IDLE_NODE
+    },
+    Row {
+        name: "want_unanswered",
+        config: WANTS,
+        texts: &["prefixes held reserved doubt\nwant 56 64 = pending\n"],
         ..IDLE_NODE
     },
     Row {
