@@ -75,7 +75,7 @@ abbrev major_of_kind : StringKind → Major
 major_of_kind kinds.Bytes = ByteString
 major_of_kind kinds.Text = TextString
 
-content_again : (kind : StringKind) (bs rest : List ℕ) → IsContent kind bs → content_at kind (length bs) (bs ++ rest) ≡ Some (bs, rest)
+pub content_again : (kind : StringKind) (bs rest : List ℕ) → IsContent kind bs → content_at kind (length bs) (bs ++ rest) ≡ Some (bs, rest)
 content_again kinds.Bytes bs rest h = bytes_again bs rest
 content_again kinds.Text bs rest h = text_again bs rest h
 

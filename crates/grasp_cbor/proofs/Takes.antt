@@ -32,7 +32,7 @@ IsBytes-take n s h i =
       | inr le ↦ rw (get_or_past (take n s) i 0 (omega (arith, length-take n s))) (omega arith)
     ]
 
-IsBytes-rest : (b : ℕ) (s : List ℕ) → IsBytes (b ∷ s) → IsBytes s
+pub IsBytes-rest : (b : ℕ) (s : List ℕ) → IsBytes (b ∷ s) → IsBytes s
 IsBytes-rest b s h i = h (suc i)
 
 -- the value of a step that did not fail
@@ -98,14 +98,14 @@ size_in (Two n) = two_bytes
 size_in (Four n) = four_bytes
 size_in (Eight n) = eight_bytes
 
-abbrev low_of : Argument → ℕ
+abbrev pub low_of : Argument → ℕ
 low_of (Direct n) = n
 low_of (One n) = 24
 low_of (Two n) = 25
 low_of (Four n) = 26
 low_of (Eight n) = 27
 
-abbrev tail_of : Argument → List ℕ
+abbrev pub tail_of : Argument → List ℕ
 tail_of (Direct n) = []
 tail_of (One n) = n ∷ []
 tail_of (Two n) = to_be_bytes w16 n
@@ -169,7 +169,7 @@ argument_takes i s x fits e =
       ]
     ]
 
-sized_head_is : (major : ℕ) (a : Argument) → sized_head (size_in a) major (value_of a) ≡ (32 * major + low_of a) ∷ tail_of a
+pub sized_head_is : (major : ℕ) (a : Argument) → sized_head (size_in a) major (value_of a) ≡ (32 * major + low_of a) ∷ tail_of a
 sized_head_is major (Direct n) = refl
 sized_head_is major (One n) = refl
 sized_head_is major (Two n) = refl
@@ -267,7 +267,7 @@ ended_or (Some rest) s more x fits b e =
     })
 ended_or None s more x fits b e = inr e
 
-content_takes : (kind : StringKind) (n : ℕ) (s : List ℕ) (x : List ℕ × List ℕ) → IsBytes s → content_at kind n s ≡ Some x
+pub content_takes : (kind : StringKind) (n : ℕ) (s : List ℕ) (x : List ℕ × List ℕ) → IsBytes s → content_at kind n s ≡ Some x
     → Takes s x.0 x.1 × (length x.0 ≡ n) × IsContent kind x.0
 content_takes kinds.Bytes n s x fits e = let t = bytes_takes n s x fits e in (t.0, t.1, tt)
 content_takes kinds.Text n s x fits e = text_takes n s x fits e

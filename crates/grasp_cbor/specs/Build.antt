@@ -61,11 +61,20 @@ unfoldable pub argument_at : ℕ → List ℕ → Found Argument
 argument_at info rest =
     if nat_lt info 24 then Some (Direct info, rest) else (if info == 24 then sized One (byte_at rest) else (if info == 25 then sized Two (number_at w16 rest) else (if info == 26 then sized Four (number_at w32 rest) else (if info == 27 then sized Eight (number_at w64 rest) else None))))
 
+-- its value
+abbrev pub value_at : ℕ → List ℕ → Found ℕ
+value_at info rest = argument_at info rest >>= λ a. Some (value_of a.0, a.1)
+
 unfoldable pub head_at : List ℕ → Found Head
 head_at s = do
   first ← byte_at s
   a ← argument_at (first.0 % 32) first.1
   Some (record { major = major_of (first.0 / 32); argument = a.0 }, a.1)
+
+-- the argument of a head of this major type, and what follows
+unfoldable pub argument_in : ℕ → List ℕ → Found ℕ
+argument_in major [] = None
+argument_in major (b ∷ rest) = if b / 32 == major then value_at (b % 32) rest else None
 
 -- what this initial byte opens whose length is indefinite
 unfoldable pub opened_by : ℕ → Option Open
@@ -98,6 +107,10 @@ content_at kinds.Text n rest = text_at n rest
 -- a string of this kind that has a length of its own
 unfoldable pub chunk_at : StringKind → List ℕ → Found (List ℕ)
 chunk_at kind s = head_at s >>= λ h. if major_number h.0.major == string_major kind then content_at kind (value_of h.0.argument) h.1 else None
+
+-- the content of a string of this kind that has a length of its own, and what follows
+abbrev pub string_in : StringKind → List ℕ → Found (List ℕ)
+string_in kind s = argument_in (string_major kind) s >>= λ a. content_at kind a.0 a.1
 
 abbrev pub string_of : StringKind → List ℕ → DataItem
 string_of kinds.Bytes bs = byte_string bs

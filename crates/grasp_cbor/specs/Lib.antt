@@ -15,6 +15,7 @@ pub mod Head
 pub mod Item
 pub mod ItemReader
 pub mod Laws
+pub mod Leading
 pub mod Length
 pub mod Major
 pub mod Passing

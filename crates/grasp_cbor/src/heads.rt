@@ -1,10 +1,11 @@
 //! Reading heads, and the strings and numbers behind them (RFC 8949, section 3).
 
-ghost use Rattle.std.specs.Prelude.{◌≡◌, ◌<◌, length, if◌then◌else◌, option_map, Some, None};
+ghost use Rattle.std.specs.Prelude.{◌≡◌, ◌<◌, length, if◌then◌else◌, option_map, Some, None, IfErr};
 ghost use Rattle.std.specs.Str.{is_utf8};
 ghost use Rattle.std.specs.Int.{w16, w32, w64};
 ghost use Rattle.grasp_cbor.specs.Major.{major_number, major_of};
 ghost use Rattle.grasp_cbor.specs.Build.{Gives, byte_at, number_at, argument_at, head_at, open_at, break_at, bytes_at, text_at, chunk_at};
+ghost use Rattle.grasp_cbor.specs.declared.heads.BuildError.TheVariants.{NotItem};
 ghost use Rattle.grasp_cbor.specs.declared.heads.StringKind.TheVariants as kinds;
 
 use crate::OutOfMemory;
@@ -181,8 +182,9 @@ pub(crate) fn read_head(bytes: &[u8]) -> Result<(Head, &[u8]), BuildError>
 }
 
 #[tactic(auto, unfolding(crate::specs::Build::argument_at))]
-fn read_argument(info: u8, bytes: &[u8]) -> Result<(Argument, &[u8]), BuildError>
-    ensures { Gives (λ x. (x.0, x.1.now)) result (argument_at info bytes.now) }
+pub(crate) fn read_argument(info: u8, bytes: &[u8]) -> Result<(Argument, &[u8]), BuildError>
+    ensures found { Gives (λ x. (x.0, x.1.now)) result (argument_at info bytes.now) }
+    ensures err { IfErr result (λ e. e ≡ NotItem) }
 {
     if info < 24 {
         Ok((Argument::Direct(info), bytes))
@@ -204,7 +206,8 @@ fn read_argument(info: u8, bytes: &[u8]) -> Result<(Argument, &[u8]), BuildError
 }
 
 fn read_byte(bytes: &[u8]) -> Result<(u8, &[u8]), BuildError>
-    ensures { Gives (λ x. (x.0, x.1.now)) result (byte_at bytes.now) }
+    ensures found { Gives (λ x. (x.0, x.1.now)) result (byte_at bytes.now) }
+    ensures err { IfErr result (λ e. e ≡ NotItem) }
 {
     match bytes {
         [] => Err(BuildError::NotItem),
@@ -213,7 +216,8 @@ fn read_byte(bytes: &[u8]) -> Result<(u8, &[u8]), BuildError>
 }
 
 fn read_16(bytes: &[u8]) -> Result<(u16, &[u8]), BuildError>
-    ensures { Gives (λ x. (x.0, x.1.now)) result (number_at w16 bytes.now) }
+    ensures found { Gives (λ x. (x.0, x.1.now)) result (number_at w16 bytes.now) }
+    ensures err { IfErr result (λ e. e ≡ NotItem) }
 {
     if bytes.len() < 2 {
         return Err(BuildError::NotItem);
@@ -223,7 +227,8 @@ fn read_16(bytes: &[u8]) -> Result<(u16, &[u8]), BuildError>
 }
 
 fn read_32(bytes: &[u8]) -> Result<(u32, &[u8]), BuildError>
-    ensures { Gives (λ x. (x.0, x.1.now)) result (number_at w32 bytes.now) }
+    ensures found { Gives (λ x. (x.0, x.1.now)) result (number_at w32 bytes.now) }
+    ensures err { IfErr result (λ e. e ≡ NotItem) }
 {
     if bytes.len() < 4 {
         return Err(BuildError::NotItem);
@@ -233,7 +238,8 @@ fn read_32(bytes: &[u8]) -> Result<(u32, &[u8]), BuildError>
 }
 
 fn read_64(bytes: &[u8]) -> Result<(u64, &[u8]), BuildError>
-    ensures { Gives (λ x. (x.0, x.1.now)) result (number_at w64 bytes.now) }
+    ensures found { Gives (λ x. (x.0, x.1.now)) result (number_at w64 bytes.now) }
+    ensures err { IfErr result (λ e. e ≡ NotItem) }
 {
     if bytes.len() < 8 {
         return Err(BuildError::NotItem);
@@ -293,7 +299,7 @@ pub(crate) fn read_text_chunk(bytes: &[u8]) -> Result<(&str, &[u8]), BuildError>
 }
 
 #[tactic(auto, using(crate::proofs::Utf8Test::tests))]
-fn as_text(bytes: &[u8]) -> Option<&str>
+pub(crate) fn as_text(bytes: &[u8]) -> Option<&str>
     ensures { option_map (λ s. s.now) result ≡ (if is_utf8 bytes.now then Some bytes.now else None) }
 {
     match str::from_utf8(bytes) {

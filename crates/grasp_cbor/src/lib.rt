@@ -6,6 +6,7 @@
 #![tactic(auto)]
 
 mod build;
+mod front;
 mod heads;
 mod item_reader;
 mod laws;
@@ -23,6 +24,9 @@ mod walker;
 mod write;
 
 pub use build::encodings_are_apart;
+pub use front::{
+    read_array_head, read_byte_string, read_first_item, read_null, read_text_string, read_unsigned,
+};
 pub use item_reader::ItemReader;
 pub use laws::{bytes_are_taken_or_faulty, endings_are_apart, faults_are_alone, fronts_can_go_on};
 pub use memory::OutOfMemory;

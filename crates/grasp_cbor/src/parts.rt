@@ -6,7 +6,7 @@ ghost use Rattle.grasp_cbor.specs.DataItem.{unsigned, byte_string, text_string, 
 ghost use Rattle.grasp_cbor.specs.Head.{shortest_head};
 ghost use Rattle.grasp_cbor.specs.Shortest.{shortest};
 
-use crate::write::{append, write_head};
+use crate::write::{append, push, write_head};
 use crate::{Chars, OutOfMemory};
 
 /// Appends an unsigned number. After an `Err` the vector is as before.
@@ -47,7 +47,7 @@ pub fn write_null(out: &mut Vec<u8>) -> Result<(), OutOfMemory>
     ensures ok { OnOk result (out.new.items ≡ out.old.items ++ shortest (simple_value 22)) }
     ensures err { OnErr result (out.new.items ≡ out.old.items) }
 {
-    append(out, &[0xf6])
+    push(out, 0xf6)
 }
 
 /// Appends a string of this major type.

@@ -1,7 +1,7 @@
 //! Writing items in their shortest encoding: each head has the least width (RFC 8949, section 4.2.1), a float keeps its
 //! width, and pairs keep their order.
 
-ghost use Rattle.std.specs.Prelude.{◌≡◌, ℕ, ◌<◌, ◌≤◌, List, ◌++◌, OnOk, OnErr};
+ghost use Rattle.std.specs.Prelude.{◌≡◌, ℕ, ◌<◌, ◌≤◌, List, [], ◌∷◌, ◌++◌, OnOk, OnErr};
 ghost use Rattle.grasp_cbor.specs.Bytes.{AllBytes};
 ghost use Rattle.grasp_cbor.specs.DataItem.{depth_of, data_items, data_pairs};
 ghost use Rattle.grasp_cbor.specs.Item.{data_item_of, items_of, pairs_of, float_of};
@@ -116,7 +116,7 @@ pub(crate) fn write_head(out: &mut Vec<u8>, major: u8, n: u64) -> Result<(), Out
 {
     let first = major * 32;
     if n < 24 {
-        append(out, &[first + n as u8])
+        push(out, first + n as u8)
     } else if n < 0x100 {
         append(out, &[first + 24, n as u8])
     } else if n < 0x1_0000 {
@@ -136,7 +136,7 @@ fn write_simple(out: &mut Vec<u8>, number: u8) -> Result<(), OutOfMemory>
     ensures err { OnErr result (out.new.items ≡ out.old.items) }
 {
     if number < 24 {
-        append(out, &[224 + number])
+        push(out, 224 + number)
     } else {
         append(out, &[248, number])
     }
@@ -161,6 +161,15 @@ fn write_float(out: &mut Vec<u8>, bits: &FloatBits) -> Result<(), OutOfMemory>
             append(out, &[251, a, b, c, d, e, f, g, h])
         }
     }
+}
+
+/// Appends one byte.
+pub(crate) fn push(out: &mut Vec<u8>, byte: u8) -> Result<(), OutOfMemory>
+    ensures ok { OnOk result (out.new.items ≡ out.old.items ++ byte ∷ []) }
+    ensures err { OnErr result (out.new.items ≡ out.old.items) }
+{
+    out.push(byte)?;
+    Ok(())
 }
 
 pub(crate) fn append(out: &mut Vec<u8>, bytes: &[u8]) -> Result<(), OutOfMemory>
