@@ -25,5 +25,6 @@ pub mod ShortestForm
 pub mod SomeDivision
 pub mod Stays
 pub mod Steps
+pub mod Straight
 pub mod Sure
 pub mod Wholes

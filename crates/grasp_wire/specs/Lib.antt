@@ -1,5 +1,6 @@
 pub mod Chunks
 pub mod Cutter
+pub mod Direct
 pub mod Laws
 pub mod One
 pub mod Parts

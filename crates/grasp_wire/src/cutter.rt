@@ -1,11 +1,12 @@
 //! Cutting messages from a stream of bytes (RFC 8990, section 2.8).
 
-ghost use Rattle.std.specs.Prelude.{true, ◌≡◌, ◌+◌, ◌-◌, ◌<◌, ◌≤◌, ◌^◌, [], ◌++◌, length, take, drop, vec_len, None, Some, Ok, Err, IsSome, OnOk, OnErr, IfOk, IfSome};
+ghost use Rattle.std.specs.Prelude.{true, false, ◌≡◌, ◌+◌, ◌-◌, ◌<◌, ◌≤◌, ◌^◌, [], ◌++◌, length, take, drop, vec_len, None, Some, Ok, Err, IsSome, OnOk, OnErr, IfOk, IfSome};
 ghost use Rattle.grasp_cbor.specs.DataItem.{DataItem};
 ghost use Rattle.grasp_cbor.specs.Ending.{IsWhole};
 ghost use Rattle.grasp_wire.specs.ReadOn.{IsReadTo};
 
 use crate::CutFault;
+use crate::direct::direct_message;
 use crate::read_on::{cut_fault, message_of_bytes, read_rest, taken_with};
 use grasp_cbor::{ItemReader, OutOfMemory, Steps};
 use grasp_types::Message;
@@ -13,8 +14,9 @@ use std::alloc::Global;
 use std::marker::Brand;
 use std::sync::ledger::{Blank, Ledger};
 
-/// Cuts messages from a stream that comes in pieces. The end of an item is found by taking each byte once; the message is
-/// then made of the item's bytes.
+/// Cuts messages from a stream that comes in pieces. A message whose bytes are all there, in the form that most senders
+/// write, is read straight from them. Else the end of an item is found by taking each byte once; the message is then made of
+/// the item's bytes.
 #[derive(Drop)]
 pub struct Cutter {
     alloc: Global,
@@ -43,6 +45,7 @@ pub struct Cutter {
 
 impl Cutter {
     ghost use Rattle.grasp_wire.specs.Cutter.{Past, no_past, after_feed, after_next, AnswersNext, Takes, CountsRest};
+    ghost use Rattle.grasp_wire.specs.Wire.{IsWireForm};
     ghost use Rattle.grasp_wire.specs.Stands.{Stands, IsSame, AnswersFound, AnswersItem, TakesFound, cut_limit, fed_count, taken_count, waiting_count, rest_of, before_of, fault_in};
 
     /// Before the first byte of a stream whose messages have at most `limit` bytes. It takes no memory.
@@ -103,8 +106,8 @@ impl Cutter {
         self.append(piece)
     }
 
-    /// The next message of the stream, or `None` while it waits for more bytes. It takes memory for a whole item
-    /// alone, and after `OutOfMemory` it can be asked again. Every other fault lasts, and lets go of the bytes.
+    /// The next message of the stream, or `None` while it waits for more bytes. It answers want of memory for a whole
+    /// item alone, and after `OutOfMemory` it can be asked again. Every other fault lasts, and lets go of the bytes.
     pub fn next(&mut self) -> Result<Option<Message>, CutFault>
         ensures answers { (past : Past) → Stands self.old past → AnswersNext (cut_limit self.old) past past.fault result }
         ensures then { (past : Past) → Stands self.old past → Stands self.new (after_next past result) }
@@ -137,6 +140,10 @@ impl Cutter {
     {
         if let Some(fault) = self.fault {
             return Err(fault);
+        }
+        if let Some((message, used)) = self.direct() {
+            self.take_direct(used, steps);
+            return Ok(Some(message));
         }
         match self.find(steps) {
             Ok(Some(used)) => match self.take_message(used) {
@@ -189,8 +196,10 @@ impl Cutter {
         ensures fault { self.new.fault ≡ self.old.fault }
         ensures taken { taken_count self.new ≡ taken_count self.old }
     {
-        if self.held.len() - self.start <= self.start {
-            self.held.drain(..self.start);
+        let kept = self.held.len() - self.start;
+        if kept <= self.start {
+            self.held.copy_within(self.start.., 0);
+            self.held.truncate(kept);
             self.seen -= self.start;
             self.start = 0;
         }
@@ -210,6 +219,54 @@ impl Cutter {
         self.held.extend_from_slice(piece)?;
         self.fed += piece.len() as u64;
         Ok(())
+    }
+
+    /// Where the bytes end that are kept and that a message may have.
+    fn end_within(&self) -> usize
+        ensures above { self.now.start ≤ result }
+        ensures within { result ≤ vec_len self.now.held }
+        ensures few { result ≤ self.now.start + self.now.limit }
+    {
+        let limit = self.limit as usize;
+        if self.held.len() - self.start <= limit {
+            return self.held.len();
+        }
+        self.start + limit
+    }
+
+    /// A message that is read straight from the bytes that are kept, and how many of them it has; or `None`, also where an
+    /// item has begun of which bytes were taken.
+    fn direct(&self) -> Option<(Message, usize)>
+        ensures form { IfSome result (λ p. IsWireForm p.0 (take p.1 (rest_of self.now)) (cut_limit self.now)) }
+        ensures inside { IfSome result (λ p. p.1 ≤ length (rest_of self.now)) }
+        ensures fresh { IfSome result (λ p. self.now.seen ≡ self.now.start) }
+        ensures begun { IfSome result (λ p. self.now.whole ≡ false) }
+    {
+        if self.whole || self.seen != self.start {
+            return None;
+        }
+        let end = self.end_within();
+        direct_message(self.alloc, &self.held[self.start..end])
+    }
+
+    /// Takes the message that the first so many bytes are, of which none was taken. Each byte is a step.
+    fn take_direct<L: Ledger>(&mut self, used: usize, steps: &mut Steps<L>)
+        requires open { self.old.fault ≡ None }
+        requires fresh { self.old.seen ≡ self.old.start }
+        requires begun { self.old.whole ≡ false }
+        requires inside { used ≤ length (rest_of self.old) }
+        ensures rest { rest_of self.new ≡ drop used (rest_of self.old) }
+        ensures count { fed_count self.new ≡ fed_count self.old }
+        ensures limit { cut_limit self.new ≡ cut_limit self.old }
+        ensures fault { self.new.fault ≡ None }
+        ensures taken { taken_count self.new ≡ before_of self.old + used }
+        ensures rises { taken_count self.old ≤ taken_count self.new }
+        ensures steps { steps.new + taken_count self.old ≡ steps.old + taken_count self.new }
+    {
+        self.start += used;
+        self.seen = self.start;
+        self.taken += used as u64;
+        steps.add(used as u64);
     }
 
     /// Reads on in the bytes that are kept, and answers how many of them the item has that begins them.

@@ -2,6 +2,7 @@
 #![tactic(auto)]
 
 mod cutter;
+mod direct;
 mod encoding;
 mod fault;
 mod laws;

@@ -1,10 +1,31 @@
-use Rattle.std.proofs.Common.{◌≡◌, ◌+◌, ◌-◌, Some, Ok, Err, length, sym, ap, subst, ◌∙◌, arith}
+use Rattle.std.proofs.Common.{◌≡◌, ◌+◌, ◌-◌, Some, Ok, Err, length, refl, sym, ap, subst, ◌∙◌, arith}
 use Rattle.grasp_cbor.specs.DataItem.{DataItem}
 use Rattle.grasp_cbor.specs.Ending.{IsWhole, IsPartial}
+use Rattle.grasp_types.specs.Message.{item_of}
 use Rattle.grasp_wire.specs.Cutter.{AnswersNext, Takes}
 use Rattle.grasp_wire.specs.Stands.{rest_of, cut_limit, before_of, fed_count, taken_count}
 use Rattle.grasp_wire.proofs.Nexts.{next_waits, next_faulted, next_given, next_failed, stands_faulted, stands_given, stands_same, stands_failed, stands_again, whole_moved, fewer_wait, found_lasts, takes_still, takes_given, takes_failed, takes_all, takes_faulted}
+use Rattle.grasp_wire.proofs.Rests.{form_whole}
 use Rattle.grasp_wire.proofs.cutter.Cutter.next_counted.Goals as goal
+
+pub returns-in-Some-direct-clause-answers : goal.returns-in-Some-direct-clause-answers
+returns-in-Some-direct-clause-answers g c = λ past s. next_given c.args.self.now past c.in-Some-direct.message c.in-Some-direct.used s c.in_default.is c.in-Some-direct.ensures.form
+
+pub returns-in-Some-direct-clause-then : goal.returns-in-Some-direct-clause-then
+returns-in-Some-direct-clause-then g c = λ past s.
+    stands_given c.args.self.now c.take_direct.new.self past c.in-Some-direct.message c.in-Some-direct.used s c.in_default.is c.in-Some-direct.ensures.form c.take_direct.ensures.rest c.take_direct.ensures.count c.take_direct.ensures.limit c.take_direct.ensures.fault
+
+pub returns-in-Some-direct-clause-less : goal.returns-in-Some-direct-clause-less
+returns-in-Some-direct-clause-less g c =
+    let m = c.args.self.now in
+    let whole = form_whole c.in-Some-direct.message c.in-Some-direct.used (rest_of m) (cut_limit m) c.in-Some-direct.ensures.inside c.in-Some-direct.ensures.form in
+    fewer_wait m m c.take_direct.new.self c.in-Some-direct.used refl (item_of c.in-Some-direct.message, whole) c.take_direct.ensures.rest
+
+pub returns-in-Some-direct-clause-taken : goal.returns-in-Some-direct-clause-taken
+returns-in-Some-direct-clause-taken g c = λ past s.
+    let m = c.args.self.now in
+    let whole = form_whole c.in-Some-direct.message c.in-Some-direct.used (rest_of m) (cut_limit m) c.in-Some-direct.ensures.inside c.in-Some-direct.ensures.form in
+    takes_given m past c.in-Some-direct.message c.in-Some-direct.used (taken_count m) (taken_count c.take_direct.new.self) s c.in_default.is (item_of c.in-Some-direct.message, whole) c.take_direct.ensures.taken
 
 pub returns-in-Some-clause-then : goal.returns-in-Some-clause-then
 returns-in-Some-clause-then g c = λ past s. stands_again c.args.self.now past c.in-Some.fault s c.in-Some.is
