@@ -1,7 +1,6 @@
 -- Numbers as hexadecimal words.
 use Rattle.std.proofs.Common.{◌≡◌, ℕ, zero, suc, ◌*◌, ◌^◌, ◌<◌, Bool, true, false, cond, List, [], ◌∷◌, ◌++◌, length, Some, None, Result, Ok, Err, refl, sym, ap, subst, ◌∙◌, append_assoc, arith}
 use Rattle.std.specs.Int.{Width, w32, w128, byte_len, byte_at, bytes_high_first, from_be_bytes, to_be_bytes}
-use Rattle.std.specs.Result.{MatchResult, is_err}
 use Rattle.std.specs.Str.{bytes_eq}
 use Rattle.std.proofs.lemmas.List.{append-nil}
 use Rattle.std.proofs.lemmas.Nat.{be_bytes_4, from_be_bytes-to_be_bytes_4}
@@ -13,19 +12,7 @@ use Rattle.grasp_types.proofs.BigEndian.{be_bytes_16, joined, joined-to_be_bytes
 use Rattle.grasp_text.specs.Line.{v4_word, v6_word}
 use Rattle.grasp_text.specs.Reading.{number_of_hex, v4_of, v6_of}
 use Rattle.grasp_text.proofs.Lawful.{Exact}
-use Rattle.grasp_text.proofs.NumberWords.{some, some_is}
-
--- what the call of `decode_to_slice` says
-abbrev pub Decodes : {E : Type 0} → Result (List ℕ) E → Result (Unit {0}) E → List ℕ → Type 0
-Decodes r answer out = MatchResult r (λ bytes. (answer ≡ Ok tt) × (out ≡ bytes)) (λ e. answer ≡ Err e)
-
-pub refused : (w : Width) (word : List ℕ) (r : Result (List ℕ) FromHexError) (answer : Result (Unit {0}) FromHexError) (out : List ℕ) → Decodes r answer out → is_err answer ≡ true → number_of_hex w word r ≡ None
-refused w word (Ok bytes) answer out d e = absurd (let z = ap is_err d.0 in let y = sym z ∙ e in cc)
-refused w word (Err x) answer out d e = refl
-
-pub taken : (w : Width) (word : List ℕ) (r : Result (List ℕ) FromHexError) (answer : Result (Unit {0}) FromHexError) (out : List ℕ) → Decodes r answer out → is_err answer ≡ false → number_of_hex w word r ≡ cond (bytes_eq (encode_lower out) word) (some (from_be_bytes w out)) None
-taken w word (Ok bytes) answer out d e = ap (λ (x : List ℕ). cond (bytes_eq (encode_lower x) word) (some (from_be_bytes w x)) None) (sym d.1)
-taken w word (Err x) answer out d e = absurd (let z = ap is_err d in let y = sym z ∙ e in cc)
+use Rattle.grasp_text.proofs.NumberWords.{some, some_is, is_none}
 
 -- ---- a width's numbers and their bytes
 
@@ -100,6 +87,26 @@ module _ (w : Width) (limit : ℕ) (wide : IsWide w limit) where
 
   pub hex_only : (word : List ℕ) (n : ℕ) → number_of_hex w word (decode_sized word (byte_len w)) ≡ Some n → (n < limit) × (word ≡ word_of n)
   hex_only word n e = hex_only_at word (decode_sized word (byte_len w)) n refl e
+
+  -- a word that no number has
+  pub hex_none : (word : List ℕ) → ((n : ℕ) → ¬ (word ≡ word_of n)) → number_of_hex w word (decode_sized word (byte_len w)) ≡ None
+  hex_none word h = is_none (number_of_hex w word (decode_sized word (byte_len w))) (λ n e. h n (hex_only word n e).1)
+
+  -- one that isn't as long
+  pub hex_other_length : (word : List ℕ) → ¬ (length word ≡ 2 * byte_len w) → number_of_hex w word (decode_sized word (byte_len w)) ≡ None
+  hex_other_length word h = hex_none word (λ n e. h (ap length e ∙ length-encode_with lower_digits (to_be_bytes w n) ∙ ap (λ (k : ℕ). 2 * k) (wide.len n)))
+
+  -- one that is the digits of no bytes
+  pub hex_no_bytes : (word : List ℕ) → ((bytes : List ℕ) → IsBytes bytes → ¬ (word ≡ encode_lower bytes)) → number_of_hex w word (decode_sized word (byte_len w)) ≡ None
+  hex_no_bytes word h = hex_none word (λ n e. h (to_be_bytes w n) (wide.small n) e)
+
+-- the digits of bytes
+pub hex_of_bytes : (w : Width) (word bytes : List ℕ) → length bytes ≡ byte_len w → IsBytes bytes → word ≡ encode_lower bytes → number_of_hex w word (decode_sized word (byte_len w)) ≡ Some (from_be_bytes w bytes)
+hex_of_bytes w word bytes long fits e =
+    let len : length word ≡ 2 * byte_len w = ap length e ∙ length-encode_with lower_digits bytes ∙ ap (λ (k : ℕ). 2 * k) long in
+    let d : decode_sized word (byte_len w) ≡ Ok bytes = decode_sized-twice word (byte_len w) len ∙ ap decode_of e ∙ decode_of-encode_lower bytes fits in
+    let same : bytes_eq (encode_lower bytes) word ≡ true = (bytes_eq-Decides (encode_lower bytes) word).1 (sym e) in
+    ap (number_of_hex w word) d ∙ ap (λ (b : Bool). cond b (some (from_be_bytes w bytes)) None) same
 
 -- a word of this number, which is below the limit
 pub record IsHex (limit : ℕ) (word_of : ℕ → List ℕ) (n : ℕ) (word : List ℕ) : Type 0 where

@@ -113,7 +113,7 @@ text_bytes s u = subst AreBytes u.1.1 (encodes_small u.0 u.1.0)
 
 -- the digits
 
-digit_again : (d : ℕ) → d < 16 → digit_of (slice_index lower_digits d) ≡ Some d
+pub digit_again : (d : ℕ) → d < 16 → digit_of (slice_index lower_digits d) ≡ Some d
 digit_again zero lt = refl
 digit_again (suc zero) lt = refl
 digit_again (suc (suc zero)) lt = refl
@@ -155,9 +155,9 @@ letter_digit_is (suc (suc (suc (suc zero)))) lt = refl
 letter_digit_is (suc (suc (suc (suc (suc zero))))) lt = refl
 letter_digit_is (suc (suc (suc (suc (suc (suc n)))))) lt = absurd (omega arith)
 
-record IsDigit (c d : ℕ) : Type 0 where
-  small : d < 16
-  spelled : slice_index lower_digits d ≡ c
+pub record IsDigit (c d : ℕ) : Type 0 where
+  pub small : d < 16
+  pub spelled : slice_index lower_digits d ≡ c
 
 abbrev nat_within : ℕ → ℕ → ℕ → Bool
 nat_within low high c = leb low c && leb c high
@@ -178,7 +178,7 @@ digit_only_at c d false true s t e =
     record { small = omega arith; spelled = ap (slice_index lower_digits) shift ∙ letter_digit_is (c - 97) (omega arith) ∙ omega arith }
 digit_only_at c d false false s t e = absurd (let z : None ≡ some d = e in cc)
 
-digit_only : (c d : ℕ) → digit_of c ≡ Some d → IsDigit c d
+pub digit_only : (c d : ℕ) → digit_of c ≡ Some d → IsDigit c d
 digit_only c d e = digit_only_at c d (nat_within 48 57 c) (nat_within 97 102 c) refl refl e
 
 -- one byte

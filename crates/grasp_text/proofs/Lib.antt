@@ -1,10 +1,12 @@
 pub mod Blanks
+pub mod DigitWords
 pub mod HexWords
 pub mod Lawful
 pub mod Leaves
 pub mod Lines
 pub mod ListLaws
 pub mod MessageLaws
+pub mod NameLengths
 pub mod NumberWords
 pub mod PartLaws
 pub mod Places

@@ -108,7 +108,7 @@ name_again Synch = refl
 name_again Flood = refl
 name_again Invalid = refl
 
-name_only : (word : List ℕ) (n : MessageName) → name_of word ≡ Some n → word ≡ name_word n
+pub name_only : (word : List ℕ) (n : MessageName) → name_of word ≡ Some n → word ≡ name_word n
 unfolding name_of
 name_only word n e =
     one_of name_word n Noop word (codes "noop") _ refl (one_of name_word n Discovery word (codes "discovery") _ refl (one_of name_word n Response word (codes "response") _ refl

@@ -1,8 +1,8 @@
 -- Values as words.
-use Rattle.std.proofs.Common.{◌≡◌, ℕ, ◌+◌, ◌<◌, ◌≤◌, inl, Bool, true, false, cond, List, [], ◌∷◌, length, Option, Some, None, Result, Ok, Err, refl, sym, ap, subst, ◌∙◌, arith}
-use Rattle.std.specs.Prelude.{IfSome}
+use Rattle.std.proofs.Common.{◌≡◌, ℕ, ◌≤◌, inl, Bool, true, false, cond, List, [], ◌∷◌, length, Option, Some, None, Result, Ok, Err, refl, sym, ap, subst, ◌∙◌, arith}
+use Rattle.std.specs.Prelude.{IfOk, IfSome, IfNone, option_map}
 use Rattle.std.specs.Str.{bytes_eq}
-use Rattle.std.proofs.lemmas.List.{append-nil, take_all}
+use Rattle.std.proofs.lemmas.List.{append-nil}
 use Rattle.std.proofs.lemmas.Slice.Eq.{bytes_eq-Decides}
 use Rattle.hex.specs.Hex.{IsBytes, decode_of, encode_lower}
 use Rattle.hex.specs.declared.error.FromHexError.{FromHexError}
@@ -10,16 +10,12 @@ use Rattle.hex.proofs.HexLemmas.{decode_of-encode_lower, decode_of-ok}
 use Rattle.grasp_cbor.specs.Build.{item_at}
 use Rattle.grasp_cbor.specs.DataItem.{DataItem, simple_value, depth_of}
 use Rattle.grasp_cbor.specs.Encodes.{IsEncoding, Encodes}
-use Rattle.grasp_cbor.specs.Ending.{Ending, whole, IsEnding}
-use Rattle.grasp_cbor.specs.ReadItem.{fault_ending}
+use Rattle.grasp_cbor.specs.Leading.{Leads}
 use Rattle.grasp_cbor.specs.Shortest.{shortest}
-use Rattle.grasp_cbor.specs.declared.read.ItemFault.{ItemFault}
-use Rattle.grasp_cbor.specs.declared.read.ItemFault.TheVariants as faults
 use Rattle.grasp_cbor.proofs.Again.{item_again}
 use Rattle.grasp_cbor.proofs.Found.{item_found}
 use Rattle.grasp_cbor.proofs.HeadBytes.{AllBytes-at, AllBytes-from}
 use Rattle.grasp_cbor.proofs.Shortest.{Encodes-shortest}
-use Rattle.grasp_cbor.proofs.Whole.{one_encodes}
 use Rattle.grasp_types.specs.Objective.{IsValue}
 use Rattle.grasp_text.specs.Line.{value_word}
 use Rattle.grasp_text.proofs.Ranges.{in_range}
@@ -57,6 +53,14 @@ pub bytes_only : (word bytes : List ℕ) → bytes_of word ≡ Some bytes → Ar
 unfolding bytes_of
 bytes_only word bytes e = bytes_only_at word bytes (decode_of word) refl e
 
+-- the bytes of their digits
+pub bytes_of_spelled : (word bytes : List ℕ) → IsBytes bytes → word ≡ encode_lower bytes → bytes_of word ≡ Some bytes
+bytes_of_spelled word bytes fits e = ap bytes_of e ∙ bytes_again bytes fits
+
+-- the digits of no bytes
+pub bytes_of_none : (word : List ℕ) → ((bytes : List ℕ) → IsBytes bytes → ¬ (word ≡ encode_lower bytes)) → bytes_of word ≡ None
+bytes_of_none word h = is_none (bytes_of word) (λ bytes e. let d = bytes_only word bytes e in h bytes d.fits d.spelled)
+
 -- ---- values
 
 -- a value's shortest encoding is one
@@ -72,7 +76,7 @@ pub record IsValueWord (item : DataItem) (word : List ℕ) : Type 0 where
   pub value : IsValue item
   pub spelled : word ≡ value_word item
 
-pub value_again : (item : DataItem) (bytes : List ℕ) → Encodes item (shortest item) → depth_of item ≤ 13 → shortest item ≡ bytes → as_value bytes (item_at 13 bytes) ≡ Some item
+value_again : (item : DataItem) (bytes : List ℕ) → Encodes item (shortest item) → depth_of item ≤ 13 → shortest item ≡ bytes → as_value bytes (item_at 13 bytes) ≡ Some item
 value_again item bytes enc shallow e =
     let found : item_at 13 (shortest item) ≡ Some (item, []) = ap (item_at 13) (sym (append-nil (shortest item))) ∙ item_again item 13 (shortest item) [] enc.encoding shallow in
     ap (as_value bytes) (ap (item_at 13) (sym e) ∙ found)
@@ -99,32 +103,16 @@ value_only_at : (bytes : List ℕ) (o : Option (DataItem × List ℕ)) (item : D
 value_only_at bytes None item fits is e = absurd (let z : None ≡ some item = e in cc)
 value_only_at bytes (Some x) item fits is e = whole_only bytes x.0 x.1 item fits is e
 
--- where no item has these bytes as its shortest encoding
-pub value_none : (bytes : List ℕ) → IsBytes bytes → ((item : DataItem) → Encodes item (shortest item) → depth_of item ≤ 13 → ¬ (shortest item ≡ bytes)) → as_value bytes (item_at 13 bytes) ≡ None
-value_none bytes fits h = is_none (as_value bytes (item_at 13 bytes)) (λ item e.
-    let v = value_only_at bytes (item_at 13 bytes) item fits refl e in
-    h item (value_encodes item v.value) v.value.within (sym v.spelled))
+-- with more behind it, an item is no value
+pub value_none_more : (bytes rest : List ℕ) (item : DataItem) → item_at 13 bytes ≡ Some (item, rest) → ¬ (length rest ≡ 0) → as_value bytes (item_at 13 bytes) ≡ None
+value_none_more bytes [] item e more = absurd (more refl)
+value_none_more bytes (b ∷ rest) item e more = ap (as_value bytes) e
 
--- no item has them, as none has these bytes as its encoding
-pub value_none_encoded : (bytes : List ℕ) → IsBytes bytes → ((item : DataItem) → ¬ (Encodes item bytes)) → as_value bytes (item_at 13 bytes) ≡ None
-value_none_encoded bytes fits h = value_none bytes fits (λ item enc shallow e. h item (subst (λ (x : List ℕ). Encodes item x) e enc))
-
-one_item : (a b : DataItem) (bytes : List ℕ) → Encodes a bytes → Encodes b bytes → a ≡ b
-one_item a b bytes p q = (one_encodes a b bytes bytes [] [] p q refl).0
-
--- nor where their item nests too deep
-pub value_none_deep : (bytes : List ℕ) (found : DataItem) → IsBytes bytes → Encodes found bytes → 13 < depth_of found → as_value bytes (item_at 13 bytes) ≡ None
-value_none_deep bytes found fits enc deep = value_none bytes fits (λ item own shallow e.
-    let same : found ≡ item = one_item found item bytes enc (subst (λ (x : List ℕ). Encodes item x) e own) in
-    let depth : depth_of found ≡ depth_of item = ap depth_of same in
-    omega arith)
-
--- nor where its shortest encoding is another
-pub value_none_longer : (bytes : List ℕ) (found : DataItem) (again : List ℕ) → IsBytes bytes → Encodes found bytes → again ≡ shortest found → bytes_eq again bytes ≡ false → as_value bytes (item_at 13 bytes) ≡ None
-value_none_longer bytes found again fits enc is other = value_none bytes fits (λ item own shallow e.
-    let same : found ≡ item = one_item found item bytes enc (subst (λ (x : List ℕ). Encodes item x) e own) in
-    let t : bytes_eq again bytes ≡ true = (bytes_eq-Decides again bytes).1 (is ∙ ap shortest same ∙ e) in
-    absurd (let z = sym other ∙ t in cc))
+-- with nothing behind it, it is one where its shortest encoding is the bytes
+pub value_whole : (bytes rest again : List ℕ) (item : DataItem) (same : Bool) → item_at 13 bytes ≡ Some (item, rest) → length rest ≡ 0 → again ≡ shortest item → bytes_eq again bytes ≡ same → as_value bytes (item_at 13 bytes) ≡ cond same (some item) None
+value_whole bytes (b ∷ rest) again item same e all is t = absurd (omega arith)
+value_whole bytes [] again item same e all is t =
+    ap (as_value bytes) e ∙ ap (λ (b : Bool). cond b (some item) None) (ap (λ (x : List ℕ). bytes_eq x bytes) (sym is) ∙ t)
 
 value_found : (item : DataItem) (word : List ℕ) → IsValueWord item word → value_of word ≡ Some item
 unfolding value_of
@@ -161,20 +149,21 @@ value_exact = record {
   only = value_only;
 }
 
--- ---- what `read_item` says
+-- ---- what `read_first_item` says
 
-pub only_whole : (bytes : List ℕ) (item : DataItem) (o : Option Ending) → Encodes item bytes → ((ending : Ending) → IsEnding bytes (length bytes + 1) ending → IfSome o (λ e. e ≡ ending)) → IfSome o (λ e. e ≡ whole item (length bytes))
-only_whole bytes item o enc only =
-    only (whole item (length bytes)) (record { encodes = subst (λ (x : List ℕ). Encodes item x) (sym (take_all (length bytes) bytes (omega arith))) enc; inside = omega arith; within = omega arith })
+first_some : (bytes rest : List ℕ) (item : DataItem) → Leads item bytes rest → depth_of item ≤ 13 → Some (item, rest) ≡ item_at 13 bytes
+first_some bytes rest item l shallow = sym (ap (item_at 13) l.parts ∙ item_again item 13 l.front rest l.encoding shallow)
 
--- a fault other than want of memory
-pub no_item : (bytes : List ℕ) (fault : ItemFault) → ¬ (fault ≡ faults.OutOfMemory) → ((ending : Ending) → IsEnding bytes (length bytes + 1) ending → IfSome (fault_ending fault) (λ e. e ≡ ending)) → (item : DataItem) → ¬ (Encodes item bytes)
-no_item bytes (faults.Malformed at) memory only item enc = let z = only_whole bytes item (fault_ending (faults.Malformed at)) enc only in cc
-no_item bytes (faults.NotText at) memory only item enc = let z = only_whole bytes item (fault_ending (faults.NotText at)) enc only in cc
-no_item bytes (faults.TooDeep at) memory only item enc = let z = only_whole bytes item (fault_ending (faults.TooDeep at)) enc only in cc
-no_item bytes faults.TooLong memory only item enc = let z = only_whole bytes item (fault_ending faults.TooLong) enc only in cc
-no_item bytes faults.OutOfMemory memory only item enc = memory refl
+first_none : (bytes : List ℕ) → IsBytes bytes → ((item : DataItem) (rest : List ℕ) → depth_of item ≤ 13 → ¬ (Leads item bytes rest)) → None ≡ item_at 13 bytes
+first_none bytes fits h = sym (is_none (item_at 13 bytes) (λ x e.
+    let found = item_found 13 bytes x fits e in
+    h x.0 x.1 found.within (record { front = found.front; encoding = found.encoding; parts = found.parts })))
 
--- the ending that an answer tells is this one
-pub told : (o : Option Ending) (x w : Ending) → o ≡ Some x → IfSome o (λ e. e ≡ w) → x ≡ w
-told o x w is h = subst (λ (p : Option Ending). IfSome p (λ e. e ≡ w)) is h
+-- the item that leads the bytes is the one that is found
+pub first_is : {X E : Type 0} (item : X → DataItem) (rest : X → List ℕ) (bytes : List ℕ) (r : Result (Option X) E) → IsBytes bytes
+    → IfOk r (λ found. IfSome found (λ x. Leads (item x) bytes (rest x) × (depth_of (item x) ≤ 13)))
+    → IfOk r (λ found. IfNone found ((t : DataItem) (others : List ℕ) → depth_of t ≤ 13 → ¬ (Leads t bytes others)))
+    → IfOk r (λ found. option_map (λ x. (item x, rest x)) found ≡ item_at 13 bytes)
+first_is item rest bytes (Err e) fits led none = tt
+first_is item rest bytes (Ok None) fits led none = first_none bytes fits none
+first_is item rest bytes (Ok (Some x)) fits led none = first_some bytes (rest x) (item x) led.0 led.1

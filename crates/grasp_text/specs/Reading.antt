@@ -2,12 +2,12 @@
 -- the word on that doesn't fit. Public calls cite `Reads`, `word_at`, `end_at`, `exactly`, `maybe_of`, and `number_of`,
 -- `text_of`, `value_of` and `address_of`, which the laws of Laws.antt determine; all else is inside: only private calls
 -- cite it.
-use Rattle.std.specs.Prelude.{◌≡◌, ℕ, ◌+◌, ◌-◌, ◌*◌, ◌==◌, Bool, true, not, nat_le, nat_lt, ◌&&◌, if◌then◌else◌, List, [], ◌∷◌, length, take, drop, Option, Some, None, Result, Ok, Err, codes, decimal}
+use Rattle.std.specs.Prelude.{◌≡◌, ℕ, ◌+◌, ◌-◌, ◌*◌, ◌/◌, ◌%◌, ◌==◌, Bool, true, not, nat_le, nat_lt, ◌&&◌, if◌then◌else◌, List, [], ◌∷◌, length, take, drop, Option, Some, None, Result, Ok, Err, codes, decimal, slice_index}
 use Rattle.std.specs.List.{AllByRecursion}
 use Rattle.std.specs.Int.{Width, w32, w128, from_be_bytes}
 use Rattle.std.specs.Str.{is_utf8, bytes_eq}
 use Rattle.std.specs.Str.Parse.{digits_value}
-use Rattle.hex.specs.Hex.{decode_of, decode_sized, encode_lower}
+use Rattle.hex.specs.Hex.{decode_of, decode_sized, encode_lower, lower_digits}
 use Rattle.hex.specs.declared.error.FromHexError.{FromHexError}
 use Rattle.grasp_cbor.specs.Build.{item_at}
 use Rattle.grasp_cbor.specs.DataItem.{DataItem}
@@ -90,6 +90,10 @@ ArePlain bytes = AllByRecursion (λ b. is_plain b ≡ true) bytes
 -- the value of a lower-case hexadecimal digit
 abbrev pub digit_of : ℕ → Option ℕ
 digit_of c = if nat_le 48 c && nat_le c 57 then Some (c - 48) else (if nat_le 97 c && nat_le c 102 then Some (c - 87) else None)
+
+-- these two are the lower-case hexadecimal digits of the byte
+abbrev pub AreDigitsOf : ℕ → ℕ → ℕ → Type 0
+AreDigitsOf high low byte = (high ≡ slice_index lower_digits (byte / 16)) × (low ≡ slice_index lower_digits (byte % 16))
 
 abbrev pub escaped_byte : Option ℕ → Option ℕ → Option ℕ
 escaped_byte None low = None

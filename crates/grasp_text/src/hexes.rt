@@ -9,6 +9,7 @@ ghost use Rattle.grasp_text.specs.Line.{address_word, v4_word, v6_word};
 ghost use Rattle.grasp_text.specs.Reading.{v4_of, v6_of, address_of, bytes_of};
 ghost use Rattle.grasp_text.specs.Words.{spaced};
 
+use crate::digits::read_digits;
 use grasp_cbor::OutOfMemory;
 use grasp_types::Address;
 use std::alloc::Global;
@@ -18,14 +19,7 @@ pub(crate) fn v4_address(word: &[u8]) -> Option<u32>
     ensures { result ≡ v4_of word.now }
 {
     let mut bytes = [0u8; 4];
-    if hex::decode_to_slice(word, &mut bytes).is_err() {
-        return None;
-    }
-    let mut digits = [0u8; 8];
-    if hex::encode_to_slice(bytes.as_slice(), &mut digits).is_err() {
-        return None;
-    }
-    if digits.as_slice() == word {
+    if word.len() == 8 && read_digits(word, &mut bytes) {
         Some(u32::from_be_bytes(bytes))
     } else {
         None
@@ -37,14 +31,7 @@ pub(crate) fn v6_address(word: &[u8]) -> Option<u128>
     ensures { result ≡ v6_of word.now }
 {
     let mut bytes = [0u8; 16];
-    if hex::decode_to_slice(word, &mut bytes).is_err() {
-        return None;
-    }
-    let mut digits = [0u8; 32];
-    if hex::encode_to_slice(bytes.as_slice(), &mut digits).is_err() {
-        return None;
-    }
-    if digits.as_slice() == word {
+    if word.len() == 32 && read_digits(word, &mut bytes) {
         Some(u128::from_be_bytes(bytes))
     } else {
         None

@@ -3,6 +3,7 @@
 //! A line is words with one blank between two. Each message has exactly one line.
 #![tactic(auto)]
 
+mod digits;
 mod fault;
 mod hexes;
 mod lists;

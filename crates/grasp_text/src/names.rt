@@ -1,6 +1,7 @@
 //! The words that say what follows.
 
-ghost use Rattle.std.specs.Prelude.{◌≡◌};
+ghost use Rattle.std.specs.Prelude.{◌≡◌, Some, None, if◌then◌else◌};
+ghost use Rattle.std.specs.Str.{bytes_eq};
 ghost use Rattle.grasp_text.specs.Grammar.{name_of, host_of, are_locators, is_accept};
 ghost use Rattle.grasp_text.specs.Reading.{proto_of};
 
@@ -31,35 +32,61 @@ pub(crate) enum Host {
     Resource,
 }
 
+/// This name, where the word is its word.
+fn only_name(word: &[u8], expected: &[u8], name: MessageName) -> Option<MessageName>
+    ensures { result ≡ (if bytes_eq word.now expected.now then Some name else None) }
+{
+    if word == expected { Some(name) } else { None }
+}
+
+/// That name of the two whose word the word is.
+fn either_name(
+    word: &[u8],
+    first: &[u8],
+    name: MessageName,
+    second: &[u8],
+    other: MessageName,
+) -> Option<MessageName>
+    ensures { result ≡ (if bytes_eq word.now first.now then Some name else (if bytes_eq word.now second.now then Some other else None)) }
+{
+    if word == first {
+        Some(name)
+    } else {
+        only_name(word, second, other)
+    }
+}
+
 /// The message that a line of this first word is.
-#[tactic(auto, unfolding(crate::specs::Grammar::name_of))]
 pub(crate) fn message_name(word: &[u8]) -> Option<MessageName>
     ensures { result ≡ name_of word.now }
 {
-    if word == b"noop".as_slice() {
-        Some(MessageName::Noop)
-    } else if word == b"discovery".as_slice() {
-        Some(MessageName::Discovery)
-    } else if word == b"response".as_slice() {
-        Some(MessageName::Response)
-    } else if word == b"request-neg".as_slice() {
-        Some(MessageName::RequestNegotiation)
-    } else if word == b"request-syn".as_slice() {
-        Some(MessageName::RequestSynchronization)
-    } else if word == b"negotiate".as_slice() {
-        Some(MessageName::Negotiate)
-    } else if word == b"end".as_slice() {
-        Some(MessageName::End)
-    } else if word == b"wait".as_slice() {
-        Some(MessageName::Wait)
-    } else if word == b"synch".as_slice() {
-        Some(MessageName::Synch)
-    } else if word == b"flood".as_slice() {
-        Some(MessageName::Flood)
-    } else if word == b"invalid".as_slice() {
-        Some(MessageName::Invalid)
-    } else {
-        None
+    match word.len() {
+        3 => only_name(word, b"end", MessageName::End),
+        4 => either_name(word, b"noop", MessageName::Noop, b"wait", MessageName::Wait),
+        5 => either_name(
+            word,
+            b"synch",
+            MessageName::Synch,
+            b"flood",
+            MessageName::Flood,
+        ),
+        7 => only_name(word, b"invalid", MessageName::Invalid),
+        8 => only_name(word, b"response", MessageName::Response),
+        9 => either_name(
+            word,
+            b"discovery",
+            MessageName::Discovery,
+            b"negotiate",
+            MessageName::Negotiate,
+        ),
+        11 => either_name(
+            word,
+            b"request-neg",
+            MessageName::RequestNegotiation,
+            b"request-syn",
+            MessageName::RequestSynchronization,
+        ),
+        _ => None,
     }
 }
 
@@ -68,16 +95,12 @@ pub(crate) fn message_name(word: &[u8]) -> Option<MessageName>
 pub(crate) fn locator_host(word: &[u8]) -> Option<Host>
     ensures { result ≡ host_of word.now }
 {
-    if word == b"v6".as_slice() {
-        Some(Host::Ipv6)
-    } else if word == b"v4".as_slice() {
-        Some(Host::Ipv4)
-    } else if word == b"fqdn".as_slice() {
-        Some(Host::Domain)
-    } else if word == b"uri".as_slice() {
-        Some(Host::Resource)
-    } else {
-        None
+    match word {
+        b"v6" => Some(Host::Ipv6),
+        b"v4" => Some(Host::Ipv4),
+        b"fqdn" => Some(Host::Domain),
+        b"uri" => Some(Host::Resource),
+        _ => None,
     }
 }
 

@@ -9,6 +9,9 @@ ghost use Rattle.grasp_text.specs.Words.{spaced};
 use grasp_cbor::OutOfMemory;
 use itoa::Buffer;
 
+/// Below this, one more digit surely fits 64 bits.
+const SURELY_FITS: u64 = u64::MAX / 10;
+
 /// The number of a word, which is at most `most`: decimal digits with no leading zero, or `None`.
 pub fn number(word: &[u8], most: u64) -> Option<u64>
     ensures found { IfSome result (λ n. word.now ≡ decimal n) }
@@ -65,7 +68,11 @@ fn with_digit(value: u64, digit: u8) -> Option<u64>
     if digit < b'0' || digit > b'9' {
         return None;
     }
-    value.checked_mul(10)?.checked_add(u64::from(digit - b'0'))
+    let digit = u64::from(digit - b'0');
+    if value < SURELY_FITS {
+        return Some(value * 10 + digit);
+    }
+    value.checked_mul(10)?.checked_add(digit)
 }
 
 /// Appends a blank and a decimal number. After an `Err` a part of them may have been appended.

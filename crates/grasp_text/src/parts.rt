@@ -142,12 +142,12 @@ fn read_optional_proto(words: &mut Words<'_>) -> Result<Option<Proto>, WordFault
     ensures { Reads (λ p. p) result words.new (word_at (maybe_of proto_of) words.old) }
 {
     let (word, unfit) = words.next()?;
-    if word == b"-".as_slice() {
-        return Ok(None);
-    }
-    match locator_proto(word) {
-        Some(proto) => Ok(Some(proto)),
-        None => Err(unfit),
+    match word {
+        b"-" => Ok(None),
+        _ => match locator_proto(word) {
+            Some(proto) => Ok(Some(proto)),
+            None => Err(unfit),
+        },
     }
 }
 
@@ -155,12 +155,12 @@ fn read_optional_port(words: &mut Words<'_>) -> Result<Option<u16>, WordFault>
     ensures { Reads (λ n. n) result words.new (word_at (maybe_of (number_of 65535)) words.old) }
 {
     let (word, unfit) = words.next()?;
-    if word == b"-".as_slice() {
-        return Ok(None);
-    }
-    match number(word, 65535) {
-        Some(port) => Ok(Some(port as u16)),
-        None => Err(unfit),
+    match word {
+        b"-" => Ok(None),
+        _ => match number(word, 65535) {
+            Some(port) => Ok(Some(port as u16)),
+            None => Err(unfit),
+        },
     }
 }
 
@@ -183,11 +183,11 @@ fn read_place(words: &mut Words<'_>) -> Result<Option<Host>, WordFault>
     ensures { Reads (λ h. h) result words.new (word_at place_of words.old) }
 {
     let (word, unfit) = words.next()?;
-    if word == b"none".as_slice() {
-        return Ok(None);
-    }
-    match locator_host(word) {
-        Some(host) => Ok(Some(host)),
-        None => Err(unfit),
+    match word {
+        b"none" => Ok(None),
+        _ => match locator_host(word) {
+            Some(host) => Ok(Some(host)),
+            None => Err(unfit),
+        },
     }
 }

@@ -5,9 +5,10 @@ ghost use Rattle.std.specs.Str.{IsUtf8};
 ghost use Rattle.hex.specs.Hex.{lower_digits};
 ghost use Rattle.grasp_cbor.specs.Extends.{Extends};
 ghost use Rattle.grasp_text.specs.Line.{text_word, escaped, all_escaped};
-ghost use Rattle.grasp_text.specs.Reading.{text_of, as_text, unescaped, first_unescaped, behind_percent, behind_byte, is_plain, ArePlain, digit_of, byte_of};
+ghost use Rattle.grasp_text.specs.Reading.{text_of, as_text, unescaped, first_unescaped, behind_percent, behind_byte, is_plain, ArePlain, byte_of};
 ghost use Rattle.grasp_text.specs.Words.{spaced};
 
+use crate::digits::digit_value;
 use grasp_cbor::{Chars, OutOfMemory};
 use std::alloc::Global;
 
@@ -28,18 +29,6 @@ fn stand_for_themselves(bytes: &[u8]) -> bool
         }
     }
     true
-}
-
-/// The value of a lower-case hexadecimal digit.
-fn digit_value(digit: u8) -> Option<u8>
-    ensures value { result ≡ digit_of digit }
-    ensures small { IfSome result (λ v. v < 16) }
-{
-    match digit {
-        b'0'..=b'9' => Some(digit - b'0'),
-        b'a'..=b'f' => Some(digit - b'a' + 10),
-        _ => None,
-    }
 }
 
 /// The byte of the two digits behind a percent sign, unless it stands for itself.

@@ -1,11 +1,9 @@
 //! Values and raw bytes as words: `x` and hexadecimal digits, a value's those of its shortest encoding.
 
-ghost use Rattle.std.specs.Prelude.{◌≡◌, ℕ, List, ◌++◌, ◌∷◌, [], OnOk, OnErr, IfOk, IfSome, IfNone, option_map, string_bytes};
-ghost use Rattle.hex.specs.Hex.{IsBytes};
+ghost use Rattle.std.specs.Prelude.{◌≡◌, ◌≤◌, ℕ, List, ◌++◌, ◌∷◌, [], OnOk, OnErr, IfOk, IfSome, IfNone, option_map, string_bytes};
 ghost use Rattle.grasp_cbor.specs.Build.{item_at};
 ghost use Rattle.grasp_cbor.specs.Bytes.{AllBytes};
-ghost use Rattle.grasp_cbor.specs.DataItem.{DataItem};
-ghost use Rattle.grasp_cbor.specs.Encodes.{Encodes};
+ghost use Rattle.grasp_cbor.specs.DataItem.{DataItem, depth_of};
 ghost use Rattle.grasp_cbor.specs.Extends.{Extends};
 ghost use Rattle.grasp_cbor.specs.Item.{data_item_of};
 ghost use Rattle.grasp_types.specs.Objective.{IsValue};
@@ -13,62 +11,53 @@ ghost use Rattle.grasp_text.specs.Line.{value_word, bytes_word};
 ghost use Rattle.grasp_text.specs.Reading.{value_of, as_value, bytes_of};
 ghost use Rattle.grasp_text.specs.Words.{spaced};
 
+use crate::digits::read_digits;
 use crate::texts::behind;
-use grasp_cbor::{Item, ItemFault, OutOfMemory, ReadItem, read_item, write_item};
+use grasp_cbor::{Item, OutOfMemory, read_first_item, write_item};
 use grasp_types::Value;
 use std::alloc::Global;
+
+/// Room for the encoding of most values.
+const MOST_VALUES: usize = 64;
 
 /// The bytes of lower-case hexadecimal digits, or `None`.
 #[tactic(auto, unfolding(crate::specs::Reading::bytes_of))]
 fn bytes_of_digits(alloc: Global, digits: &[u8]) -> Result<Option<Vec<u8>>, OutOfMemory>
     ensures { IfOk result (λ o. option_map (λ v. v.items) o ≡ bytes_of digits.now) }
 {
-    match hex::decode(alloc, digits) {
-        Ok(bytes) => {
-            let again = hex::encode(alloc, bytes.as_slice())?;
-            if again.as_bytes() == digits {
-                Ok(Some(bytes))
-            } else {
-                Ok(None)
-            }
-        }
-        Err(hex::FromHexError::OutOfMemory) => Err(OutOfMemory),
-        Err(_) => Ok(None),
+    if digits.len() % 2 != 0 {
+        return Ok(None);
+    }
+    let mut bytes = vec![in alloc; 0u8; digits.len() / 2]?;
+    if read_digits(digits, bytes.as_mut_slice()) {
+        Ok(Some(bytes))
+    } else {
+        Ok(None)
     }
 }
 
-/// The item that these bytes encode, all of them, or `None`.
-fn whole_item(alloc: Global, bytes: &[u8]) -> Result<Option<Item>, OutOfMemory>
-    ensures some { IfOk result (λ o. IfSome o (λ i. Encodes (data_item_of i) bytes.now)) }
-    ensures none { IfOk result (λ o. IfNone o ((item : DataItem) → ¬ Encodes item bytes.now)) }
-    ensures bytes { IsBytes bytes.now }
+/// The item at the front of the bytes, where it is no deeper than a value, and what follows.
+fn first_item(alloc: Global, bytes: &[u8]) -> Result<Option<(Item, &[u8])>, OutOfMemory>
+    ensures value { IfOk result (λ o. option_map (λ p. (data_item_of p.0, p.1.now)) o ≡ item_at 13 bytes.now) }
+    ensures shallow { IfOk result (λ o. IfSome o (λ p. depth_of (data_item_of p.0) ≤ 13)) }
 {
-    let len = bytes.len() as u64;
-    match read_item(alloc, bytes, len + 1) {
-        Ok(ReadItem::Whole { item, used }) => {
-            if used == len {
-                Ok(Some(item))
-            } else {
-                Ok(None)
-            }
-        }
-        Ok(ReadItem::Partial) => Ok(None),
-        Err(ItemFault::OutOfMemory) => Err(OutOfMemory),
-        Err(_) => Ok(None),
-    }
+    read_first_item(alloc, bytes, 13)
 }
 
 /// The value whose shortest encoding these bytes are, or `None`.
 fn value_of_bytes(alloc: Global, bytes: &[u8]) -> Result<Option<Value>, OutOfMemory>
     ensures { IfOk result (λ o. o ≡ as_value bytes.now (item_at 13 bytes.now)) }
 {
-    let Some(item) = whole_item(alloc, bytes)? else {
+    let Some((item, rest)) = first_item(alloc, bytes)? else {
         return Ok(None);
     };
+    if !rest.is_empty() {
+        return Ok(None);
+    }
     let Ok(value) = Value::of(item) else {
-        return Ok(None);
+        unreachable!();
     };
-    let mut again = Vec::new(alloc);
+    let mut again = Vec::with_capacity(alloc, bytes.len())?;
     write_item(value.item(), &mut again)?;
     if again.as_slice() == bytes {
         Ok(Some(value))
@@ -118,7 +107,7 @@ pub fn push_value(alloc: Global, out: &mut String, value: &Value) -> Result<(), 
     ensures ranges { OnOk result (IsValue value.now) }
     ensures err { OnErr result (Extends (string_bytes out.old) (string_bytes out.new)) }
 {
-    let mut bytes = Vec::new(alloc);
+    let mut bytes = Vec::with_capacity(alloc, MOST_VALUES)?;
     write_item(value.item(), &mut bytes)?;
     push_bytes(alloc, out, bytes.as_slice())
 }

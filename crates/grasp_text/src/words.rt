@@ -185,12 +185,12 @@ impl<'a> Words<'a> {
         ensures { Reads (λ v. v) result self.new (word_at (maybe_of value_of) self.old) }
     {
         let (word, unfit) = self.next()?;
-        if word == b"-".as_slice() {
-            return Ok(None);
-        }
-        match value(alloc, word)? {
-            Some(value) => Ok(Some(value)),
-            None => Err(unfit),
+        match word {
+            b"-" => Ok(None),
+            _ => match value(alloc, word)? {
+                Some(value) => Ok(Some(value)),
+                None => Err(unfit),
+            },
         }
     }
 }

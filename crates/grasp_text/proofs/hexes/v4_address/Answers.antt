@@ -1,26 +1,21 @@
-use Rattle.std.proofs.Common.{rules, ◌≡◌, Bool, true, false, None, cond, sym, ap, ◌∙◌}
-use Rattle.std.specs.Int.{w32, from_be_bytes}
-use Rattle.std.specs.Str.{bytes_eq}
-use Rattle.hex.specs.Hex.{decode_sized, encode_lower}
+use Rattle.std.proofs.Common.{◌≡◌, ◌^◌, length, sym, ap, ◌∙◌, arith}
+use Rattle.std.specs.Int.{w32, byte_len}
 use Rattle.grasp_text.specs.Reading.{v4_of}
-use Rattle.grasp_text.proofs.HexWords.{refused, taken}
+use Rattle.grasp_text.proofs.HexWords.{wide32, hex_of_bytes, hex_no_bytes, hex_other_length}
 use Rattle.grasp_text.proofs.NumberWords.{some}
 use Rattle.grasp_text.proofs.hexes.v4_address.Goals as goal
+use Rattle.grasp_text.proofs.hexes.v4_address.Goals.{else-word-eq8-via-then-word-eq8+else-read_digits, else-word-eq8-via-else-word-eq8}
 
-pub returns-then-is_err : goal.returns-then-is_err
+pub returns-then-read_digits : goal.returns-then-read_digits
 unfolding v4_of
-returns-then-is_err c = sym (refused w32 c.args.word.now (decode_sized c.args.word.now 4) c.decode_to_slice.result c.decode_to_slice.new.out c.decode_to_slice.ensures.value cc)
+returns-then-read_digits c =
+    let long : length c.read_digits.new.out ≡ byte_len w32 = omega arith in
+    ap some c.from_be_bytes.ensures
+    ∙ sym (hex_of_bytes w32 c.args.word.now c.read_digits.new.out long c.read_digits.ensures.fits (c.read_digits.ensures.found c.if-read_digits.true))
 
-pub returns-then-eq : goal.returns-then-eq
+pub returns-else-word-eq8 : goal.returns-else-word-eq8
 unfolding v4_of
-returns-then-eq c =
-    let t = taken w32 c.args.word.now (decode_sized c.args.word.now 4) c.decode_to_slice.result c.decode_to_slice.new.out c.decode_to_slice.ensures.value cc in
-    let same : bytes_eq (encode_lower c.decode_to_slice.new.out) c.args.word.now ≡ true = search rules in
-    sym (t ∙ ap (λ (b : Bool). cond b (some (from_be_bytes w32 c.decode_to_slice.new.out)) None) same ∙ ap some (sym c.from_be_bytes.ensures))
-
-pub returns-else-eq : goal.returns-else-eq
-unfolding v4_of
-returns-else-eq c =
-    let t = taken w32 c.args.word.now (decode_sized c.args.word.now 4) c.decode_to_slice.result c.decode_to_slice.new.out c.decode_to_slice.ensures.value cc in
-    let other : bytes_eq (encode_lower c.decode_to_slice.new.out) c.args.word.now ≡ false = search rules in
-    sym (t ∙ ap (λ (b : Bool). cond b (some (from_be_bytes w32 c.decode_to_slice.new.out)) None) other)
+returns-else-word-eq8 c = elim c.else-word-eq8.branch [
+  | else-word-eq8-via-then-word-eq8+else-read_digits w ↦ sym (hex_no_bytes w32 (2 ^ 32) wide32 c.args.word.now (w.read_digits.ensures.none w.if-read_digits.false))
+  | else-word-eq8-via-else-word-eq8 w ↦ sym (hex_other_length w32 (2 ^ 32) wide32 c.args.word.now (λ e. omega (arith, e, w.if-word-eq8.false)))
+]

@@ -1,0 +1,44 @@
+//! Lower-case hexadecimal digits, two for each byte.
+
+ghost use Rattle.std.specs.Prelude.{◌≡◌, ℕ, List, true, false, ◌<◌, ◌*◌, length, IfSome, IfNone};
+ghost use Rattle.hex.specs.Hex.{IsBytes, encode_lower};
+ghost use Rattle.grasp_text.specs.Reading.{digit_of, AreDigitsOf};
+
+/// The value of a lower-case hexadecimal digit.
+pub(crate) fn digit_value(digit: u8) -> Option<u8>
+    ensures value { result ≡ digit_of digit }
+    ensures small { IfSome result (λ v. v < 16) }
+{
+    match digit {
+        b'0'..=b'9' => Some(digit - b'0'),
+        b'a'..=b'f' => Some(digit - b'a' + 10),
+        _ => None,
+    }
+}
+
+/// The byte of two digits, or `None`.
+fn byte_of_digits(high: u8, low: u8) -> Option<u8>
+    ensures found { IfSome result (λ b. AreDigitsOf high low b) }
+    ensures small { IfSome result (λ b. b < 256) }
+    ensures none { IfNone result ((b : ℕ) → b < 256 → ¬ AreDigitsOf high low b) }
+{
+    let high = digit_value(high)?;
+    let low = digit_value(low)?;
+    Some(high * 16 + low)
+}
+
+/// Writes the bytes of the digits, or returns false where they are the digits of no bytes.
+pub(crate) fn read_digits(digits: &[u8], out: &mut [u8]) -> bool
+    requires { length digits.now ≡ 2 * length out.old }
+    ensures found { result ≡ true → digits.now ≡ encode_lower out.new }
+    ensures fits { IsBytes out.new }
+    ensures none { result ≡ false → (bytes : List ℕ) → IsBytes bytes → ¬ (digits.now ≡ encode_lower bytes) }
+{
+    for i in 0..out.len() {
+        match byte_of_digits(digits[2 * i], digits[2 * i + 1]) {
+            Some(byte) => out[i] = byte,
+            None => return false,
+        }
+    }
+    true
+}
