@@ -2,7 +2,9 @@
 #![tactic(auto)]
 
 mod lines;
+mod page;
 mod traced;
 mod watched;
+mod writer;
 
 pub use traced::Traced;

@@ -1,13 +1,14 @@
 //! Links whose traffic is written to a sink.
 
-ghost use Rattle.std.specs.Prelude.{◌≡◌};
+ghost use Rattle.std.specs.Prelude.{◌≡◌, ◌≤◌};
+ghost use Rattle.grasp_io.specs.Told.{Stays};
+ghost use Rattle.grasp_io.specs.Links.{IsNext, Gives, Waits, IsAnswer, Hands};
+ghost use Rattle.grasp_trace.specs.Sheet.{sheet};
+ghost use Rattle.grasp_trace.specs.Traffic.{TellsAsked, TellsOutput};
 
-use crate::lines;
-use crate::watched::{Watched, feed, place_of};
-use grasp_cbor::OutOfMemory;
-use grasp_io::{Asked, Failed, LinkPlan, Links, Sent, Sink, write_all};
-use grasp_types::{Input, Output};
-use grasp_wire::Cutter;
+use crate::writer::Writer;
+use grasp_io::{Asked, Failed, LinkPlan, Links, Sent, Sink};
+use grasp_types::Output;
 use std::alloc::Global;
 
 /// Links that are watched: each input that they give and each output that they are handed is written as a line, each message as
@@ -18,27 +19,24 @@ pub struct Traced<L: Links + Drop, K: Sink + Drop> {
     writer: Writer<K>,
 }
 
-/// Writes the lines.
-#[derive(Drop)]
-struct Writer<K: Sink + Drop> {
-    alloc: Global,
-    sink: K,
-    streams: Watched,
-}
-
 impl<L: Links + Drop, K: Sink + Drop> Traced<L, K> {
     /// These links, watched: the lines go to this sink.
     pub fn new(alloc: Global, links: L, sink: K) -> Self
         ensures links { result.links ≡ links }
+        ensures sink { result.writer.page.sink ≡ sink }
+        ensures none { result.writer.page.left_out ≡ 0 }
     {
         Traced {
             links,
-            writer: Writer {
-                alloc,
-                sink,
-                streams: Watched::new(alloc),
-            },
+            writer: Writer::new(alloc, sink),
         }
+    }
+
+    /// How many lines were left out for want of memory, or 2^64 - 1.
+    pub fn left_out(&self) -> u64
+        ensures { result ≡ self.now.writer.page.left_out }
+    {
+        self.writer.page.left_out
     }
 
     /// The links, which aren't watched any more.
@@ -68,7 +66,17 @@ impl<L: Links + Drop, K: Sink + Drop> Links for Traced<L, K> {
         self.links.open(plan)
     }
 
-    fn ask(&mut self, wait_ms: u32) -> Asked {
+    // What was given is told.
+    fn ask(&mut self, wait_ms: u32) -> Asked
+        ensures stays_open { L.is_open self.new.links ≡ L.is_open self.old.links }
+        ensures told { Stays (L.plans self.old.links) (L.plans self.new.links) }
+        ensures waited { Waits (L.waits self.old.links) (L.waits self.new.links) result wait_ms }
+        ensures gave { Gives (L.given self.old.links) (L.given self.new.links) result }
+        ensures took { Stays (L.handed self.old.links) (L.handed self.new.links) }
+        ensures next { IsNext (L.opened self.old.links) (L.opened self.new.links) result }
+        ensures never_falls { L.faults self.old.links ≤ L.faults self.new.links }
+        ensures written { TellsAsked result (sheet (K.written self.old.writer.page.sink) (K.faults self.old.writer.page.sink) self.old.writer.page.left_out) (sheet (K.written self.new.writer.page.sink) (K.faults self.new.writer.page.sink) self.new.writer.page.left_out) }
+    {
         let asked = self.links.ask(wait_ms);
         if let Asked::Got(input) = &asked {
             self.writer.received(input);
@@ -76,121 +84,20 @@ impl<L: Links + Drop, K: Sink + Drop> Links for Traced<L, K> {
         asked
     }
 
-    fn send(&mut self, output: &Output) -> Sent {
+    // What was handed over is told, and what became of it.
+    fn send(&mut self, output: &Output) -> Sent
+        ensures stays_open { L.is_open self.new.links ≡ L.is_open self.old.links }
+        ensures told { Stays (L.plans self.old.links) (L.plans self.new.links) }
+        ensures waited { Stays (L.waits self.old.links) (L.waits self.new.links) }
+        ensures gave { Stays (L.given self.old.links) (L.given self.new.links) }
+        ensures took { Hands (L.handed self.old.links) (L.handed self.new.links) result output.now }
+        ensures none_opened { L.opened self.new.links ≡ L.opened self.old.links }
+        ensures answer { IsAnswer output.now result (L.faults self.old.links) (L.faults self.new.links) }
+        ensures never_falls { L.faults self.old.links ≤ L.faults self.new.links }
+        ensures written { TellsOutput output.now result (sheet (K.written self.old.writer.page.sink) (K.faults self.old.writer.page.sink) self.old.writer.page.left_out) (sheet (K.written self.new.writer.page.sink) (K.faults self.new.writer.page.sink) self.new.writer.page.left_out) }
+    {
         let sent = self.links.send(output);
         self.writer.handed_over(output, sent);
         sent
-    }
-}
-
-/// What became of an output.
-fn word_of(sent: Sent) -> &'static str {
-    match sent {
-        Sent::Sent => "sent",
-        Sent::Lost => "lost",
-        Sent::Failed => "failed",
-    }
-}
-
-impl<K: Sink + Drop> Writer<K> {
-    /// Writes a line, where there is one.
-    fn write(&mut self, line: Result<String, OutOfMemory>) {
-        write_line(&mut self.sink, line);
-    }
-
-    /// What an input tells.
-    fn received(&mut self, input: &Input) {
-        match input {
-            Input::Datagram { link, from, bytes } => {
-                let line = lines::datagram(self.alloc, "received", *link, *from, bytes.bytes());
-                self.write(line);
-            }
-            Input::Opened { stream, from } => {
-                self.streams.begin(*stream);
-                let line = lines::opening(self.alloc, *stream, from);
-                self.write(line);
-            }
-            Input::Bytes { stream, bytes } => self.piece(*stream, true, bytes.bytes()),
-            Input::Closed { stream } => {
-                self.streams.end(*stream);
-                let line = lines::closing(self.alloc, "received", *stream);
-                self.write(line);
-            }
-            Input::Api { .. } | Input::Drain { .. } => {}
-        }
-    }
-
-    /// What an output tells, and what became of it.
-    fn handed_over(&mut self, output: &Output, sent: Sent) {
-        match output {
-            Output::Datagram { link, to, bytes } => {
-                let line = lines::datagram(self.alloc, word_of(sent), *link, *to, bytes.bytes());
-                self.write(line);
-            }
-            Output::Dial { stream, to } => {
-                self.streams.begin(*stream);
-                let line = lines::dial(self.alloc, word_of(sent), *stream, to);
-                self.write(line);
-            }
-            Output::Send { stream, bytes } => self.piece(*stream, false, bytes.bytes()),
-            Output::Close { stream } => {
-                self.streams.end(*stream);
-                let line = lines::closing(self.alloc, word_of(sent), *stream);
-                self.write(line);
-            }
-        }
-    }
-
-    /// A piece of a stream, of which each message that is whole now is written.
-    fn piece(&mut self, stream: u64, received: bool, piece: &[u8]) {
-        let Some(wires) = self.streams.get(stream) else {
-            return;
-        };
-        let (what, cutter) = if received {
-            ("received", &mut wires.received)
-        } else {
-            ("sent", &mut wires.sent)
-        };
-        let is_well = write_messages(&mut self.sink, self.alloc, what, stream, cutter, piece);
-        if !is_well {
-            *cutter = None;
-        }
-    }
-}
-
-/// Writes each message that is whole with this piece, and returns whether the direction goes on: one with a fault doesn't.
-fn write_messages<K: Sink>(
-    sink: &mut K,
-    alloc: Global,
-    what: &str,
-    stream: u64,
-    cutter: &mut Option<Cutter>,
-    piece: &[u8],
-) -> bool {
-    let Some(cutter) = cutter else {
-        return false;
-    };
-    if !feed(cutter, piece) {
-        return false;
-    }
-    for _ in 0..piece.len() {
-        match cutter.next() {
-            Ok(Some(message)) => write_line(sink, lines::message(alloc, what, stream, &message)),
-            Ok(None) => return true,
-            Err(fault) => {
-                if let Some(place) = place_of(&fault) {
-                    write_line(sink, lines::fault(alloc, what, stream, place));
-                }
-                return false;
-            }
-        }
-    }
-    true
-}
-
-/// Writes a line, where there is one.
-fn write_line<K: Sink>(sink: &mut K, line: Result<String, OutOfMemory>) {
-    if let Ok(text) = line {
-        let _written = write_all(sink, text.as_bytes());
     }
 }

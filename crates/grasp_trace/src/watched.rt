@@ -27,14 +27,14 @@ impl Watched {
         }
     }
 
-    /// A stream begins. Where there is no memory for it, it isn't watched.
-    pub(crate) fn begin(&mut self, stream: u64) {
+    /// A stream begins. Returns whether there was memory to watch it.
+    pub(crate) fn begin(&mut self, stream: u64) -> bool {
         let alloc = *self.streams.allocator();
         let wires = Wires {
             received: Some(Cutter::new(alloc, MOST_BYTES)),
             sent: Some(Cutter::new(alloc, MOST_BYTES)),
         };
-        let _begun = self.streams.insert(stream, wires);
+        self.streams.insert(stream, wires).is_ok()
     }
 
     /// A stream ends.
