@@ -1,31 +1,21 @@
 //! Writing the calls of agents.
 
-ghost use Rattle.std.specs.Prelude.{◌≡◌, ◌++◌, ◌∷◌, [], OnOk, IfOk, Bool, codes, decimal, string_bytes};
+ghost use Rattle.std.specs.Prelude.{◌≡◌, ◌++◌, ◌∷◌, [], OnOk, Bool, codes, decimal, string_bytes};
 ghost use Rattle.grasp_types.specs.declared.call.Call.TheVariants.{Discover, RequestNegotiate, Synchronize, Flood, EndNegotiate};
 ghost use Rattle.grasp_text.specs.Line.{or_dash, text_word, value_word};
-ghost use Rattle.grasp_text.specs.Words.{joined, spaced};
+ghost use Rattle.grasp_text.specs.Words.{spaced};
 ghost use Rattle.grasp_network_script.specs.Calls.{kind_word, dry_word, peer_word, call_words};
 
 use crate::nodes::{push_initiator, push_peer};
-use crate::unspaced::unspaced;
 use grasp_cbor::{Chars, OutOfMemory};
 use grasp_text::{push_number, push_optional_value, push_text, push_value, push_word};
 use grasp_types::{Call, Handle, Kind, Locator, Value, Verdict};
 use std::alloc::Global;
 
-/// The words of a call, with one blank between two.
+/// Appends the words of a call, each behind a blank. After an `Err` a part of them may have been appended.
 ///
 /// A session is named by its number, and a node by its number. Where a peer or an initiator is no node of a network that
 /// a script can describe, `-` stands in its place.
-pub fn call_text(alloc: Global, call: &Call) -> Result<Chars, OutOfMemory>
-    ensures { IfOk result (λ text. text ≡ joined (call_words call.now)) }
-{
-    let mut out = String::new(alloc);
-    push_call(alloc, &mut out, call)?;
-    unspaced(alloc, &out)
-}
-
-/// Appends the words of a call, each behind a blank. After an `Err` a part of them may have been appended.
 pub fn push_call(alloc: Global, out: &mut String, call: &Call) -> Result<(), OutOfMemory>
     ensures { OnOk result (string_bytes out.new ≡ string_bytes out.old ++ spaced (call_words call.now)) }
 {

@@ -21,10 +21,9 @@ mod reports;
 mod script;
 mod split;
 mod states;
-mod unspaced;
 
 pub use acts::read_line;
-pub use calls::{call_text, push_call};
+pub use calls::push_call;
 pub use fault::ScriptFault;
 pub use header::HeaderLine;
 pub use laws::{
@@ -33,6 +32,6 @@ pub use laws::{
 };
 pub use line::{Line, LineAct, Lines};
 pub use replies::push_reply;
-pub use reports::{answer_text, told_report};
+pub use reports::told_report;
 pub use script::{Script, parse_script};
-pub use states::{state_text, told_state};
+pub use states::told_state;

@@ -2,26 +2,16 @@
 
 ghost use Rattle.std.specs.Prelude.{◌≡◌, ◌++◌, ◌∷◌, [], OnOk, IfOk, Result, codes, string_bytes};
 ghost use Rattle.grasp_agent.specs.declared.want.WantFault.{WantFault};
-ghost use Rattle.grasp_text.specs.Words.{joined, spaced};
+ghost use Rattle.grasp_text.specs.Words.{spaced};
 ghost use Rattle.grasp_network_script.specs.Reports.{want_words, report_words, made_words, told_report};
 
 use crate::calls::push_call;
 use crate::replies::{push_count, push_reply};
-use crate::unspaced::unspaced;
 use grasp_agent::WantFault;
 use grasp_cbor::{Chars, OutOfMemory};
 use grasp_network::Report;
 use grasp_text::{push_number, push_word};
 use std::alloc::Global;
-
-/// What an event came to, as words with one blank between two.
-pub fn answer_text(alloc: Global, report: &Report) -> Result<Chars, OutOfMemory>
-    ensures { IfOk result (λ text. text ≡ joined (report_words report.now)) }
-{
-    let mut out = String::new(alloc);
-    push_answer(alloc, &mut out, report)?;
-    unspaced(alloc, &out)
-}
 
 /// The report of an event: its line, the call that the node's agent made, ` = `, and what the event came to.
 #[tactic(auto, using(crate::proofs::Pushed::pushes))]

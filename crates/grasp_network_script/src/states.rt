@@ -1,11 +1,10 @@
 //! Writing the state of a node.
 
 ghost use Rattle.std.specs.Prelude.{◌≡◌, ◌++◌, ◌∷◌, [], OnOk, IfOk, codes, string_bytes};
-ghost use Rattle.grasp_text.specs.Words.{joined, spaced};
+ghost use Rattle.grasp_text.specs.Words.{spaced};
 ghost use Rattle.grasp_network_script.specs.Answers.{prefix_words};
 ghost use Rattle.grasp_network_script.specs.Reports.{state_words, told_state};
 
-use crate::unspaced::unspaced;
 use grasp_agent::PrefixAgent;
 use grasp_cbor::{Chars, OutOfMemory};
 use grasp_pool::Pool;
@@ -15,16 +14,8 @@ use std::alloc::Global;
 /// A pool has at most so many prefixes.
 const MOST_ENTRIES: u64 = 4096;
 
-/// The prefixes that an agent holds, those that it has reserved and those in doubt, as words with one blank between two.
-pub fn state_text(alloc: Global, agent: &PrefixAgent) -> Result<Chars, OutOfMemory>
-    ensures { IfOk result (λ text. text ≡ joined (state_words agent.now.pool)) }
-{
-    let mut out = String::new(alloc);
-    push_pool(alloc, &mut out, agent.pool())?;
-    unspaced(alloc, &out)
-}
-
-/// The report of a node's state: the line, ` = ` and the prefixes of its agent.
+/// The report of a node's state: the line, ` = ` and the prefixes that its agent holds, those that it has reserved and those
+/// in doubt, as words with one blank between two.
 pub fn told_state(alloc: Global, line: &Chars, agent: &PrefixAgent) -> Result<Chars, OutOfMemory>
     ensures { IfOk result (λ text. text ≡ told_state line.now agent.now.pool) }
 {
