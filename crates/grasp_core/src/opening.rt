@@ -50,6 +50,7 @@ impl NodeCore {
         ensures opened { IfOk result (λ core. NodeStands core (first_node plan)) }
         ensures good { IfOk result (λ core. is_bad_plan plan ≡ false) }
         ensures bad { IfErr result (λ fault. fault ≡ PlanFault.BadPlan → is_bad_plan plan ≡ true) }
+        ensures memory { IfErr result (λ fault. fault ≡ PlanFault.OutOfMemory → is_bad_plan plan ≡ false) }
     {
         if is_bad_plan(&plan) {
             return Err(PlanFault::BadPlan);
