@@ -59,6 +59,7 @@ pub mod SamePlan
 mod SentOn
 mod SessionWeights
 pub mod SomethingComes
+mod SomethingGiven
 mod Spreading
 pub mod StreamNumbers
 pub mod StreamRecords

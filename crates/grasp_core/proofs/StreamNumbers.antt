@@ -1,8 +1,8 @@
 -- The numbers of the streams that are closing.
-use Rattle.std.proofs.Common.{◌≡◌, ℕ, suc, ◌+◌, ◌<◌, ◌≤◌, Bool, true, false, not, cond, List, [], ◌∷◌, Option, Some, None, length, map, drop, refl, sym, ap, ◌∙◌, subst, arith, add-one, drop-cons}
-use Rattle.std.specs.Prelude.{nat_le, nat_lt, is_none, position, filter, slice_index_or}
+use Rattle.std.proofs.Common.{◌≡◌, ℕ, zero, suc, ◌+◌, ◌<◌, ◌≤◌, Bool, true, false, not, cond, List, [], ◌∷◌, Option, Some, None, length, map, drop, refl, sym, ap, ◌∙◌, subst, arith, add-one, drop-cons}
+use Rattle.std.specs.Prelude.{nat_le, nat_lt, is_none, is_some, position, filter, slice_index_or}
 use Rattle.std.specs.List.{AllZip, insert, position_or_len}
-use Rattle.std.proofs.lemmas.Bool.{ltb-false}
+use Rattle.std.proofs.lemmas.Bool.{ltb-false, true≢false}
 use Rattle.grasp_wire.specs.Cutter.{Past}
 use Rattle.grasp_wire.specs.declared.cutter.Cutter.{Cutter}
 use Rattle.grasp_core.specs.Stands.{StreamStands, StreamsStand, CutsAs}
@@ -46,6 +46,27 @@ closing_first a l e = rw e refl
 
 pub open_first : (a : Stream) (l : List Stream) → is_none a.cutter ≡ false → held_numbers (a ∷ l) ≡ held_numbers l
 open_first a l e = rw e refl
+
+-- there is a number where one of them has no cutter
+put_some : (n : ℕ) (xs : List ℕ) → 1 ≤ length (put_number n xs)
+put_some n [] = omega arith
+put_some n (m ∷ ms) = by_test (nat_le n m) where
+  by_test : (t : Bool) → 1 ≤ length (cond t (n ∷ m ∷ ms) (m ∷ put_number n ms))
+  by_test true = omega arith
+  by_test false = omega arith
+
+-- what the test of a cutter says
+pub no_cutter : (o : Option Cutter) (b : Bool) → is_some o ≡ not b → b ≡ true → is_none o ≡ true
+no_cutter None b e t = refl
+no_cutter (Some c) b e t = absurd (true≢false (e ∙ ap not t))
+
+pub some_held : (l : List Stream) (i : ℕ) (a : Stream) → i < length l → a ≡ slice_index_or l i a → is_none a.cutter ≡ true → 1 ≤ length (held_numbers l)
+some_held [] i a h at e = absurd (omega (arith, h))
+some_held (b ∷ l) zero a h at e = subst (λ (s : Stream). 1 ≤ length (held_numbers (s ∷ l))) at (rw (closing_first a l e) (put_some a.number (held_numbers l)))
+some_held (b ∷ l) (suc i) a h at e = by_test (is_none b.cutter) (some_held l i a (omega (arith, h)) at e) where
+  by_test : (t : Bool) → 1 ≤ length (held_numbers l) → 1 ≤ length (rising (map (λ s. s.number) (cond t (b ∷ filter (λ s. is_none s.cutter) l) (filter (λ s. is_none s.cutter) l))))
+  by_test true k = put_some b.number (held_numbers l)
+  by_test false k = k
 
 -- a number is put in before the first that isn't less
 pub number_put : (n : ℕ) (xs : List ℕ) → insert xs (position_or_len (λ m. nat_le n m) xs) n ≡ put_number n xs

@@ -1,6 +1,6 @@
 -- What a step of the code promises: for each node for which it stood before, it stands afterwards for one that a step of
 -- that node leads to with this reply.
-use Rattle.std.specs.Prelude.{◌≡◌, ◌≤◌, ℕ, List, Ok, Err}
+use Rattle.std.specs.Prelude.{◌≡◌, ◌≤◌, ℕ, List, length, Ok, Err}
 use Rattle.grasp_types.specs.declared.call.Call.{Call}
 use Rattle.grasp_types.specs.declared.reply.Reply.{Reply}
 use Rattle.grasp_types.specs.declared.reply.Reply.TheVariants.{Api, Refused, Outputs, Taken, OutOfMemory}
@@ -53,7 +53,7 @@ GivesDatagram core link from x _ = ⊥
 
 abbrev pub GivesDrain : NodeCore → ℕ → NodeState → Reply → Type 0
 GivesDrain core max n (Outputs outputs) = (outputs ≡ drained n max) × NodeStands core (after_drain n max)
-GivesDrain core max n OutOfMemory = (1 ≤ max) × NodeStands core n
+GivesDrain core max n OutOfMemory = (1 ≤ length (drained n max)) × NodeStands core n
 GivesDrain core max n _ = ⊥
 
 -- ---- a call

@@ -1,5 +1,5 @@
 -- One step of a node: what it replies to an input at a reading, and the node after it.
-use Rattle.std.specs.Prelude.{◌≡◌, ◌≤◌, ℕ, Option, None, Some, List, Result, Ok, Err}
+use Rattle.std.specs.Prelude.{◌≡◌, ◌≤◌, ℕ, Option, None, Some, List, length, Result, Ok, Err}
 use Rattle.grasp_types.specs.declared.call.Call.{Call}
 use Rattle.grasp_types.specs.declared.call.Call.TheVariants.{RegisterAsa, DeregisterAsa, RegisterObjective, DeregisterObjective, Discover, RequestNegotiate, ListenNegotiate, StopListenNegotiate, NegotiateStep, NegotiateWait, EndNegotiate, SendInvalid, Poll, Synchronize, ListenSynchronize, StopListenSynchronize, Flood, GetFlood, ExpireFlood}
 use Rattle.grasp_types.specs.declared.message.Message.{Message}
@@ -98,7 +98,7 @@ TakesBytes n stream bytes x _ after = ⊥
 
 abbrev pub Drains : NodeState → ℕ → Reply → NodeState → Type 0
 Drains n max (reply.Outputs outputs) after = (outputs ≡ drained n max) × (after ≡ after_drain n max)
-Drains n max reply.OutOfMemory after = (1 ≤ max) × (after ≡ n)
+Drains n max reply.OutOfMemory after = (1 ≤ length (drained n max)) × (after ≡ n)
 Drains n max _ after = ⊥
 
 -- what an input does at a node whose step has begun

@@ -13,7 +13,8 @@ use grasp_types::{Output, Outputs, Reply};
 
 impl NodeCore {
     /// Gives at most so many outputs: the queued ones in order, and, once none is queued, the closings of the streams
-    /// that are closing, by rising number. It takes no memory for none. After `OutOfMemory` all is as before.
+    /// that are closing, by rising number. It takes no memory where there is nothing to give. After `OutOfMemory` all is
+    /// as before.
     pub(crate) fn drain(&mut self, max: u32) -> Reply
         ensures { (n : NodeState) → NodeStands self.old n → GivesDrain self.new max n result }
     {
@@ -29,7 +30,7 @@ impl NodeCore {
         ensures outputs { IfOk result (λ outputs. (n : NodeState) → NodeStands self.old n → outputs ≡ drained n max) }
         ensures ok { OnOk result ((n : NodeState) → NodeStands self.old n → NodeStands self.new (after_drain n max)) }
         ensures err { OnErr result ((n : NodeState) → NodeStands self.old n → NodeStands self.new n) }
-        ensures wanted { OnErr result (1 ≤ max) }
+        ensures wanted { OnErr result ((n : NodeState) → NodeStands self.old n → 1 ≤ length (drained n max)) }
     {
         let numbers = self.closes(max)?;
         let outputs = self.outputs(max, &numbers)?;
@@ -41,7 +42,7 @@ impl NodeCore {
     fn closes(&self, max: u32) -> Result<Vec<u64>, OutOfMemory>
         ensures is { IfOk result (λ numbers. (n : NodeState) → NodeStands self.now n → numbers.items ≡ closes n max) }
         ensures count { IfOk result (λ numbers. length numbers.items ≤ max) }
-        ensures wanted { OnErr result (1 ≤ max) }
+        ensures wanted { OnErr result ((n : NodeState) → NodeStands self.now n → 1 ≤ length (closes n max)) }
     {
         let queued = self.queue.len();
         let max = max as usize;
@@ -57,7 +58,7 @@ impl NodeCore {
     fn outputs(&self, max: u32, numbers: &[u64]) -> Result<Outputs, OutOfMemory>
         requires { length numbers.now ≤ max }
         ensures are { IfOk result (λ outputs. outputs ≡ take max self.now.queue ++ map output.Close numbers.now) }
-        ensures wanted { OnErr result (1 ≤ max) }
+        ensures wanted { OnErr result (1 ≤ length (take max self.now.queue ++ map output.Close numbers.now)) }
     {
         let mut outputs = self.queue.first(self.alloc, max as usize)?;
         push_closings(&mut outputs, numbers)?;

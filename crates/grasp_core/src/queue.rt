@@ -97,7 +97,7 @@ impl Queue {
     /// Copies of the first outputs, at most so many. It takes no memory for none.
     pub(crate) fn first(&self, alloc: Global, max: usize) -> Result<Outputs, OutOfMemory>
         ensures taken { IfOk result (λ outputs. outputs ≡ take max self.now) }
-        ensures wanted { OnErr result (1 ≤ max) }
+        ensures wanted { OnErr result (1 ≤ length (take max self.now)) }
     {
         let count = max.min(self.held.len());
         let mut outputs = Outputs::new(alloc);

@@ -12,7 +12,7 @@ impl NodeCore {
     /// the input is answered, at once.
     ///
     /// Want of memory is the one free answer; after it the node is as the input's part of the definition says. Closings,
-    /// and drains of no output, take no memory.
+    /// and drains that have nothing to give, take no memory.
     #[tactic(auto, using(crate::proofs::Acting::acted_steps))]
     pub fn step(&mut self, now: u64, input: Input) -> Reply
         ensures { (x : Meeting) → Meets self.old now input x → Stepped self.new now input x result }

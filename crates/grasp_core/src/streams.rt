@@ -179,9 +179,10 @@ impl Streams {
         Ok(())
     }
 
-    /// The numbers of the streams that are closing, in rising order.
+    /// The numbers of the streams that are closing, in rising order. It takes no memory for none.
     pub(crate) fn closing_numbers(&self) -> Result<Vec<u64>, OutOfMemory>
-        ensures { IfOk result (λ numbers. (s : StreamsState) → StreamsStand self.now s → numbers.items ≡ closing_numbers s) }
+        ensures are { IfOk result (λ numbers. (s : StreamsState) → StreamsStand self.now s → numbers.items ≡ closing_numbers s) }
+        ensures wanted { OnErr result ((s : StreamsState) → StreamsStand self.now s → 1 ≤ length (closing_numbers s)) }
     {
         let mut numbers = Vec::new(self.alloc);
         let mut left = self.held.len();

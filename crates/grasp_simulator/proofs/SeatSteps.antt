@@ -1,5 +1,5 @@
 -- Steps of a node with its agent.
-use Rattle.std.proofs.Common.{◌≡◌, ◌≤◌, inl, inr, ℕ, refl, ap, subst, arith, Bool, true, false, [], None, Ok, Err}
+use Rattle.std.proofs.Common.{◌≡◌, ◌∙◌, inl, inr, ℕ, refl, sym, ap, subst, Bool, true, false, [], None, Ok, Err}
 use Rattle.grasp_agent.specs.Calls.{next_call, agent_name, objective_name}
 use Rattle.grasp_agent.specs.Replies.{after_reply}
 use Rattle.grasp_core.specs.Answered.{IsDone, Is}
@@ -10,6 +10,7 @@ use Rattle.grasp_core.specs.Node.{NodeState}
 use Rattle.grasp_core.specs.Refusals.{MayAnswer, early, nothing_sent}
 use Rattle.grasp_core.specs.Step.{Coming, NodeStep, MayCall, after_call, Calls}
 use Rattle.grasp_core.specs.Tests.{register_asa_tests, register_objective_tests, negotiation_tests}
+use Rattle.grasp_core.proofs.Beginning.{drains_nothing}
 use Rattle.grasp_types.specs.declared.refusal.ApiRefused.{ApiRefused}
 use Rattle.grasp_types.specs.declared.refusal.ApiRefused.TheVariants as refusal
 use Rattle.grasp_types.specs.declared.reply.ApiAnswer.{ApiAnswer}
@@ -99,7 +100,7 @@ drain_of_nothing n now x (reply.Api a) after steps = absurd steps.acts
 drain_of_nothing n now x (reply.Refused e) after steps = absurd steps.acts
 drain_of_nothing n now x reply.Taken after steps = absurd steps.acts
 drain_of_nothing n now x reply.Turned after steps = absurd steps.acts
-drain_of_nothing n now x reply.OutOfMemory after steps = absurd (let some : 1 ≤ 0 = steps.acts.0 in omega arith)
+drain_of_nothing n now x reply.OutOfMemory after steps = steps.acts.1 ∙ sym (drains_nothing (begin n now))
 
 -- a drain that gives what it is to give is a step
 pub drain_steps : (n : NodeState) (now max : ℕ) (x : Coming) → NodeStep n now (Drain max) x (reply.Outputs (drained (begin n now) max)) (after_drain (begin n now) max)

@@ -1,17 +1,25 @@
-use Rattle.std.proofs.Common.{◌≡◌, ◌∙◌, ◌++◌, ℕ, List, map, take, ap}
+use Rattle.std.proofs.Common.{◌≤◌, ◌∙◌, List, length, subst}
 use Rattle.grasp_types.specs.declared.traffic.Output.{Output}
-use Rattle.grasp_types.specs.declared.traffic.Output.TheVariants.{Close}
-use Rattle.grasp_core.specs.Draining.{closes}
-use Rattle.grasp_core.specs.Queue.{output_of}
-use Rattle.grasp_core.proofs.Queueing.{queued_first}
+use Rattle.grasp_flood.proofs.Entries.{OnErr_anyhow}
+use Rattle.grasp_core.proofs.SomethingGiven.{closing_given, drained_is}
 use Rattle.grasp_core.proofs.node_core.NodeCore.give.Goals as goal
 
 pub returns-clause-outputs : goal.returns-clause-outputs
 returns-clause-outputs c n h =
-    let numbers : c.deref.result.now ≡ closes n c.args.max = c.deref.ensures.value ∙ c.in_ok-numbers.ensures.is n h in
-    c.in_ok-outputs.ensures.are
-    ∙ ap (λ (first : List Output). first ++ map Close c.deref.result.now) (queued_first c.args.self.now.queue n.queue c.args.max h.queue)
-    ∙ ap (λ (l : List ℕ). map output_of (take c.args.max n.queue) ++ map Close l) numbers
+    c.in_ok-outputs.ensures.are ∙ drained_is c.args.self.now.queue c.deref.result.now n c.args.max h.queue (c.deref.ensures.value ∙ c.in_ok-numbers.ensures.is n h)
 
 pub returns-clause-ok : goal.returns-clause-ok
 returns-clause-ok c n h = c.let_go.ensures n h (c.deref-2.ensures.value ∙ c.in_ok-numbers.ensures.is n h)
+
+-- there is something to give where memory is wanted
+
+pub returns-in_err-numbers-clause-wanted : goal.returns-in_err-numbers-clause-wanted
+returns-in_err-numbers-clause-wanted c = OnErr_anyhow c.from_residual.result (λ n h. closing_given n c.args.max (c.in_err-numbers.ensures.wanted n h))
+
+pub returns-in_err-outputs-clause-wanted : goal.returns-in_err-outputs-clause-wanted
+returns-in_err-outputs-clause-wanted c =
+    OnErr_anyhow c.from_residual-in_err-outputs.result
+    (λ n h.
+    subst (λ (l : List Output). 1 ≤ length l)
+    (drained_is c.args.self.now.queue c.deref.result.now n c.args.max h.queue (c.deref.ensures.value ∙ c.in_ok-numbers.ensures.is n h))
+    c.in_err-outputs.ensures.wanted)
