@@ -1,5 +1,5 @@
 -- What an event does: at most one step of a node, what comes of it, and then a drain of that node.
-use Rattle.std.specs.Prelude.{◌≡◌, ◌≢◌, ◌≤◌, ℕ, Bool, true, false, not, Option, None, Some, length}
+use Rattle.std.specs.Prelude.{◌≡◌, ◌≢◌, ◌≤◌, ℕ, Bool, true, false, not, Option, None, Some, IsSome, length}
 use Rattle.grasp_network.specs.AgentCalls.{call_visit, after_agent_call}
 use Rattle.grasp_network.specs.Agents.{agent_visit, after_agent}
 use Rattle.grasp_network.specs.Arrivals.{arrival_visit, after_arrival}
@@ -118,7 +118,13 @@ pub record Overflows (s : Setting) (w : WorldState) (e : Event) : Type 0 where
   pub comes : MayCome (visit_of s w e) choice
   pub too_much : is_too_much (after_event s w e choice) ≡ true
 
--- why the event may stop the network: because more was sent than may be, or, at any time, for want of memory
+-- an event may take memory, unless it is a clock or a want
+abbrev pub wants_memory : Event → Bool
+wants_memory (event.Clock node millis) = false
+wants_memory (event.Want node length longest peer) = false
+wants_memory _ = true
+
+-- why the event may stop the network: because more was sent than may be, or, where it may take memory and makes a step, for want of it
 abbrev pub MayStop : Setting → WorldState → Event → WorldStop → Type 0
 MayStop s w e stop.TooMuch = Overflows s w e
-MayStop s w e stop.OutOfMemory = Unit {0}
+MayStop s w e stop.OutOfMemory = (wants_memory e ≡ true) × IsSome (visit_of s w e)

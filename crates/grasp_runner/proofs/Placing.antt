@@ -4,7 +4,7 @@ use Rattle.std.specs.List.{slice_get}
 use Rattle.grasp_types.specs.declared.call.Call.{Call}
 use Rattle.grasp_network.proofs.GoodPlans.{count_numbers, member_count, not_zero}
 use Rattle.grasp_network.proofs.Opened.{map_length}
-use Rattle.grasp_network.specs.Events.{IsFit}
+use Rattle.grasp_network.specs.Events.{IsFit, MayStop, Overflows}
 use Rattle.grasp_network.specs.Plans.{IsNode}
 use Rattle.grasp_network.specs.Setting.{Setting, numbers_from, script_locator, script_setting}
 use Rattle.grasp_network.specs.World.{Seat, WorldState, seat_at}
@@ -21,7 +21,7 @@ use Rattle.grasp_simulator.specs.Contract.{going, Answers, MeetsEvent}
 use Rattle.grasp_simulator.specs.WorldStands.{WorldStands, HasNode, IsSeat}
 use Rattle.grasp_simulator.specs.WorldSteps.{IsAsked, Stepped}
 use Rattle.grasp_simulator.specs.declared.world.World.{World}
-use Rattle.grasp_runner.specs.Lines.{CanRun, EventAnswers, MeetsLine, RunsEvent, network_at}
+use Rattle.grasp_runner.specs.Lines.{CanRun, EventAnswers, LineMayStop, MeetsLine, RunsEvent, network_at}
 use Rattle.grasp_runner.proofs.Fitting.{event_fits}
 
 -- ---- how many nodes there are
@@ -78,9 +78,14 @@ pub asked_placed : (code : World) (e placed : Event) → CanRun code (act.Event 
 asked_placed code e placed can is =
     record { network = network_at can.setting can.network; meets = meets_placed code can.setting can.network e placed (is can.setting can.network can.meets) can.meets }
 
+-- what may stop the network at the placed event may stop it at the line
+line_may_stop : (s : Setting) (w : WorldState) (e placed : Event) (why : WorldStop) → placed ≡ placed_event w e → MayStop s w placed why → LineMayStop s w (act.Event e) why
+line_may_stop s w e placed stop.TooMuch is may = subst (Overflows s w) is may
+line_may_stop s w e placed stop.OutOfMemory is may = tt
+
 answered : (new : World) (s : Setting) (w : WorldState) (e placed : Event) (r : Result Report WorldStop) → placed ≡ placed_event w e → Answers (WorldStands new) s (going w) placed r → EventAnswers new s w e r
 answered new s w e placed (Ok report) is h = subst (λ (x : Event). Answers (WorldStands new) s (going w) x (Ok report)) is h
-answered new s w e placed (Err why) is h = (subst (λ (x : Event). Answers (WorldStands new) s (going w) x (Err why)) is h).may_stop
+answered new s w e placed (Err why) is h = line_may_stop s w e placed why is h.may_stop
 
 pub runs_placed : (code new : World) (e placed : Event) (r : Result Report WorldStop) → IsPlaced code e placed → Stepped code new placed r → RunsEvent code new e r
 runs_placed code new e placed r is stepped =

@@ -1,6 +1,5 @@
 -- What the code promises of one line of a script.
 use Rattle.std.specs.Prelude.{◌≡◌, ℕ, List, length, Result, Ok, Err}
-use Rattle.grasp_network.specs.Events.{MayStop}
 use Rattle.grasp_network.specs.Setting.{Setting}
 use Rattle.grasp_network.specs.Visits.{Choice}
 use Rattle.grasp_network.specs.World.{WorldState, seat_at}
@@ -33,12 +32,17 @@ pub record CanRun (code : World) (a : LineAct) : Type 0 where
   pub network : WorldState
   pub meets : MeetsLine code setting network a
 
+-- why the line may stop the network: its event sends too much, or, at any time, for want of memory
+abbrev pub LineMayStop : Setting → WorldState → LineAct → WorldStop → Type 0
+LineMayStop s w a stop.TooMuch = LineOverflows s w a
+LineMayStop s w a stop.OutOfMemory = Unit {0}
+
 -- ---- an event
 
--- the event came out so, with the places of its sessions, and the code stands for the network after it; or it may stop the network for this
+-- the event came out so, with the places of its sessions, and the code stands for the network after it; or its line may stop the network for this
 abbrev pub EventAnswers : World → Setting → WorldState → Event → Result Report WorldStop → Type 0
 EventAnswers code s w e (Ok report) = Reported (WorldStands code) s w (placed_event w e) report
-EventAnswers code s w e (Err why) = MayStop s w (placed_event w e) why
+EventAnswers code s w e (Err why) = LineMayStop s w (act.Event e) why
 
 -- for each network for which the code went on
 abbrev pub RunsEvent : World → World → Event → Result Report WorldStop → Type 0
@@ -52,11 +56,6 @@ pub record LineReported (code : World) (s : Setting) (w : WorldState) (text : Li
   pub comes : MayComeOut s w a choice
   pub told_is : told ≡ act_told s w text a choice
   pub stands : WorldStands code (network_at s (after_act s w a choice))
-
--- why the line may stop the network: its event sends too much, or, at any time, for want of memory
-abbrev pub LineMayStop : Setting → WorldState → LineAct → WorldStop → Type 0
-LineMayStop s w a stop.TooMuch = LineOverflows s w a
-LineMayStop s w a stop.OutOfMemory = Unit {0}
 
 abbrev pub LineAnswers : World → Setting → WorldState → List ℕ → LineAct → Result (List ℕ) WorldStop → Type 0
 LineAnswers code s w text a (Ok told) = LineReported code s w text a told

@@ -1,5 +1,5 @@
 -- A stream that is opened at the node that listens where it was dialled to.
-use Rattle.std.proofs.Common.{◌≡◌, ◌≤◌, ◌<◌, refl, sym, ap, ◌∙◌, subst, arith, tests, ℕ, zero, suc, ◌+◌, ◌-◌, ◌*◌, ◌^◌, ◌==◌, cond, Bool, true, false, not, List, [], ◌∷◌, length, map, nat_lt, Option, Some, None, slice_index_or}
+use Rattle.std.proofs.Common.{◌≡◌, ◌≤◌, ◌<◌, refl, sym, ap, ◌∙◌, subst, arith, tests, ℕ, zero, suc, ◌+◌, ◌-◌, ◌*◌, ◌^◌, ◌==◌, cond, Bool, true, false, not, List, [], ◌∷◌, length, map, nat_lt, Option, Some, None, is_some, slice_index_or}
 use Rattle.std.specs.List.{position, position_or_len}
 use Rattle.std.specs.Vec.{with_item}
 use Rattle.std.proofs.lemmas.Option.{none-some}
@@ -33,7 +33,7 @@ use Rattle.grasp_simulator.specs.Sends.{SendsBehind}
 use Rattle.grasp_simulator.specs.StreamParts.{standing_by, far_number}
 use Rattle.grasp_simulator.specs.StreamsStand.{end_here, arrival_of, StreamStands, numbers, StreamsStand, IsTalk}
 use Rattle.grasp_simulator.specs.WorldStands.{WorldKeeps, WorldGoes}
-use Rattle.grasp_simulator.specs.WorldSteps.{MayRun, HasRun, Runs}
+use Rattle.grasp_simulator.specs.WorldSteps.{MayRun, HasRun, Runs, MayStarve}
 use Rattle.grasp_simulator.specs.declared.seat.Seat.{Seat as SeatCode}
 use Rattle.grasp_simulator.specs.declared.stream.Standing.{Standing}
 use Rattle.grasp_simulator.specs.declared.stream.Standing.TheVariants as standing
@@ -284,6 +284,13 @@ arrive_runs law old new k hold x number from streams i own after r waits number_
     with_streams old s w streams talks w.dials keeps (subst (λ (ts : List TalkState). StreamsStand streams ts w.dials) same (opens w.talks w.dials f.talk f.got keeps.streams)) in
     input_runs law old (record old { streams = streams }) new s w (record w { talks = talks }) (event.Arrive k hold) (event.Arrive k true) hold v (λ c. w.answers) i own after r may (record { goes = may.goes; fit = tt })
     (arrive_brings s w k hold f.talk v r f.got is) refl kept there.here place got tt steps fed sends
+
+-- memory may be wanted for it
+pub arrival_starves : (law : StreamsAreReady) (code : World) (k : ℕ) (hold : Bool) (x : Waiting) → waiting_in code.plan.nodes (numbered code.streams.list.items k) ≡ Some x → IsNode (length code.seats.items) x.node → MayStarve code (event.Arrive k hold)
+arrival_starves law code k hold x waits is_node s w may =
+    let f : Found code s w k x = found law code s w k x may.goes waits in
+    let there : Here w x.node = node_is code s w x.node may.goes.keeps is_node in
+    (refl, ap is_some (visit_is code s w k x (Some there.seat) f may.goes.keeps there.here))
 
 -- ---- nothing comes of it
 

@@ -1,5 +1,5 @@
 -- Datagrams that are delivered.
-use Rattle.std.proofs.Common.{◌≡◌, ◌≤◌, refl, sym, ap, ◌∙◌, subst, ℕ, ◌-◌, ◌==◌, ◌++◌, cond, Bool, true, false, List, length, map, Option, Some, None, option_map, slice_get, slice_index_or}
+use Rattle.std.proofs.Common.{◌≡◌, ◌≤◌, refl, sym, ap, ◌∙◌, subst, ℕ, ◌-◌, ◌==◌, ◌++◌, cond, Bool, true, false, List, length, map, Option, Some, None, is_some, option_map, slice_get, slice_index_or}
 use Rattle.std.specs.Vec.{with_item}
 use Rattle.std.proofs.lemmas.Option.{none-some, slice_get-map}
 use Rattle.grasp_cbor.specs.Bytes.{AllBytes}
@@ -22,7 +22,7 @@ use Rattle.grasp_network_streams.specs.Ready.{StreamsAreReady}
 use Rattle.grasp_simulator.specs.Seats.{Sitting, SeatMeets, SeatStepped}
 use Rattle.grasp_simulator.specs.Sends.{SendsBehind}
 use Rattle.grasp_simulator.specs.WorldStands.{WorldKeeps, parcel_of}
-use Rattle.grasp_simulator.specs.WorldSteps.{MayRun, HasRun, Runs}
+use Rattle.grasp_simulator.specs.WorldSteps.{MayRun, HasRun, Runs, MayStarve}
 use Rattle.grasp_simulator.specs.declared.parcel.Parcel.{Parcel}
 use Rattle.grasp_simulator.specs.declared.seat.Seat.{Seat as SeatCode}
 use Rattle.grasp_simulator.specs.declared.world.World.{World}
@@ -107,6 +107,14 @@ datagram_runs law old new index hold parcel node link from bytes i own after r g
     ∙ ap (λ (b : List ℕ). Some (own_step node there.seat (input.Datagram link from b))) (sym bytes_d)))) in
     input_runs law old old new s w w (event.Datagram index hold) (event.Datagram index true) hold v (λ c. w.answers ++ answers_in w v index c) i own after r may (record { goes = may.goes; fit = tt })
     (delivery_brings s w index hold v r is) refl keeps there.here place own_is all steps fed sends
+
+-- memory may be wanted for one whose receiver is there
+pub datagram_starves : (code : World) (index : ℕ) (hold : Bool) (parcel : Parcel) → numbered code.parcels index ≡ Some parcel → IsNode (length code.seats.items) parcel.receiver → MayStarve code (event.Datagram index hold)
+datagram_starves code index hold parcel got is_node s w may =
+    let sent : IsSent w index parcel = sent_is code s w index parcel may.goes.keeps got in
+    let there : Here w parcel.receiver = node_is code s w parcel.receiver may.goes.keeps is_node in
+    let receiver : parcel.receiver ≡ sent.datagram.route.receiver = ap (λ (p : Parcel). p.receiver) sent.is in
+    (refl, ap is_some (delivery_is w index sent.datagram there.seat sent.got (ap (seat_at w) (sym receiver) ∙ there.here)))
 
 none_delivered : (s : Setting) (w : WorldState) (index : ℕ) (hold : Bool) → visit_of s w (event.Datagram index hold) ≡ None → (after_event s w (event.Datagram index hold) no_choice ≡ w) × (report_of s w (event.Datagram index hold) no_choice ≡ report.Nothing)
 unfolding after_event report_of

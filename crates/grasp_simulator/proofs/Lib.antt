@@ -24,6 +24,7 @@ pub mod HandsOver
 pub mod SendGoes
 pub mod Noting
 pub mod InputsGo
+pub mod Starving
 pub mod CallsGo
 pub mod DrainGoes
 pub mod SidesGo

@@ -1,5 +1,5 @@
 -- Bytes that come to a side of a stream, and a side that is told that its stream is closed.
-use Rattle.std.proofs.Common.{◌≡◌, ◌≤◌, refl, sym, ap, ◌∙◌, subst, arith, ℕ, ◌-◌, Bool, true, false, not, List, length, Option, Some, None, slice_index_or}
+use Rattle.std.proofs.Common.{◌≡◌, ◌≤◌, refl, sym, ap, ◌∙◌, subst, arith, ℕ, ◌-◌, Bool, true, false, not, List, length, Option, Some, None, is_some, slice_index_or}
 use Rattle.std.specs.Vec.{with_item}
 use Rattle.std.proofs.lemmas.Option.{none-some}
 use Rattle.grasp_cbor.specs.Bytes.{AllBytes}
@@ -27,7 +27,7 @@ use Rattle.grasp_simulator.specs.Sends.{SendsBehind}
 use Rattle.grasp_simulator.specs.StreamParts.{side_of, piece_at}
 use Rattle.grasp_simulator.specs.StreamsStand.{end_here, StreamsStand, ChangesAt}
 use Rattle.grasp_simulator.specs.WorldStands.{WorldKeeps, WorldGoes}
-use Rattle.grasp_simulator.specs.WorldSteps.{MayRun, HasRun, Runs}
+use Rattle.grasp_simulator.specs.WorldSteps.{MayRun, HasRun, Runs, MayStarve}
 use Rattle.grasp_simulator.specs.declared.seat.Seat.{Seat as SeatCode}
 use Rattle.grasp_simulator.specs.declared.stream.SideEnd.{SideEnd}
 use Rattle.grasp_simulator.specs.declared.stream.Stream.{Stream}
@@ -122,6 +122,13 @@ bytes_run law old new k far count hold e bytes streams i own after r finds are a
     input_runs law old (record old { streams = streams }) new s w changed (event.Bytes k far count hold) (event.Bytes k far count true) hold v (λ c. w.answers) i own after r may (record { goes = may.goes; fit = tt })
     (bytes_bring s w k far count hold f.side v r f.got is) refl kept there.here place got all steps fed sends
 
+-- memory may be wanted for them
+pub bytes_starve : (law : StreamsAreReady) (code : World) (k : ℕ) (far : Bool) (count : ℕ) (hold : Bool) (e : SideEnd) → side_of (numbered code.streams.list.items k) k far ≡ Some e → IsNode (length code.seats.items) e.node → MayStarve code (event.Bytes k far count hold)
+bytes_starve law code k far count hold e finds is_node s w may =
+    let f : Found code w k far e = found law code s w k far e may.goes finds in
+    let there : Here w e.node = node_is code s w e.node may.goes.keeps is_node in
+    (refl, ap is_some (piece_is_at w k far count f.side e.node e.number there.seat f.got f.at there.here))
+
 none_bytes : (s : Setting) (w : WorldState) (k : ℕ) (far : Bool) (count : ℕ) (hold : Bool) → visit_of s w (event.Bytes k far count hold) ≡ None → (after_event s w (event.Bytes k far count hold) no_choice ≡ w) × (report_of s w (event.Bytes k far count hold) no_choice ≡ report.Nothing)
 unfolding after_event report_of
 none_bytes s w k far count hold is = (rw is refl, rw is refl)
@@ -171,6 +178,13 @@ cut_runs law old new k far hold e streams i own after r finds changes is_node pl
     (subst (λ (q : StreamEnd). StreamsStand streams (change_at_end w.talks q (with_side told_closed)) w.dials) (sym f.at) (changes w.talks w.dials f.sent keeps.streams)) in
     input_runs law old (record old { streams = streams }) new s w changed (event.Cut k far hold) (event.Cut k far true) hold v (λ c. w.answers) i own after r may (record { goes = may.goes; fit = tt })
     (cut_brings s w k far hold f.side v r f.got is) refl kept there.here place got tt steps fed sends
+
+-- memory may be wanted for it
+pub cut_starves : (law : StreamsAreReady) (code : World) (k : ℕ) (far hold : Bool) (e : SideEnd) → side_of (numbered code.streams.list.items k) k far ≡ Some e → IsNode (length code.seats.items) e.node → MayStarve code (event.Cut k far hold)
+cut_starves law code k far hold e finds is_node s w may =
+    let f : Found code w k far e = found law code s w k far e may.goes finds in
+    let there : Here w e.node = node_is code s w e.node may.goes.keeps is_node in
+    (refl, ap is_some (cut_is_at w k far f.side e.node e.number there.seat f.got f.at there.here))
 
 none_cut : (s : Setting) (w : WorldState) (k : ℕ) (far hold : Bool) → visit_of s w (event.Cut k far hold) ≡ None → (after_event s w (event.Cut k far hold) no_choice ≡ w) × (report_of s w (event.Cut k far hold) no_choice ≡ report.Nothing)
 unfolding after_event report_of

@@ -13,7 +13,7 @@ use Rattle.grasp_network.specs.declared.report.WorldStop.{WorldStop}
 use Rattle.grasp_network.specs.declared.report.WorldStop.TheVariants as stop
 use Rattle.grasp_simulator.specs.Contract.{Standing, going, stopped, Network, IsFitFor, Answers}
 use Rattle.grasp_simulator.specs.WorldStands.{WorldStands, most_count}
-use Rattle.grasp_simulator.specs.WorldSteps.{IsAsked, MayRun, HasRun, Runs, Ends, Stepped}
+use Rattle.grasp_simulator.specs.WorldSteps.{IsAsked, MayRun, HasRun, Runs, MayStarve, Ends, Stepped}
 use Rattle.grasp_simulator.specs.declared.world.World.{World}
 use Rattle.grasp_simulator.proofs.SeatLists.{seats_length}
 
@@ -30,14 +30,14 @@ stays_stopped code why e is = λ x met. still code why e is x.setting x.standing
 
 -- ---- want of memory
 
-halted : (old new : World) (e : Event) → old.stopped ≡ None → length new.seats.items ≡ length old.seats.items → new.stopped ≡ Some stop.OutOfMemory → (s : Setting) (at : Standing)
-    → WorldStands old (record { setting = s; standing = at }) → Answers (WorldStands new) s at e (Err stop.OutOfMemory)
-halted old new e goes count is s (going w) h = record { may_stop = tt; stands = record { count = count ∙ h.count; stands = is } }
-halted old new e goes count is s (stopped why) h = absurd (none-some why (sym goes ∙ h.stands))
+halted : (old new : World) (e : Event) → old.stopped ≡ None → length new.seats.items ≡ length old.seats.items → MayStarve old e → new.stopped ≡ Some stop.OutOfMemory → (s : Setting) (at : Standing)
+    → WorldStands old (record { setting = s; standing = at }) → IsFitFor s at e → Answers (WorldStands new) s at e (Err stop.OutOfMemory)
+halted old new e goes count starves is s (going w) h fit = record { may_stop = starves s w (record { goes = h.stands; fit = fit }); stands = record { count = count ∙ h.count; stands = is } }
+halted old new e goes count starves is s (stopped why) h fit = absurd (none-some why (sym goes ∙ h.stands))
 
--- want of memory stops what goes on
-pub stops : (old new : World) (e : Event) → old.stopped ≡ None → length new.seats.items ≡ length old.seats.items → new.stopped ≡ Some stop.OutOfMemory → Stepped old new e (Err stop.OutOfMemory)
-stops old new e goes count is = λ x met. halted old new e goes count is x.setting x.standing met.stands
+-- want of memory stops what goes on, where the event may take some
+pub stops : (old new : World) (e : Event) → old.stopped ≡ None → length new.seats.items ≡ length old.seats.items → MayStarve old e → new.stopped ≡ Some stop.OutOfMemory → Stepped old new e (Err stop.OutOfMemory)
+stops old new e goes count starves is = λ x met. halted old new e goes count starves is x.setting x.standing met.stands met.fit
 
 -- ---- what goes on
 

@@ -1,6 +1,6 @@
 -- What the code promises of one event.
 use Rattle.std.specs.Prelude.{◌≡◌, ◌≤◌, ◌<◌, Some, Result, Ok, Err}
-use Rattle.grasp_network.specs.Events.{IsFit, visit_of, after_event}
+use Rattle.grasp_network.specs.Events.{IsFit, MayStop, visit_of, after_event}
 use Rattle.grasp_network.specs.Reports.{report_of}
 use Rattle.grasp_network.specs.Setting.{Setting}
 use Rattle.grasp_network.specs.Visits.{Choice, MayCome}
@@ -30,6 +30,10 @@ pub record HasRun (code : World) (s : Setting) (w : WorldState) (e : Event) (rep
 -- for each network for which the code goes on
 abbrev pub Runs : World → World → Event → Report → Type 0
 Runs before after e report = (s : Setting) (w : WorldState) → MayRun before s w e → HasRun after s w e report
+
+-- for each network for which the code goes on, the event may stop it for want of memory
+abbrev pub MayStarve : World → Event → Type 0
+MayStarve code e = (s : Setting) (w : WorldState) → MayRun code s w e → MayStop s w e stop.OutOfMemory
 
 -- ---- whether too much was sent
 

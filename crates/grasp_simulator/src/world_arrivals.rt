@@ -1,10 +1,10 @@
 //! Streams that are opened where they were dialled to.
 
-ghost use Rattle.std.specs.Prelude.{◌≡◌, length, IfOk};
+ghost use Rattle.std.specs.Prelude.{◌≡◌, length, IfOk, OnErr};
 ghost use Rattle.grasp_network.specs.Setting.{numbered};
 ghost use Rattle.grasp_network.specs.declared.event.Event.TheVariants as event;
 ghost use Rattle.grasp_simulator.specs.Arriving.{listener_from, waiting_in, is_taken};
-ghost use Rattle.grasp_simulator.specs.WorldSteps.{Runs};
+ghost use Rattle.grasp_simulator.specs.WorldSteps.{Runs, MayStarve};
 
 use crate::opening::{address_of, locator_of};
 use crate::seat::is_starved;
@@ -48,6 +48,7 @@ impl World {
     /// A stream is opened at the node that listens where it was dialled to.
     pub(crate) fn arrive(&mut self, stream: u64, hold: bool) -> Result<Report, OutOfMemory>
         ensures runs { IfOk result (λ report. Runs self.old self.new (event.Arrive stream hold) report) }
+        ensures wanted { OnErr result (MayStarve self.old (event.Arrive stream hold)) }
         ensures count { length self.new.seats.items ≡ length self.old.seats.items }
     {
         streams_are_ready();

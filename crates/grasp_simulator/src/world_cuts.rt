@@ -1,8 +1,8 @@
 //! Sides of streams that are told that their stream is closed.
 
-ghost use Rattle.std.specs.Prelude.{◌≡◌, length, IfOk};
+ghost use Rattle.std.specs.Prelude.{◌≡◌, length, IfOk, OnErr};
 ghost use Rattle.grasp_network.specs.declared.event.Event.TheVariants as event;
-ghost use Rattle.grasp_simulator.specs.WorldSteps.{Runs};
+ghost use Rattle.grasp_simulator.specs.WorldSteps.{Runs, MayStarve};
 
 use crate::seat::is_starved;
 use crate::world::World;
@@ -15,6 +15,7 @@ impl World {
     /// A side of a stream is told that it is closed, and gets nothing more.
     pub(crate) fn cut(&mut self, stream: u64, far: bool, hold: bool) -> Result<Report, OutOfMemory>
         ensures runs { IfOk result (λ report. Runs self.old self.new (event.Cut stream far hold) report) }
+        ensures wanted { OnErr result (MayStarve self.old (event.Cut stream far hold)) }
         ensures count { length self.new.seats.items ≡ length self.old.seats.items }
     {
         streams_are_ready();

@@ -1,10 +1,10 @@
 //! Datagrams that are delivered to nodes of a network.
 
-ghost use Rattle.std.specs.Prelude.{◌≡◌, length, option_map, IfOk};
+ghost use Rattle.std.specs.Prelude.{◌≡◌, length, option_map, IfOk, OnErr};
 ghost use Rattle.grasp_cbor.specs.Bytes.{AllBytes};
 ghost use Rattle.grasp_network.specs.Setting.{numbered};
 ghost use Rattle.grasp_network.specs.declared.event.Event.TheVariants as event;
-ghost use Rattle.grasp_simulator.specs.WorldSteps.{Runs};
+ghost use Rattle.grasp_simulator.specs.WorldSteps.{Runs, MayStarve};
 
 use crate::parcel::Parcel;
 use crate::seat::is_starved;
@@ -19,6 +19,7 @@ impl World {
     /// A datagram that was sent is delivered.
     pub(crate) fn datagram(&mut self, index: u64, hold: bool) -> Result<Report, OutOfMemory>
         ensures runs { IfOk result (λ report. Runs self.old self.new (event.Datagram index hold) report) }
+        ensures wanted { OnErr result (MayStarve self.old (event.Datagram index hold)) }
         ensures count { length self.new.seats.items ≡ length self.old.seats.items }
     {
         streams_are_ready();
@@ -26,10 +27,10 @@ impl World {
             return Ok(Report::Nothing);
         };
         let (node, link, from) = (parcel.receiver, parcel.link, parcel.from);
-        let bytes = parcel.bytes.copy()?;
         if !self.has(node) {
             return Ok(Report::Nothing);
         }
+        let bytes = parcel.bytes.copy()?;
         are_octets(&bytes);
         let reply = self.seats[usize::from(node - 1)].step(Input::Datagram { link, from, bytes });
         if is_starved(&reply) {

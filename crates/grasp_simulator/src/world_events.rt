@@ -1,11 +1,11 @@
 //! What happens in a network.
 
-ghost use Rattle.std.specs.Prelude.{◌≡◌, None, Some, length, IfOk};
+ghost use Rattle.std.specs.Prelude.{◌≡◌, None, Some, length, IfOk, OnErr};
 ghost use Rattle.grasp_network.specs.Events.{AreLengths};
 ghost use Rattle.grasp_network.specs.Plans.{IsNode};
 ghost use Rattle.grasp_network.specs.declared.event.Event.TheVariants as event;
 ghost use Rattle.grasp_network.specs.declared.report.Report.TheVariants as report;
-ghost use Rattle.grasp_simulator.specs.WorldSteps.{IsAsked, Runs, Ends, Stepped};
+ghost use Rattle.grasp_simulator.specs.WorldSteps.{IsAsked, Runs, MayStarve, Ends, Stepped};
 
 use crate::opening::locator_of;
 use crate::seat::is_starved;
@@ -59,6 +59,7 @@ impl World {
         requires asked { IsAsked self.old event }
         requires goes { self.old.stopped ≡ None }
         ensures runs { IfOk result (λ report. Runs self.old self.new event report) }
+        ensures wanted { OnErr result (MayStarve self.old event) }
         ensures count { length self.new.seats.items ≡ length self.old.seats.items }
     {
         match event {

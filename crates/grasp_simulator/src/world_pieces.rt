@@ -1,9 +1,9 @@
 //! Bytes of streams that come to nodes of a network.
 
-ghost use Rattle.std.specs.Prelude.{◌≡◌, length, IfOk};
+ghost use Rattle.std.specs.Prelude.{◌≡◌, length, IfOk, OnErr};
 ghost use Rattle.grasp_cbor.specs.Bytes.{AllBytes};
 ghost use Rattle.grasp_network.specs.declared.event.Event.TheVariants as event;
-ghost use Rattle.grasp_simulator.specs.WorldSteps.{Runs};
+ghost use Rattle.grasp_simulator.specs.WorldSteps.{Runs, MayStarve};
 
 use crate::seat::is_starved;
 use crate::world::World;
@@ -22,6 +22,7 @@ impl World {
         hold: bool,
     ) -> Result<Report, OutOfMemory>
         ensures runs { IfOk result (λ report. Runs self.old self.new (event.Bytes stream far count hold) report) }
+        ensures wanted { OnErr result (MayStarve self.old (event.Bytes stream far count hold)) }
         ensures count { length self.new.seats.items ≡ length self.old.seats.items }
     {
         streams_are_ready();

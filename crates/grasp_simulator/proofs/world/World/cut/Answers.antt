@@ -1,6 +1,7 @@
 use Rattle.std.proofs.Common.{◌∙◌, sym}
 use Rattle.std.proofs.lemmas.Bool.{false≢true}
-use Rattle.grasp_simulator.proofs.SidesGo.{no_cut, unseated_cut, cut_runs}
+use Rattle.grasp_simulator.proofs.SidesGo.{no_cut, unseated_cut, cut_runs, cut_starves}
+use Rattle.grasp_simulator.proofs.Starving.{on_err}
 use Rattle.grasp_simulator.proofs.world.World.cut.Goals as goal
 
 -- it reaches no side
@@ -17,3 +18,13 @@ pub returns-clause-runs : goal.returns-clause-runs
 returns-clause-runs c =
     cut_runs c.streams_are_ready.ensures c.args.self.now c.send_behind.new.self c.args.stream c.args.far c.args.hold c.in-Some.end c.tell_closed.new.self c.from.result c.index_mut.result.now c.step-reply.new.self c.step-reply.result
     (sym c.side.ensures ∙ c.in-Some.is) c.tell_closed.ensures (c.has.ensures.0 c.if-not-has.false) c.from.ensures c.index_mut.ensures.value c.step-reply.ensures (sym c.is_starved.ensures ∙ c.if-is_starved.false) c.in_ok-send_behind.ensures.sends
+
+-- ---- want of memory
+
+pub returns-then-is_starved-clause-wanted : goal.returns-then-is_starved-clause-wanted
+returns-then-is_starved-clause-wanted c =
+    cut_starves c.streams_are_ready.ensures c.args.self.now c.args.stream c.args.far c.args.hold c.in-Some.end (sym c.side.ensures ∙ c.in-Some.is) (c.has.ensures.0 c.if-not-has.false)
+
+pub returns-in_err-send_behind-clause-wanted : goal.returns-in_err-send_behind-clause-wanted
+returns-in_err-send_behind-clause-wanted c =
+    on_err c.from_residual.result (cut_starves c.streams_are_ready.ensures c.args.self.now c.args.stream c.args.far c.args.hold c.in-Some.end (sym c.side.ensures ∙ c.in-Some.is) (c.has.ensures.0 c.if-not-has.false))

@@ -1,7 +1,8 @@
 use Rattle.std.proofs.Common.{rules, ◌≡◌, refl, sym, ◌∙◌, length, None}
 use Rattle.grasp_network.specs.Plans.{IsNode}
 use Rattle.grasp_network.specs.Setting.{numbered}
-use Rattle.grasp_simulator.proofs.DatagramsGo.{datagram_runs, no_datagram, unseated_datagram}
+use Rattle.grasp_simulator.proofs.DatagramsGo.{datagram_runs, datagram_starves, no_datagram, unseated_datagram}
+use Rattle.grasp_simulator.proofs.Starving.{on_err}
 use Rattle.grasp_simulator.proofs.world.World.datagram.Goals as goal
 
 -- it wasn't sent
@@ -24,3 +25,17 @@ returns-clause-runs c =
     datagram_runs c.streams_are_ready.ensures c.args.self.now c.send_behind.new.self c.args.index c.args.hold parcel parcel.receiver parcel.link parcel.from c.in_ok-bytes.bytes c.from.result c.index_mut.result.now c.step-reply.new.self c.step-reply.result
     (sym c.in-Some.ensures) refl refl refl c.in_ok-bytes.ensures c.are_octets.ensures there c.from.ensures c.index_mut.ensures.value c.step-reply.ensures
     (sym c.is_starved.ensures ∙ c.if-is_starved.false) c.in_ok-send_behind.ensures.sends
+
+-- ---- want of memory
+
+pub returns-in_err-bytes-clause-wanted : goal.returns-in_err-bytes-clause-wanted
+returns-in_err-bytes-clause-wanted c =
+    on_err c.from_residual.result (datagram_starves c.args.self.now c.args.index c.args.hold c.in-Some.parcel.now (sym c.in-Some.ensures) (c.has.ensures.0 c.if-not-has.false))
+
+pub returns-then-is_starved-clause-wanted : goal.returns-then-is_starved-clause-wanted
+returns-then-is_starved-clause-wanted c =
+    datagram_starves c.args.self.now c.args.index c.args.hold c.in-Some.parcel.now (sym c.in-Some.ensures) (c.has.ensures.0 c.if-not-has.false)
+
+pub returns-in_err-send_behind-clause-wanted : goal.returns-in_err-send_behind-clause-wanted
+returns-in_err-send_behind-clause-wanted c =
+    on_err c.from_residual-in_err-send_behind.result (datagram_starves c.args.self.now c.args.index c.args.hold c.in-Some.parcel.now (sym c.in-Some.ensures) (c.has.ensures.0 c.if-not-has.false))

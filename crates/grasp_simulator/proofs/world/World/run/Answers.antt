@@ -1,11 +1,12 @@
-use Rattle.std.proofs.Common.{sym, subst, IfOk}
+use Rattle.std.proofs.Common.{sym, subst, IfOk, OnErr}
 use Rattle.grasp_network.specs.Events.{AreLengths}
 use Rattle.grasp_network.specs.declared.event.Event.{Event}
 use Rattle.grasp_network.specs.declared.event.Event.TheVariants as event
 use Rattle.grasp_network.specs.declared.report.Report.TheVariants as report
 use Rattle.grasp_simulator.proofs.DrainGoes.{drain_runs}
+use Rattle.grasp_simulator.proofs.Starving.{on_err, agent_starves, call_starves, drain_starves}
 use Rattle.grasp_simulator.proofs.Stops.{asked_node, asked_of}
-use Rattle.grasp_simulator.specs.WorldSteps.{IsAsked, Runs}
+use Rattle.grasp_simulator.specs.WorldSteps.{IsAsked, Runs, MayStarve}
 use Rattle.grasp_simulator.proofs.world.World.run.Goals as goal
 
 pub clock-requires : goal.clock-requires
@@ -65,3 +66,29 @@ returns-in-Agent-clause-runs c = subst (λ (e : Event). IfOk c.call_own.result (
 
 pub returns-in-Datagram-clause-runs : goal.returns-in-Datagram-clause-runs
 returns-in-Datagram-clause-runs c = subst (λ (e : Event). IfOk c.datagram.result (λ report. Runs c.args.self.now c.datagram.new.self e report)) (sym c.in-Datagram.is) c.datagram.ensures.runs
+
+-- ---- want of memory
+
+pub returns-in-Api-clause-wanted : goal.returns-in-Api-clause-wanted
+returns-in-Api-clause-wanted c =
+    subst (λ (e : Event). OnErr c.call.result (MayStarve c.args.self.now e)) (sym c.in-Api.is) (on_err c.call.result (call_starves c.args.self.now c.in-Api.node c.in-Api.asa c.in-Api.call c.in-Api.hold))
+
+pub returns-in-Agent-clause-wanted : goal.returns-in-Agent-clause-wanted
+returns-in-Agent-clause-wanted c =
+    subst (λ (e : Event). OnErr c.call_own.result (MayStarve c.args.self.now e)) (sym c.in-Agent.is) (on_err c.call_own.result (agent_starves c.args.self.now c.in-Agent.node c.in-Agent.hold))
+
+pub returns-in_err-send-in-Drain-clause-wanted : goal.returns-in_err-send-in-Drain-clause-wanted
+returns-in_err-send-in-Drain-clause-wanted c =
+    subst (λ (e : Event). OnErr c.from_residual.result (MayStarve c.args.self.now e)) (sym c.in-Drain.is) (on_err c.from_residual.result (drain_starves c.args.self.now c.in-Drain.node c.in-Drain.max))
+
+pub returns-in-Arrive-clause-wanted : goal.returns-in-Arrive-clause-wanted
+returns-in-Arrive-clause-wanted c = subst (λ (e : Event). OnErr c.arrive.result (MayStarve c.args.self.now e)) (sym c.in-Arrive.is) c.arrive.ensures.wanted
+
+pub returns-in-Bytes-clause-wanted : goal.returns-in-Bytes-clause-wanted
+returns-in-Bytes-clause-wanted c = subst (λ (e : Event). OnErr c.bytes.result (MayStarve c.args.self.now e)) (sym c.in-Bytes.is) c.bytes.ensures.wanted
+
+pub returns-in-Cut-clause-wanted : goal.returns-in-Cut-clause-wanted
+returns-in-Cut-clause-wanted c = subst (λ (e : Event). OnErr c.cut.result (MayStarve c.args.self.now e)) (sym c.in-Cut.is) c.cut.ensures.wanted
+
+pub returns-in-Datagram-clause-wanted : goal.returns-in-Datagram-clause-wanted
+returns-in-Datagram-clause-wanted c = subst (λ (e : Event). OnErr c.datagram.result (MayStarve c.args.self.now e)) (sym c.in-Datagram.is) c.datagram.ensures.wanted

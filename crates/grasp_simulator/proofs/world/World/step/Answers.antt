@@ -17,4 +17,4 @@ returns-in-Ok c = ends_so c.args.self.now c.run.new.self c.end.new.self c.args.e
 pub returns-in-Err : goal.returns-in-Err
 returns-in-Err c =
     subst (λ (y : WorldStop). Stepped c.args.self.now c.stop.new.self c.args.event (Err y)) (sym c.stop.ensures.result)
-    (stops c.args.self.now c.stop.new.self c.args.event c.in_default.is (ap (λ (w : World). length w.seats.items) c.stop.ensures.stopped ∙ c.run.ensures.count) (ap (λ (w : World). w.stopped) c.stop.ensures.stopped))
+    (stops c.args.self.now c.stop.new.self c.args.event c.in_default.is (ap (λ (w : World). length w.seats.items) c.stop.ensures.stopped ∙ c.run.ensures.count) c.in-Err.ensures.wanted (ap (λ (w : World). w.stopped) c.stop.ensures.stopped))
