@@ -1,6 +1,6 @@
 //! The table of the streams of a network.
 
-ghost use Rattle.std.specs.Prelude.{◌≡◌, ◌+◌, ◌<◌, ℕ, List, [], length, option_map, slice_get, OnOk, IfSome};
+ghost use Rattle.std.specs.Prelude.{◌≡◌, ◌+◌, ◌<◌, ℕ, List, [], length, option_map, slice_get, OnOk, OnErr, IfSome};
 ghost use Rattle.grasp_core.specs.Queue.{encoding};
 ghost use Rattle.grasp_types.specs.declared.message.Message.{Message};
 ghost use Rattle.grasp_network.specs.Talks.{TalkState, talk_numbered, change_at_end, told_closed, with_delivered, with_ended, with_number, with_sent, with_side};
@@ -152,19 +152,19 @@ impl Streams {
         }
     }
 
-    /// The stream with this end sends these bytes, where there is one, and answers how many there are: 1 or none. After an `Err`
-    /// nothing has changed.
-    pub(crate) fn send(&mut self, node: u8, number: u64, bytes: &[u8]) -> Result<u64, OutOfMemory>
+    /// The stream with this end sends these bytes, where there is one. After an `Err` nothing has changed.
+    pub(crate) fn send(&mut self, node: u8, number: u64, bytes: &[u8]) -> Result<(), OutOfMemory>
         ensures stands { OnOk result ((ts : List TalkState) (dials : ℕ) (m : Message) → bytes.now ≡ encoding m → AreSent ts (end_here node number) → StreamsStand self.old ts dials → StreamsStand self.new (change_at_end ts (end_here node number) (with_sent m)) dials) }
+        ensures streams_stay { OnErr result (self.new.list.items ≡ self.old.list.items) }
+        ensures index_stays { OnErr result (self.new.near ≡ self.old.near) }
     {
         let Some((place, far)) = self.place_of(node, number) else {
-            return Ok(0);
+            return Ok(());
         };
         let Some(stream) = self.list.get_mut(place) else {
             unreachable!()
         };
-        stream.send(far, bytes)?;
-        Ok(1)
+        stream.send(far, bytes)
     }
 }
 

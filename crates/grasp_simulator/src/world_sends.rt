@@ -61,7 +61,7 @@ impl World {
             Output::Datagram { link, to, bytes } => self.post(node, *link, *to, bytes),
             Output::Dial { stream, to } => self.streams.dial(node, *stream, to.copy()?),
             Output::Send { stream, bytes } => {
-                let _sent = self.streams.send(node, *stream, bytes.bytes())?;
+                self.streams.send(node, *stream, bytes.bytes())?;
                 self.add(bytes.len());
                 Ok(())
             }

@@ -17,13 +17,13 @@ returns-in_ok-copy-in-Dial-clause-puts c =
     (λ stands. puts_dial c.args.self.now c.dial.new.self c.args.node c.in-Dial.stream c.in_ok-copy-in-Dial.field-0 c.args.output.now (c.in-Dial.is ∙ ap (λ (to : Locator). output.Dial c.in-Dial.stream to) (sym c.in_ok-copy-in-Dial.ensures)) stands)
     c.dial.ensures.stands
 
-pub returns-in_ok-_sent-in-Send-clause-puts : goal.returns-in_ok-_sent-in-Send-clause-puts
-returns-in_ok-_sent-in-Send-clause-puts c =
+pub returns-in_ok-send-in-Send-clause-puts : goal.returns-in_ok-send-in-Send-clause-puts
+returns-in_ok-send-in-Send-clause-puts c =
     let self = c.args.self.now in
     let sent : ℕ = min (self.sent + c.len.result) most_count in
     subst (λ (x : World). Puts self x c.args.node c.args.output.now) (sym c.add.ensures)
     (puts_send self c.send.new.self c.args.node c.in-Send.stream sent c.in-Send.bytes c.args.output.now c.in-Send.is (ap (λ (n : ℕ). min (self.sent + n) most_count) c.len.ensures)
-    (λ ts dials m are sent_all s. c.in_ok-_sent-in-Send.ensures.stands ts dials m (c.bytes.ensures ∙ are) sent_all s))
+    (λ ts dials m are sent_all s. c.in_ok-send-in-Send.ensures.stands ts dials m (c.bytes.ensures ∙ are) sent_all s))
 
 pub returns-in-Close-clause-puts : goal.returns-in-Close-clause-puts
 returns-in-Close-clause-puts c = puts_close c.args.self.now c.close.new.self c.args.node c.in-Close.stream c.args.output.now c.in-Close.is c.close.ensures.stands
