@@ -1,6 +1,6 @@
 //! The table of the streams of a network.
 
-ghost use Rattle.std.specs.Prelude.{◌≡◌, ◌+◌, ◌<◌, ℕ, List, [], length, option_map, slice_get, OnOk, OnErr, IfSome};
+ghost use Rattle.std.specs.Prelude.{◌≡◌, ◌+◌, ◌<◌, ℕ, List, [], length, nat_le, option_map, slice_get, OnOk, OnErr, IfSome};
 ghost use Rattle.grasp_core.specs.Queue.{encoding};
 ghost use Rattle.grasp_types.specs.declared.message.Message.{Message};
 ghost use Rattle.grasp_network.specs.Talks.{TalkState, talk_numbered, change_at_end, told_closed, with_delivered, with_ended, with_number, with_sent, with_side};
@@ -8,7 +8,7 @@ ghost use Rattle.grasp_network.specs.Setting.{numbered};
 ghost use Rattle.grasp_simulator.specs.StreamParts.{no_sent, first_stream, side_of, piece_at};
 ghost use Rattle.grasp_network_streams.specs.Ready.{AreSent, IsDialOf};
 ghost use Rattle.grasp_simulator.specs.Arriving.{Opens};
-ghost use Rattle.grasp_simulator.specs.StreamsStand.{StreamsStand, ChangesAt, IsTalk, end_here, dial_at, near_place, far_here, place_in};
+ghost use Rattle.grasp_simulator.specs.StreamsStand.{StreamsStand, most_streams, ChangesAt, IsTalk, end_here, dial_at, near_place, far_here, place_in};
 
 use crate::stream::{Sent, SideEnd, Standing, Stream};
 use grasp_cbor::{Octets, OutOfMemory};
@@ -91,14 +91,19 @@ impl Streams {
         }
     }
 
+    /// Whether there is no room for another stream.
+    pub(crate) fn is_full(&self) -> bool
+        ensures { result ≡ nat_le most_streams (length self.now.list.items) }
+    {
+        MOST_STREAMS <= self.list.len()
+    }
+
     /// The next dial is sent: that of the stream with this number at this node, to this locator. After an `Err` nothing is said
     /// of the table.
     pub(crate) fn dial(&mut self, node: u8, number: u64, to: Locator) -> Result<(), OutOfMemory>
+        requires { length self.old.list.items < most_streams }
         ensures stands { OnOk result ((ts : List TalkState) (dials : ℕ) → IsDialOf ts (end_here node number) to → StreamsStand self.old ts dials → StreamsStand self.new (change_at_end ts (end_here node number) (with_number (dials + 1))) (dials + 1)) }
     {
-        if self.list.len() >= MOST_STREAMS {
-            return Err(OutOfMemory);
-        }
         let alloc = *self.near.allocator();
         self.list.push(first_stream(alloc, node, number, to))?;
         let k = self.list.len() as u64;

@@ -59,7 +59,12 @@ impl World {
     {
         match output {
             Output::Datagram { link, to, bytes } => self.post(node, *link, *to, bytes),
-            Output::Dial { stream, to } => self.streams.dial(node, *stream, to.copy()?),
+            Output::Dial { stream, to } => {
+                if self.streams.is_full() {
+                    return Err(OutOfMemory);
+                }
+                self.streams.dial(node, *stream, to.copy()?)
+            }
             Output::Send { stream, bytes } => {
                 self.streams.send(node, *stream, bytes.bytes())?;
                 self.add(bytes.len());

@@ -23,5 +23,5 @@ returns c =
           let looks : (q : StreamEnd) → dial_at c.insert.new.self.entries q ≡ cond (same_near (key_of e) (key_of q)) (Some (dials + 1)) (dial_at old.near.entries q) =
           λ q. c.in_ok-insert.ensures.updates.0 (key_of q) ∙ ap (λ k. cond (same_near (key_of e) (key_of q)) (Some k) (dial_at old.near.entries q)) count in
           subst (λ (l : List Stream). TableStands l c.insert.new.self.entries (change_at_end ts e (with_number (dials + 1))) (dials + 1)) (sym items)
-          (dialled old.list.items old.near.entries c.insert.new.self.entries c.args.node c.args.number c.args.to ts dials s d (omega (arith, was)) looks);
+          (dialled old.list.items old.near.entries c.insert.new.self.entries c.args.node c.args.number c.args.to ts dials s d (omega (arith, was, c.requires)) looks);
     }

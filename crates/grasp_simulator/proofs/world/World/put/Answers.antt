@@ -1,8 +1,9 @@
-use Rattle.std.proofs.Common.{◌≡◌, ◌∙◌, sym, ap, subst, ℕ, ◌+◌, min}
+use Rattle.std.proofs.Common.{◌≡◌, ◌∙◌, sym, ap, subst, arith, tests, ℕ, ◌+◌, ◌<◌, false, length, min, nat_le}
 use Rattle.grasp_types.specs.declared.address.Locator.{Locator}
 use Rattle.grasp_types.specs.declared.traffic.Output.TheVariants as output
 use Rattle.grasp_simulator.proofs.Puts.{on_ok, puts_datagram, puts_dial, puts_send, puts_close}
 use Rattle.grasp_simulator.specs.Sends.{Puts}
+use Rattle.grasp_simulator.specs.StreamsStand.{most_streams}
 use Rattle.grasp_simulator.specs.WorldStands.{most_count}
 use Rattle.grasp_simulator.specs.declared.world.World.{World}
 use Rattle.grasp_simulator.proofs.world.World.put.Goals as goal
@@ -10,6 +11,12 @@ use Rattle.grasp_simulator.proofs.world.World.put.Goals as goal
 pub returns-in-Datagram-clause-puts : goal.returns-in-Datagram-clause-puts
 returns-in-Datagram-clause-puts c =
     on_ok c.post.result (λ posts. puts_datagram c.args.self.now c.post.new.self c.args.node c.in-Datagram.link c.in-Datagram.to c.in-Datagram.bytes c.args.output.now c.in-Datagram.is posts) c.post.ensures.posts
+
+has_room : (count : ℕ) → nat_le most_streams count ≡ false → count < most_streams
+has_room count few = grind (arith, tests)
+
+pub dial-requires : goal.dial-requires
+dial-requires c = has_room (length c.args.self.now.streams.list.items) (sym c.is_full.ensures ∙ c.if-is_full.false)
 
 pub returns-in_ok-copy-in-Dial-clause-puts : goal.returns-in_ok-copy-in-Dial-clause-puts
 returns-in_ok-copy-in-Dial-clause-puts c =
