@@ -1,2 +1,4 @@
+pub mod Cutting
 pub mod Lining
 pub mod Telling
+pub mod Watching

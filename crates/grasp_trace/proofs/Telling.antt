@@ -86,16 +86,15 @@ quiet_whole line a b c q (inl p) = inl (quiet_appends a.written b.written c.writ
 quiet_whole line a b c q (inr (inl r)) = inr (inl (rose_before a.faults b.faults c.faults q.never_falls.faults r))
 quiet_whole line a b c q (inr (inr r)) = inr (inr (rose_before a.left_out b.left_out c.left_out q.never_falls.left_out r))
 
-falls_on : (a b c : Sheet) → NeverFalls a b → NeverFalls b c → NeverFalls a c
+pub falls_on : (a b c : Sheet) → NeverFalls a b → NeverFalls b c → NeverFalls a c
 falls_on a b c p q = record { faults = omega (arith, p.faults, q.faults); left_out = omega (arith, p.left_out, q.left_out) }
 
-pub quiet_then_one : (P : List ℕ → Type 0) (a b c : Sheet) → IsQuiet a b → TellsOne P b c → TellsOne P a c
-quiet_then_one P a b c q t = record {
-  line = t.line;
-  is = t.is;
-  tells = record {
-    front = keeps_then_front a.written b.written c.written t.line q.kept t.tells.front;
-    whole = quiet_whole t.line a b c q t.tells.whole;
-    never_falls = falls_on a b c q.never_falls t.tells.never_falls;
-  };
+pub quiet_tells : (line : List ℕ) (a b c : Sheet) → IsQuiet a b → Tells line b c → Tells line a c
+quiet_tells line a b c q t = record {
+  front = keeps_then_front a.written b.written c.written line q.kept t.front;
+  whole = quiet_whole line a b c q t.whole;
+  never_falls = falls_on a b c q.never_falls t.never_falls;
 }
+
+pub quiet_then_one : (P : List ℕ → Type 0) (a b c : Sheet) → IsQuiet a b → TellsOne P b c → TellsOne P a c
+quiet_then_one P a b c q t = record { line = t.line; is = t.is; tells = quiet_tells t.line a b c q t.tells }

@@ -10,9 +10,6 @@ pub record Sheet : Type 0 where
   pub faults : ℕ
   pub left_out : ℕ
 
-abbrev pub sheet : Option (List ℕ) → ℕ → ℕ → Sheet
-sheet written faults left_out = record { written = written; faults = faults; left_out = left_out }
-
 -- both counts stay or rise
 pub record NeverFalls (old new : Sheet) : Type 0 where
   pub faults : old.faults ≤ new.faults

@@ -1,8 +1,12 @@
 //! A sink of lines.
 
-ghost use Rattle.std.specs.Prelude.{◌≡◌, IfOk, OnErr, string_bytes};
+ghost use Rattle.std.specs.Prelude.{◌≡◌, ◌<◌, None, Some, Err, IfOk, OnErr, string_bytes};
 ghost use Rattle.grasp_trace.specs.Lines.{IsDatagramLine, message_line, fault_line, opening_line, dial_line, closing_line};
-ghost use Rattle.grasp_trace.specs.Sheet.{sheet, Tells, IsLeftOut, TellsOne};
+ghost use Rattle.grasp_trace.specs.Messages.{TellsLast, TellsCut, IsAnswered, Telling, HasTold, AfterNext, TellsWith};
+ghost use Rattle.grasp_trace.specs.Sheet.{Tells, IsLeftOut, TellsOne};
+ghost use Rattle.grasp_trace.specs.Trace.{page_sheet};
+ghost use Rattle.grasp_wire.specs.Cutter.{Past};
+ghost use Rattle.grasp_wire.specs.Stands.{Stands, cut_limit, waiting_count};
 
 use crate::lines;
 use crate::watched::{feed, place_of};
@@ -36,8 +40,8 @@ impl<K: Sink + Drop> Page<K> {
 
     /// Writes a line, or counts it as left out.
     fn write(&mut self, line: Result<String, OutOfMemory>)
-        ensures told { IfOk line (λ t. Tells (string_bytes t) (sheet (K.written self.old.sink) (K.faults self.old.sink) self.old.left_out) (sheet (K.written self.new.sink) (K.faults self.new.sink) self.new.left_out)) }
-        ensures left { OnErr line (IsLeftOut (sheet (K.written self.old.sink) (K.faults self.old.sink) self.old.left_out) (sheet (K.written self.new.sink) (K.faults self.new.sink) self.new.left_out)) }
+        ensures told { IfOk line (λ t. Tells (string_bytes t) (page_sheet K.written K.faults self.old) (page_sheet K.written K.faults self.new)) }
+        ensures left { OnErr line (IsLeftOut (page_sheet K.written K.faults self.old) (page_sheet K.written K.faults self.new)) }
     {
         match line {
             Ok(text) => {
@@ -49,81 +53,117 @@ impl<K: Sink + Drop> Page<K> {
 
     /// One line more is left out.
     pub(crate) fn leave_out(&mut self)
-        ensures { IsLeftOut (sheet (K.written self.old.sink) (K.faults self.old.sink) self.old.left_out) (sheet (K.written self.new.sink) (K.faults self.new.sink) self.new.left_out) }
+        ensures { IsLeftOut (page_sheet K.written K.faults self.old) (page_sheet K.written K.faults self.new) }
     {
         self.left_out = self.left_out.saturating_add(1);
     }
 
     /// Tells a datagram.
     pub(crate) fn datagram(&mut self, what: &str, link: u8, neighbour: u8, bytes: &[u8])
-        ensures { TellsOne (IsDatagramLine what.now link neighbour bytes.now) (sheet (K.written self.old.sink) (K.faults self.old.sink) self.old.left_out) (sheet (K.written self.new.sink) (K.faults self.new.sink) self.new.left_out) }
+        ensures { TellsOne (IsDatagramLine what.now link neighbour bytes.now) (page_sheet K.written K.faults self.old) (page_sheet K.written K.faults self.new) }
     {
         self.write(lines::datagram(self.alloc, what, link, neighbour, bytes));
     }
 
     /// Tells a stream that a peer opened.
     pub(crate) fn opening(&mut self, stream: u64, from: &Address)
-        ensures { TellsOne (λ line. line ≡ opening_line stream from.now) (sheet (K.written self.old.sink) (K.faults self.old.sink) self.old.left_out) (sheet (K.written self.new.sink) (K.faults self.new.sink) self.new.left_out) }
+        ensures { TellsOne (λ line. line ≡ opening_line stream from.now) (page_sheet K.written K.faults self.old) (page_sheet K.written K.faults self.new) }
     {
         self.write(lines::opening(self.alloc, stream, from));
     }
 
     /// Tells a stream that is dialled.
     pub(crate) fn dial(&mut self, what: &str, stream: u64, to: &Locator)
-        ensures { TellsOne (λ line. line ≡ dial_line what.now stream to.now) (sheet (K.written self.old.sink) (K.faults self.old.sink) self.old.left_out) (sheet (K.written self.new.sink) (K.faults self.new.sink) self.new.left_out) }
+        ensures { TellsOne (λ line. line ≡ dial_line what.now stream to.now) (page_sheet K.written K.faults self.old) (page_sheet K.written K.faults self.new) }
     {
         self.write(lines::dial(self.alloc, what, stream, to));
     }
 
     /// Tells a stream that ends.
     pub(crate) fn closing(&mut self, what: &str, stream: u64)
-        ensures { TellsOne (λ line. line ≡ closing_line what.now stream) (sheet (K.written self.old.sink) (K.faults self.old.sink) self.old.left_out) (sheet (K.written self.new.sink) (K.faults self.new.sink) self.new.left_out) }
+        ensures { TellsOne (λ line. line ≡ closing_line what.now stream) (page_sheet K.written K.faults self.old) (page_sheet K.written K.faults self.new) }
     {
         self.write(lines::closing(self.alloc, what, stream));
     }
 
     /// Tells a message on a stream.
     fn message(&mut self, what: &str, stream: u64, message: &Message)
-        ensures { Tells (message_line what.now stream message.now) (sheet (K.written self.old.sink) (K.faults self.old.sink) self.old.left_out) (sheet (K.written self.new.sink) (K.faults self.new.sink) self.new.left_out) }
+        ensures { Tells (message_line what.now stream message.now) (page_sheet K.written K.faults self.old) (page_sheet K.written K.faults self.new) }
     {
         self.write(lines::message(self.alloc, what, stream, message));
     }
 
-    /// Tells a fault of a stream at this place.
-    fn fault(&mut self, what: &str, stream: u64, place: u64)
-        ensures { Tells (fault_line what.now stream place) (sheet (K.written self.old.sink) (K.faults self.old.sink) self.old.left_out) (sheet (K.written self.new.sink) (K.faults self.new.sink) self.new.left_out) }
+    /// Tells bytes of a stream that are no message, at this place.
+    fn bad_bytes(&mut self, what: &str, stream: u64, place: u64)
+        ensures { Tells (fault_line what.now stream place) (page_sheet K.written K.faults self.old) (page_sheet K.written K.faults self.new) }
     {
         self.write(lines::fault(self.alloc, what, stream, place));
     }
 
-    /// Tells each message that is whole with this piece, and returns whether the direction goes on: one with a fault doesn't.
+    /// Tells a fault of a stream, or leaves a line out where memory was wanted.
+    fn fault(&mut self, what: &str, stream: u64, fault: &CutFault)
+        ensures { TellsLast what.now stream (Err fault.now) (page_sheet K.written K.faults self.old) (page_sheet K.written K.faults self.new) }
+    {
+        match place_of(fault) {
+            Some(place) => self.bad_bytes(what, stream, place),
+            None => self.leave_out(),
+        }
+    }
+
+    /// Tells each message that is whole with this piece, and gives the cutter back where it waits for more.
     pub(crate) fn messages(
         &mut self,
         what: &str,
         stream: u64,
-        cutter: &mut Option<Cutter>,
+        mut cutter: Cutter,
         piece: &[u8],
-    ) -> bool {
-        let Some(cutter) = cutter else {
-            return false;
-        };
-        if !feed(cutter, piece) {
-            self.leave_out();
-            return false;
+    ) -> Option<Cutter>
+        ensures { TellsWith what.now stream piece.now (Some cutter) result (page_sheet K.written K.faults self.old) (page_sheet K.written K.faults self.new) }
+    {
+        if feed(&mut cutter, piece) {
+            return self.tell(what, stream, cutter);
         }
-        for _ in 0..piece.len() {
-            match cutter.next() {
-                Ok(Some(message)) => self.message(what, stream, &message),
-                Ok(None) => return true,
-                Err(fault) => {
-                    match place_of(&fault) {
-                        Some(place) => self.fault(what, stream, place),
-                        None => self.leave_out(),
-                    }
-                    return false;
-                }
+        self.leave_out();
+        None
+    }
+
+    /// Tells each message that is whole, and gives the cutter back where it waits for more.
+    fn tell(&mut self, what: &str, stream: u64, mut cutter: Cutter) -> Option<Cutter>
+        ensures { (past : Past) → Stands cutter past → TellsCut what.now stream (cut_limit cutter) past result (page_sheet K.written K.faults self.old) (page_sheet K.written K.faults self.new) }
+    {
+        if self.tell_all(what, stream, &mut cutter) {
+            return Some(cutter);
+        }
+        None
+    }
+
+    /// Tells each message that is whole, and what ends them. Returns whether the cutter waits for more.
+    fn tell_all(&mut self, what: &str, stream: u64, cutter: &mut Cutter) -> bool
+        ensures { (past : Past) → Stands cutter.old past → IsAnswered what.now stream (cut_limit cutter.old) past result cutter.new (page_sheet K.written K.faults self.old) (page_sheet K.written K.faults self.new) }
+    {
+        loop {
+            if let Some(waits) = self.tell_next(what, stream, cutter) {
+                return waits;
             }
         }
-        true
+    }
+
+    /// Tells the next message, or answers whether the cutter waits for more.
+    fn tell_next(&mut self, what: &str, stream: u64, cutter: &mut Cutter) -> Option<bool>
+        ensures then { (t : Telling) → HasTold what.now stream t cutter.old (page_sheet K.written K.faults self.old) → AfterNext what.now stream t cutter.new result (page_sheet K.written K.faults self.new) }
+        ensures less { result ≡ None → waiting_count cutter.new < waiting_count cutter.old }
+    {
+        match cutter.next() {
+            Ok(Some(message)) => {
+                self.message(what, stream, &message);
+                drop(message);
+                None
+            }
+            Ok(None) => Some(true),
+            Err(fault) => {
+                self.fault(what, stream, &fault);
+                Some(false)
+            }
+        }
     }
 }

@@ -1,10 +1,10 @@
 //! Links whose traffic is written to a sink.
 
-ghost use Rattle.std.specs.Prelude.{◌≡◌, ◌≤◌};
+ghost use Rattle.std.specs.Prelude.{◌≡◌, ◌≤◌, ℕ, Bool, None};
 ghost use Rattle.grasp_io.specs.Told.{Stays};
 ghost use Rattle.grasp_io.specs.Links.{IsNext, Gives, Waits, IsAnswer, Hands};
-ghost use Rattle.grasp_trace.specs.Sheet.{sheet};
-ghost use Rattle.grasp_trace.specs.Traffic.{TellsAsked, TellsOutput};
+ghost use Rattle.grasp_trace.specs.Trace.{links_of, sink_of, left_out_of, watched_of, trace_of};
+ghost use Rattle.grasp_trace.specs.Traffic.{TellsAsked, TellsOutput, WatchesAsked, WatchesOutput};
 
 use crate::writer::Writer;
 use grasp_io::{Asked, Failed, LinkPlan, Links, Sent, Sink};
@@ -22,9 +22,10 @@ pub struct Traced<L: Links + Drop, K: Sink + Drop> {
 impl<L: Links + Drop, K: Sink + Drop> Traced<L, K> {
     /// These links, watched: the lines go to this sink.
     pub fn new(alloc: Global, links: L, sink: K) -> Self
-        ensures links { result.links ≡ links }
-        ensures sink { result.writer.page.sink ≡ sink }
-        ensures none { result.writer.page.left_out ≡ 0 }
+        ensures links { links_of result ≡ links }
+        ensures sink { sink_of result ≡ sink }
+        ensures none { left_out_of result ≡ 0 }
+        ensures unwatched { (received : Bool) (stream : ℕ) → watched_of result received stream ≡ None }
     {
         Traced {
             links,
@@ -34,33 +35,33 @@ impl<L: Links + Drop, K: Sink + Drop> Traced<L, K> {
 
     /// How many lines were left out for want of memory, or 2^64 - 1.
     pub fn left_out(&self) -> u64
-        ensures { result ≡ self.now.writer.page.left_out }
+        ensures { result ≡ left_out_of self.now }
     {
         self.writer.page.left_out
     }
 
     /// The links, which aren't watched any more.
     pub fn into_links(self) -> L
-        ensures { result ≡ self.links }
+        ensures { result ≡ links_of self }
     {
         self.links
     }
 }
 
 impl<L: Links + Drop, K: Sink + Drop> Links for Traced<L, K> {
-    ghost is_open = { λ s. L.is_open s.links };
+    ghost is_open = { λ s. L.is_open (links_of s) };
 
-    ghost plans = { λ s. L.plans s.links };
+    ghost plans = { λ s. L.plans (links_of s) };
 
-    ghost waits = { λ s. L.waits s.links };
+    ghost waits = { λ s. L.waits (links_of s) };
 
-    ghost given = { λ s. L.given s.links };
+    ghost given = { λ s. L.given (links_of s) };
 
-    ghost handed = { λ s. L.handed s.links };
+    ghost handed = { λ s. L.handed (links_of s) };
 
-    ghost opened = { λ s. L.opened s.links };
+    ghost opened = { λ s. L.opened (links_of s) };
 
-    ghost faults = { λ s. L.faults s.links };
+    ghost faults = { λ s. L.faults (links_of s) };
 
     fn open(&mut self, plan: &LinkPlan) -> Result<(), Failed> {
         self.links.open(plan)
@@ -68,14 +69,15 @@ impl<L: Links + Drop, K: Sink + Drop> Links for Traced<L, K> {
 
     // What was given is told.
     fn ask(&mut self, wait_ms: u32) -> Asked
-        ensures stays_open { L.is_open self.new.links ≡ L.is_open self.old.links }
-        ensures told { Stays (L.plans self.old.links) (L.plans self.new.links) }
-        ensures waited { Waits (L.waits self.old.links) (L.waits self.new.links) result wait_ms }
-        ensures gave { Gives (L.given self.old.links) (L.given self.new.links) result }
-        ensures took { Stays (L.handed self.old.links) (L.handed self.new.links) }
-        ensures next { IsNext (L.opened self.old.links) (L.opened self.new.links) result }
-        ensures never_falls { L.faults self.old.links ≤ L.faults self.new.links }
-        ensures written { TellsAsked result (sheet (K.written self.old.writer.page.sink) (K.faults self.old.writer.page.sink) self.old.writer.page.left_out) (sheet (K.written self.new.writer.page.sink) (K.faults self.new.writer.page.sink) self.new.writer.page.left_out) }
+        ensures stays_open { L.is_open (links_of self.new) ≡ L.is_open (links_of self.old) }
+        ensures told { Stays (L.plans (links_of self.old)) (L.plans (links_of self.new)) }
+        ensures waited { Waits (L.waits (links_of self.old)) (L.waits (links_of self.new)) result wait_ms }
+        ensures gave { Gives (L.given (links_of self.old)) (L.given (links_of self.new)) result }
+        ensures took { Stays (L.handed (links_of self.old)) (L.handed (links_of self.new)) }
+        ensures next { IsNext (L.opened (links_of self.old)) (L.opened (links_of self.new)) result }
+        ensures never_falls { L.faults (links_of self.old) ≤ L.faults (links_of self.new) }
+        ensures written { TellsAsked result (trace_of K.written K.faults self.old) (trace_of K.written K.faults self.new) }
+        ensures watched { WatchesAsked result (trace_of K.written K.faults self.old) (trace_of K.written K.faults self.new) }
     {
         let asked = self.links.ask(wait_ms);
         if let Asked::Got(input) = &asked {
@@ -86,15 +88,16 @@ impl<L: Links + Drop, K: Sink + Drop> Links for Traced<L, K> {
 
     // What was handed over is told, and what became of it.
     fn send(&mut self, output: &Output) -> Sent
-        ensures stays_open { L.is_open self.new.links ≡ L.is_open self.old.links }
-        ensures told { Stays (L.plans self.old.links) (L.plans self.new.links) }
-        ensures waited { Stays (L.waits self.old.links) (L.waits self.new.links) }
-        ensures gave { Stays (L.given self.old.links) (L.given self.new.links) }
-        ensures took { Hands (L.handed self.old.links) (L.handed self.new.links) result output.now }
-        ensures none_opened { L.opened self.new.links ≡ L.opened self.old.links }
-        ensures answer { IsAnswer output.now result (L.faults self.old.links) (L.faults self.new.links) }
-        ensures never_falls { L.faults self.old.links ≤ L.faults self.new.links }
-        ensures written { TellsOutput output.now result (sheet (K.written self.old.writer.page.sink) (K.faults self.old.writer.page.sink) self.old.writer.page.left_out) (sheet (K.written self.new.writer.page.sink) (K.faults self.new.writer.page.sink) self.new.writer.page.left_out) }
+        ensures stays_open { L.is_open (links_of self.new) ≡ L.is_open (links_of self.old) }
+        ensures told { Stays (L.plans (links_of self.old)) (L.plans (links_of self.new)) }
+        ensures waited { Stays (L.waits (links_of self.old)) (L.waits (links_of self.new)) }
+        ensures gave { Stays (L.given (links_of self.old)) (L.given (links_of self.new)) }
+        ensures took { Hands (L.handed (links_of self.old)) (L.handed (links_of self.new)) result output.now }
+        ensures none_opened { L.opened (links_of self.new) ≡ L.opened (links_of self.old) }
+        ensures answer { IsAnswer output.now result (L.faults (links_of self.old)) (L.faults (links_of self.new)) }
+        ensures never_falls { L.faults (links_of self.old) ≤ L.faults (links_of self.new) }
+        ensures written { TellsOutput output.now result (trace_of K.written K.faults self.old) (trace_of K.written K.faults self.new) }
+        ensures watched { WatchesOutput output.now (trace_of K.written K.faults self.old) (trace_of K.written K.faults self.new) }
     {
         let sent = self.links.send(output);
         self.writer.handed_over(output, sent);

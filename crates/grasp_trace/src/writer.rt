@@ -1,9 +1,12 @@
 //! What tells the traffic of links.
 
-ghost use Rattle.std.specs.Prelude.{◌≡◌};
+ghost use Rattle.std.specs.Prelude.{◌≡◌, None, Bool, ℕ};
 ghost use Rattle.grasp_trace.specs.Lines.{opening_line, dial_line};
-ghost use Rattle.grasp_trace.specs.Sheet.{sheet, IsQuiet, TellsOne};
-ghost use Rattle.grasp_trace.specs.Traffic.{sent_word, TellsInput, TellsOutput};
+ghost use Rattle.grasp_trace.specs.Messages.{Begins, TellsPiece};
+ghost use Rattle.grasp_trace.specs.Sheet.{IsQuiet, TellsOne};
+ghost use Rattle.grasp_trace.specs.Trace.{page_sheet, writer_trace};
+ghost use Rattle.grasp_trace.specs.Traffic.{sent_word, TellsInput, TellsOutput, WatchesInput, WatchesOutput};
+ghost use Rattle.grasp_trace.specs.Watching.{cutters_of, ChangesAlone};
 
 use crate::page::Page;
 use crate::watched::Watched;
@@ -34,6 +37,7 @@ impl<K: Sink + Drop> Writer<K> {
     pub(crate) fn new(alloc: Global, sink: K) -> Self
         ensures sink { result.page.sink ≡ sink }
         ensures none { result.page.left_out ≡ 0 }
+        ensures unwatched { (received : Bool) (stream : ℕ) → cutters_of result.streams received stream ≡ None }
     {
         Writer {
             page: Page::new(alloc, sink),
@@ -43,7 +47,8 @@ impl<K: Sink + Drop> Writer<K> {
 
     /// What an input tells.
     pub(crate) fn received(&mut self, input: &Input)
-        ensures { TellsInput input.now (sheet (K.written self.old.page.sink) (K.faults self.old.page.sink) self.old.page.left_out) (sheet (K.written self.new.page.sink) (K.faults self.new.page.sink) self.new.page.left_out) }
+        ensures written { TellsInput input.now (writer_trace K.written K.faults self.old) (writer_trace K.written K.faults self.new) }
+        ensures watched { WatchesInput input.now (writer_trace K.written K.faults self.old) (writer_trace K.written K.faults self.new) }
     {
         match input {
             Input::Datagram { link, from, bytes } => {
@@ -63,7 +68,8 @@ impl<K: Sink + Drop> Writer<K> {
 
     /// What an output tells, and what became of it.
     pub(crate) fn handed_over(&mut self, output: &Output, sent: Sent)
-        ensures { TellsOutput output.now sent (sheet (K.written self.old.page.sink) (K.faults self.old.page.sink) self.old.page.left_out) (sheet (K.written self.new.page.sink) (K.faults self.new.page.sink) self.new.page.left_out) }
+        ensures written { TellsOutput output.now sent (writer_trace K.written K.faults self.old) (writer_trace K.written K.faults self.new) }
+        ensures watched { WatchesOutput output.now (writer_trace K.written K.faults self.old) (writer_trace K.written K.faults self.new) }
     {
         match output {
             Output::Datagram { link, to, bytes } => {
@@ -87,7 +93,8 @@ impl<K: Sink + Drop> Writer<K> {
 
     /// A peer opened a stream.
     fn opened(&mut self, stream: u64, from: &Address)
-        ensures { TellsOne (λ line. line ≡ opening_line stream from.now) (sheet (K.written self.old.page.sink) (K.faults self.old.page.sink) self.old.page.left_out) (sheet (K.written self.new.page.sink) (K.faults self.new.page.sink) self.new.page.left_out) }
+        ensures told { TellsOne (λ line. line ≡ opening_line stream from.now) (page_sheet K.written K.faults self.old.page) (page_sheet K.written K.faults self.new.page) }
+        ensures begins { Begins stream (writer_trace K.written K.faults self.old) (writer_trace K.written K.faults self.new) }
     {
         self.begin(stream);
         self.page.opening(stream, from);
@@ -95,7 +102,8 @@ impl<K: Sink + Drop> Writer<K> {
 
     /// A stream is dialled.
     fn dialled(&mut self, what: &str, stream: u64, to: &Locator)
-        ensures { TellsOne (λ line. line ≡ dial_line what.now stream to.now) (sheet (K.written self.old.page.sink) (K.faults self.old.page.sink) self.old.page.left_out) (sheet (K.written self.new.page.sink) (K.faults self.new.page.sink) self.new.page.left_out) }
+        ensures told { TellsOne (λ line. line ≡ dial_line what.now stream to.now) (page_sheet K.written K.faults self.old.page) (page_sheet K.written K.faults self.new.page) }
+        ensures begins { Begins stream (writer_trace K.written K.faults self.old) (writer_trace K.written K.faults self.new) }
     {
         self.begin(stream);
         self.page.dial(what, stream, to);
@@ -103,7 +111,8 @@ impl<K: Sink + Drop> Writer<K> {
 
     /// A stream begins. Where there is no memory to watch it, something is left out.
     fn begin(&mut self, stream: u64)
-        ensures { IsQuiet (sheet (K.written self.old.page.sink) (K.faults self.old.page.sink) self.old.page.left_out) (sheet (K.written self.new.page.sink) (K.faults self.new.page.sink) self.new.page.left_out) }
+        ensures quiet { IsQuiet (page_sheet K.written K.faults self.old.page) (page_sheet K.written K.faults self.new.page) }
+        ensures begins { Begins stream (writer_trace K.written K.faults self.old) (writer_trace K.written K.faults self.new) }
     {
         if self.streams.begin(stream) {
             return;
@@ -112,18 +121,16 @@ impl<K: Sink + Drop> Writer<K> {
     }
 
     /// A piece of a stream, of which each message that is whole now is told, with this word for what became of it.
-    fn piece(&mut self, what: &str, stream: u64, received: bool, piece: &[u8]) {
-        let Some(wires) = self.streams.get(stream) else {
-            return;
-        };
-        let cutter = if received {
-            &mut wires.received
-        } else {
-            &mut wires.sent
-        };
-        let is_well = self.page.messages(what, stream, cutter, piece);
-        if !is_well {
-            *cutter = None;
+    fn piece(&mut self, what: &str, stream: u64, received: bool, piece: &[u8])
+        ensures told { TellsPiece what.now received stream piece.now (writer_trace K.written K.faults self.old) (writer_trace K.written K.faults self.new) }
+        ensures alone { ChangesAlone received stream (cutters_of self.old.streams) (cutters_of self.new.streams) }
+    {
+        match self.streams.take(stream, received) {
+            Some(cutter) => {
+                let left = self.page.messages(what, stream, cutter, piece);
+                self.streams.put(stream, received, left);
+            }
+            None => {}
         }
     }
 }
