@@ -1,5 +1,5 @@
 -- Lines that are told, or left out.
-use Rattle.std.proofs.Common.{◌≡◌, ◌≤◌, ◌-◌, ◌⊎◌, inl, inr, ℕ, List, ◌++◌, length, take, Option, None, Some, Result, Ok, Err, OnOk, OnErr, IfOk, refl, sym, ap, subst, ◌∙◌, append-nil, arith, rules}
+use Rattle.std.proofs.Common.{◌≡◌, ◌≤◌, ◌-◌, ◌⊎◌, inl, inr, ℕ, List, ◌++◌, length, take, Option, None, Some, Result, Ok, Err, OnErr, IfOk, refl, sym, ap, subst, ◌∙◌, append-nil, arith, rules}
 use Rattle.std.specs.Io.KnownBytes.{Appends, Keeps}
 use Rattle.grasp_cbor.specs.Bytes.{AllBytes}
 use Rattle.grasp_io.specs.Faults.{Rose}
@@ -44,11 +44,6 @@ told_datagram what link neighbour sent bytes r old new all p q l =
     let s = some_line what link neighbour sent all in
     told_one (IsDatagramLine what link neighbour sent) bytes r old new p q l s.0 s.1
 
--- a write ends well, or failed
-pub whole_or_gap : {A E : Type 0} (r : Result A E) (X Y : Type 0) → OnOk r X → OnErr r Y → X ⊎ Y
-whole_or_gap (Ok a) X Y x y = inl x
-whole_or_gap (Err e) X Y x y = inr y
-
 pub keeps_same : (a : Option (List ℕ)) → Keeps a a
 keeps_same None = tt
 keeps_same (Some x) = refl
@@ -60,10 +55,6 @@ is_quiet s = record { kept = keeps_same s.written; never_falls = record { faults
 -- a line that is known was told
 pub known_told : (known : List ℕ) (old new : Sheet) → TellsOne (λ line. line ≡ known) old new → Tells known old new
 known_told known old new t = subst (λ line. Tells line old new) t.is t.tells
-
--- one that is left out says nothing
-pub left_is_quiet : (old new : Sheet) → IsLeftOut old new → IsQuiet old new
-left_is_quiet old new l = record { kept = l.kept; never_falls = l.never_falls }
 
 -- ---- a line behind nothing
 

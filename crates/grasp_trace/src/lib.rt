@@ -8,3 +8,6 @@ mod watched;
 mod writer;
 
 pub use traced::Traced;
+
+#[cfg(test)]
+mod tests;

@@ -16,7 +16,7 @@ use std::alloc::Global;
 #[derive(Drop)]
 pub struct Traced<L: Links + Drop, K: Sink + Drop> {
     links: L,
-    writer: Writer<K>,
+    pub(crate) writer: Writer<K>,
 }
 
 impl<L: Links + Drop, K: Sink + Drop> Traced<L, K> {
