@@ -116,19 +116,37 @@ pub(crate) fn write_head(out: &mut Vec<u8>, major: u8, n: u64) -> Result<(), Out
 {
     let first = major * 32;
     if n < 24 {
-        push(out, first + n as u8)
-    } else if n < 0x100 {
-        append(out, &[first + 24, n as u8])
+        return push(out, first + n as u8);
+    }
+    out.reserve(9)?;
+    if n < 0x100 {
+        out.push_reserved(first + 24);
+        out.push_reserved(n as u8);
     } else if n < 0x1_0000 {
         let [a, b] = (n as u16).to_be_bytes();
-        append(out, &[first + 25, a, b])
+        out.push_reserved(first + 25);
+        out.push_reserved(a);
+        out.push_reserved(b);
     } else if n < 0x1_0000_0000 {
         let [a, b, c, d] = (n as u32).to_be_bytes();
-        append(out, &[first + 26, a, b, c, d])
+        out.push_reserved(first + 26);
+        out.push_reserved(a);
+        out.push_reserved(b);
+        out.push_reserved(c);
+        out.push_reserved(d);
     } else {
         let [a, b, c, d, e, f, g, h] = n.to_be_bytes();
-        append(out, &[first + 27, a, b, c, d, e, f, g, h])
+        out.push_reserved(first + 27);
+        out.push_reserved(a);
+        out.push_reserved(b);
+        out.push_reserved(c);
+        out.push_reserved(d);
+        out.push_reserved(e);
+        out.push_reserved(f);
+        out.push_reserved(g);
+        out.push_reserved(h);
     }
+    Ok(())
 }
 
 fn write_simple(out: &mut Vec<u8>, number: u8) -> Result<(), OutOfMemory>

@@ -1,5 +1,9 @@
 // `pack`: the messages of lines.
-ghost use Rattle.std.specs.Prelude.{◌≤◌, IfOk, IfErr, OnErr, IsErrOf};
+ghost use Rattle.std.specs.Prelude.{◌≡◌, ◌<◌, ◌≤◌, ◌++◌, ◌↔◌, length, Err, IfOk, IfErr, OnOk, OnErr, IsErrOf};
+ghost use Rattle.grasp_cbor.specs.Shortest.{shortest};
+ghost use Rattle.grasp_types.specs.Message.{item_of};
+ghost use Rattle.grasp_wire.specs.Wire.{IsWireForm};
+ghost use Rattle.grasp_wire.specs.declared.fault.EncodeFault.TheVariants.{TooLong};
 ghost use Rattle.grasp_io.specs.Faults.{Rose};
 ghost use Rattle.grasp_tasks.specs.Pack.{PacksLine};
 ghost use Rattle.grasp_tasks.specs.Task.{PackMakes};
@@ -11,6 +15,7 @@ use crate::unfinished::Unfinished;
 use grasp_cbor::OutOfMemory;
 use grasp_io::{Sink, WriteBuffer};
 use grasp_text::{TextFault, message_of};
+use grasp_types::Message;
 use grasp_wire::{EncodeFault, encode};
 use std::alloc::Global;
 
@@ -57,7 +62,7 @@ fn pack_line(
     ensures { IfOk result (λ finding. PacksLine limit text.now line output.old.items output.new.items finding) }
 {
     match message_of(alloc, text) {
-        Ok(message) => match encode(&message, limit, output) {
+        Ok(message) => match pack_message(message, limit, output) {
             Ok(()) => Ok(None),
             Err(EncodeFault::TooLong) => Ok(Some(Finding::TooLong { line })),
             Err(EncodeFault::OutOfMemory) => Err(OutOfMemory),
@@ -65,4 +70,15 @@ fn pack_line(
         Err(TextFault::BadText { at }) => Ok(Some(Finding::BadText { line, at })),
         Err(TextFault::OutOfMemory) => Err(OutOfMemory),
     }
+}
+
+/// Appends the shortest encoding of the message, where it has at most `limit` bytes. After an `Err` the vector is as
+/// before.
+fn pack_message(message: Message, limit: u32, output: &mut Vec<u8>) -> Result<(), EncodeFault>
+    ensures ok { OnOk result (output.new.items ≡ output.old.items ++ shortest (item_of message)) }
+    ensures form { OnOk result (IsWireForm message (shortest (item_of message)) limit) }
+    ensures too_long { (result ≡ Err TooLong) ↔ (limit < length (shortest (item_of message))) }
+    ensures err { OnErr result (output.new.items ≡ output.old.items) }
+{
+    encode(&message, limit, output)
 }

@@ -109,10 +109,10 @@ hex_visible (b ∷ bytes) h =
     let small : b < 256 = h.0 in
     visible_cons (slice_index lower_digits (b / 16)) _ (digit_visible (b / 16) (omega arith)) (visible_cons (slice_index lower_digits (b % 16)) _ (digit_visible (b % 16) (omega arith)) (hex_visible bytes h.1))
 
-v4_visible : (n : ℕ) → Visible (v4_word n)
+pub v4_visible : (n : ℕ) → Visible (v4_word n)
 v4_visible n = hex_visible (to_be_bytes w32 n) (AllBytes-from (to_be_bytes w32 n) (wide32.small n))
 
-v6_visible : (n : ℕ) → Visible (v6_word n)
+pub v6_visible : (n : ℕ) → Visible (v6_word n)
 v6_visible n = hex_visible (to_be_bytes w128 n) (AllBytes-from (to_be_bytes w128 n) (wide128.small n))
 
 escaped_visible_at : (b : ℕ) (p : Bool) → b < 256 → is_plain b ≡ p → Visible (cond p (b ∷ []) (37 ∷ slice_index lower_digits (b / 16) ∷ slice_index lower_digits (b % 16) ∷ []))
@@ -256,7 +256,7 @@ not_blank c e =
     let low : 33 ≤ c = leb-true 33 c q.0 in
     ne_eqb c 32 (λ x. omega arith)
 
-each_other : (w : List ℕ) → all_visible w ≡ true → AllByRecursion (λ c. eqb c 32 ≡ false) w
+pub each_other : (w : List ℕ) → all_visible w ≡ true → AllByRecursion (λ c. eqb c 32 ≡ false) w
 unfolding all_visible
 each_other [] h = tt
 each_other (c ∷ w) h = let p = and_parts (is_visible c) (all_visible w) h in (not_blank c p.0, each_other w p.1)

@@ -1,12 +1,13 @@
 pub mod Blanks
+pub mod DigitTable
 pub mod DigitWords
+pub mod Fronts
 pub mod HexWords
 pub mod Lawful
 pub mod Leaves
 pub mod Lines
 pub mod ListLaws
 pub mod MessageLaws
-pub mod NameLengths
 pub mod NumberWords
 pub mod PartLaws
 pub mod Places

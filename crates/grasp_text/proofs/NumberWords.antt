@@ -6,9 +6,9 @@ use Rattle.std.specs.Str.{bytes_eq, IsUtf8}
 use Rattle.std.specs.Str.Parse.{digits_value, AllDigits}
 use Rattle.std.proofs.lemmas.Bool.{le-leb, leb-true}
 use Rattle.std.proofs.lemmas.Fmt.{decimal_is_IsNumeral, decimal-digits_value, decimal_digit, decimal_injective, IsAscii-decimal, digits_decimal, decimal_nonempty, first_decimal}
-use Rattle.std.proofs.lemmas.Str.Parse.{IsNumeralModel, numerals_by_value, tells_digits, digit_at, digits_value-take-le}
+use Rattle.std.proofs.lemmas.Str.Parse.{IsNumeralModel, numerals_by_value, tells_digits, digit_at, digits_value-take-le, digits_value_short}
 use Rattle.std.proofs.lemmas.Int.Digits.{digits_more, digits_value_more}
-use Rattle.std.proofs.lemmas.List.{take_all}
+use Rattle.std.proofs.lemmas.List.{take_all, length-take}
 use Rattle.std.proofs.lemmas.Str.{IsUtf8-from_ascii}
 use Rattle.std.proofs.lemmas.Slice.Eq.{bytes_eq-Decides}
 use Rattle.grasp_text.specs.Reading.{number_of}
@@ -96,6 +96,10 @@ digit_more ds i v w inside h e a b f =
       digits_more 10 ds i inside h (omega (arith, d, b)),
       f ∙ ap (λ (x : ℕ). x * 10 + (c - 48)) e ∙ ap (λ (x : ℕ). digits_value 10 (take i ds) * 10 + x) (sym d) ∙ sym (digits_value_more 10 ds i inside),
     )
+
+-- fewer than 19 digits, with which one more fits 64 bits
+pub few_digits : (ds : List ℕ) (i v : ℕ) → i < 19 → AllDigits 10 (take i ds) → v ≡ digits_value 10 (take i ds) → v < 10 ^ 18
+few_digits ds i v few h e = let below : digits_value 10 (take i ds) < 10 ^ 18 = digits_value_short own (take i ds) 18 h (omega (arith, length-take i ds)) in omega (arith, e, below)
 
 -- a byte that is no digit, or a digit with which the value is too large
 pub digit_none : (ds : List ℕ) (i v : ℕ) → i < length ds → v ≡ digits_value 10 (take i ds) → (48 ≤ get_or ds i 0 → get_or ds i 0 < 58 → 2 ^ 64 ≤ v * 10 + (get_or ds i 0 - 48)) → (n : ℕ) → n < 2 ^ 64 → ¬ (ds ≡ decimal n)

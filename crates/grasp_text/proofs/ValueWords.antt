@@ -1,5 +1,5 @@
 -- Values as words.
-use Rattle.std.proofs.Common.{◌≡◌, ℕ, ◌≤◌, inl, Bool, true, false, cond, List, [], ◌∷◌, length, Option, Some, None, Result, Ok, Err, refl, sym, ap, subst, ◌∙◌, arith}
+use Rattle.std.proofs.Common.{◌≡◌, ℕ, ◌≤◌, inl, Bool, true, false, cond, List, [], ◌∷◌, Option, Some, None, Result, Ok, Err, refl, sym, ap, subst, ◌∙◌, arith}
 use Rattle.std.specs.Prelude.{IfOk, IfSome, IfNone, option_map}
 use Rattle.std.specs.Str.{bytes_eq}
 use Rattle.std.proofs.lemmas.List.{append-nil}
@@ -102,17 +102,6 @@ whole_only bytes found [] item fits is e = by_test (bytes_eq (shortest found) by
 value_only_at : (bytes : List ℕ) (o : Option (DataItem × List ℕ)) (item : DataItem) → IsBytes bytes → item_at 13 bytes ≡ o → as_value bytes o ≡ Some item → IsValueOf bytes item
 value_only_at bytes None item fits is e = absurd (let z : None ≡ some item = e in cc)
 value_only_at bytes (Some x) item fits is e = whole_only bytes x.0 x.1 item fits is e
-
--- with more behind it, an item is no value
-pub value_none_more : (bytes rest : List ℕ) (item : DataItem) → item_at 13 bytes ≡ Some (item, rest) → ¬ (length rest ≡ 0) → as_value bytes (item_at 13 bytes) ≡ None
-value_none_more bytes [] item e more = absurd (more refl)
-value_none_more bytes (b ∷ rest) item e more = ap (as_value bytes) e
-
--- with nothing behind it, it is one where its shortest encoding is the bytes
-pub value_whole : (bytes rest again : List ℕ) (item : DataItem) (same : Bool) → item_at 13 bytes ≡ Some (item, rest) → length rest ≡ 0 → again ≡ shortest item → bytes_eq again bytes ≡ same → as_value bytes (item_at 13 bytes) ≡ cond same (some item) None
-value_whole bytes (b ∷ rest) again item same e all is t = absurd (omega arith)
-value_whole bytes [] again item same e all is t =
-    ap (as_value bytes) e ∙ ap (λ (b : Bool). cond b (some item) None) (ap (λ (x : List ℕ). bytes_eq x bytes) (sym is) ∙ t)
 
 value_found : (item : DataItem) (word : List ℕ) → IsValueWord item word → value_of word ≡ Some item
 unfolding value_of

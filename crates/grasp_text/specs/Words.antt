@@ -1,6 +1,6 @@
 -- The words of a line: the parts between single blanks.
-use Rattle.std.specs.Prelude.{ℕ, List, [], ◌∷◌, ◌++◌, ◌==◌, Option, Some, None, Bool, true, false}
-use Rattle.std.specs.List.{slice_split, join_with_byte}
+use Rattle.std.specs.Prelude.{◌≡◌, ℕ, List, [], ◌∷◌, ◌++◌, ◌==◌, Option, Some, None, Bool, true, false}
+use Rattle.std.specs.List.{AllByRecursion, slice_split, join_with_byte}
 use Rattle.std.specs.Str.{bytes_eq}
 
 -- the parts of a line between its blanks; an empty part is a word too, so the empty line has one word
@@ -30,3 +30,7 @@ is_over (word ∷ words) = false
 abbrev pub is_next : List ℕ → List (List ℕ) → Bool
 is_next expected [] = false
 is_next expected (word ∷ words) = bytes_eq word expected
+
+-- no blank is among the bytes
+abbrev pub HasNoBlank : List ℕ → Type 0
+HasNoBlank bytes = AllByRecursion (λ b. b == 32 ≡ false) bytes

@@ -32,60 +32,23 @@ pub(crate) enum Host {
     Resource,
 }
 
-/// This name, where the word is its word.
-fn only_name(word: &[u8], expected: &[u8], name: MessageName) -> Option<MessageName>
-    ensures { result ≡ (if bytes_eq word.now expected.now then Some name else None) }
-{
-    if word == expected { Some(name) } else { None }
-}
-
-/// That name of the two whose word the word is.
-fn either_name(
-    word: &[u8],
-    first: &[u8],
-    name: MessageName,
-    second: &[u8],
-    other: MessageName,
-) -> Option<MessageName>
-    ensures { result ≡ (if bytes_eq word.now first.now then Some name else (if bytes_eq word.now second.now then Some other else None)) }
-{
-    if word == first {
-        Some(name)
-    } else {
-        only_name(word, second, other)
-    }
-}
-
 /// The message that a line of this first word is.
+#[tactic(auto, unfolding(crate::specs::Grammar::name_of))]
 pub(crate) fn message_name(word: &[u8]) -> Option<MessageName>
     ensures { result ≡ name_of word.now }
 {
-    match word.len() {
-        3 => only_name(word, b"end", MessageName::End),
-        4 => either_name(word, b"noop", MessageName::Noop, b"wait", MessageName::Wait),
-        5 => either_name(
-            word,
-            b"synch",
-            MessageName::Synch,
-            b"flood",
-            MessageName::Flood,
-        ),
-        7 => only_name(word, b"invalid", MessageName::Invalid),
-        8 => only_name(word, b"response", MessageName::Response),
-        9 => either_name(
-            word,
-            b"discovery",
-            MessageName::Discovery,
-            b"negotiate",
-            MessageName::Negotiate,
-        ),
-        11 => either_name(
-            word,
-            b"request-neg",
-            MessageName::RequestNegotiation,
-            b"request-syn",
-            MessageName::RequestSynchronization,
-        ),
+    match word {
+        b"noop" => Some(MessageName::Noop),
+        b"discovery" => Some(MessageName::Discovery),
+        b"response" => Some(MessageName::Response),
+        b"request-neg" => Some(MessageName::RequestNegotiation),
+        b"request-syn" => Some(MessageName::RequestSynchronization),
+        b"negotiate" => Some(MessageName::Negotiate),
+        b"end" => Some(MessageName::End),
+        b"wait" => Some(MessageName::Wait),
+        b"synch" => Some(MessageName::Synch),
+        b"flood" => Some(MessageName::Flood),
+        b"invalid" => Some(MessageName::Invalid),
         _ => None,
     }
 }

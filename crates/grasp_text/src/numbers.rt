@@ -1,6 +1,6 @@
 //! Decimal numbers as words.
 
-ghost use Rattle.std.specs.Prelude.{◌≡◌, ℕ, ◌<◌, ◌^◌, ◌+◌, ◌-◌, ◌*◌, ◌++◌, ◌∷◌, [], ◌≤◌, IfSome, IfNone, OnOk, OnErr, decimal, string_bytes};
+ghost use Rattle.std.specs.Prelude.{◌≡◌, ℕ, ◌<◌, ◌^◌, ◌+◌, ◌-◌, ◌*◌, ◌++◌, ◌∷◌, [], ◌≤◌, length, take, IfSome, IfNone, OnOk, OnErr, decimal, string_bytes};
 ghost use Rattle.std.specs.Str.Parse.{AllDigits, digits_value};
 ghost use Rattle.grasp_cbor.specs.Extends.{Extends};
 ghost use Rattle.grasp_text.specs.Reading.{number_of};
@@ -8,6 +8,9 @@ ghost use Rattle.grasp_text.specs.Words.{spaced};
 
 use grasp_cbor::OutOfMemory;
 use itoa::Buffer;
+
+/// So many decimal digits surely fit 64 bits.
+const MOST_DIGITS: usize = 19;
 
 /// Below this, one more digit surely fits 64 bits.
 const SURELY_FITS: u64 = u64::MAX / 10;
@@ -43,6 +46,25 @@ fn number_of_digits(word: &[u8]) -> Option<u64>
         return None;
     }
     value_of_digits(word)
+}
+
+/// The value of the decimal digits at the front, of which it reads at most 19, and how many it read.
+pub(crate) fn front_digits(bytes: &[u8]) -> (u64, usize)
+    ensures inside { result.1 ≤ length bytes.now }
+    ensures digits { AllDigits 10 (take result.1 bytes.now) }
+    ensures value { result.0 ≡ digits_value 10 (take result.1 bytes.now) }
+{
+    let mut value = 0;
+    let mut end = 0;
+    while end < bytes.len() && end < MOST_DIGITS {
+        let digit = bytes[end];
+        if digit < b'0' || digit > b'9' {
+            break;
+        }
+        value = value * 10 + u64::from(digit - b'0');
+        end += 1;
+    }
+    (value, end)
 }
 
 /// The value of decimal digits, or `None` where another byte is among them or the value is too large.

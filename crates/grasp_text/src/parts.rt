@@ -17,7 +17,7 @@ use std::alloc::Global;
 pub fn read_objective(alloc: Global, words: &mut Words<'_>) -> Result<Objective, WordFault>
     ensures { Reads (λ o. o) result words.new (objective_at words.old) }
 {
-    words.exactly(b"obj")?;
+    words.objective()?;
     let name = words.text(alloc)?;
     let flags = words.flags()?;
     let loops = words.number(255)? as u8;

@@ -1,6 +1,6 @@
 //! Texts as words: an apostrophe, and the text's bytes with some of them escaped.
 
-ghost use Rattle.std.specs.Prelude.{◌≡◌, true, ◌<◌, List, ℕ, length, ◌++◌, ◌∷◌, [], OnOk, OnErr, IfOk, IfSome, IfNone, option_map, slice_index, string_bytes};
+ghost use Rattle.std.specs.Prelude.{◌≡◌, true, ◌<◌, ◌≤◌, take, List, ℕ, length, ◌++◌, ◌∷◌, [], OnOk, OnErr, IfOk, IfSome, IfNone, option_map, slice_index, string_bytes};
 ghost use Rattle.std.specs.Str.{IsUtf8};
 ghost use Rattle.hex.specs.Hex.{lower_digits};
 ghost use Rattle.grasp_cbor.specs.Extends.{Extends};
@@ -29,6 +29,18 @@ fn stand_for_themselves(bytes: &[u8]) -> bool
         }
     }
     true
+}
+
+/// How many bytes stand for themselves at the front.
+pub(crate) fn front_plain(bytes: &[u8]) -> usize
+    ensures inside { result ≤ length bytes.now }
+    ensures plain { ArePlain (take result bytes.now) }
+{
+    let mut end = 0;
+    while end < bytes.len() && stands_for_itself(bytes[end]) {
+        end += 1;
+    }
+    end
 }
 
 /// The byte of the two digits behind a percent sign, unless it stands for itself.
@@ -84,7 +96,7 @@ fn behind_percent(digits: &[u8]) -> Option<(u8, &[u8])>
 fn unescape(alloc: Global, escaped: &[u8]) -> Result<Option<Vec<u8>>, OutOfMemory>
     ensures { IfOk result (λ o. option_map (λ v. v.items) o ≡ unescaped escaped.now) }
 {
-    let mut bytes = Vec::new(alloc);
+    let mut bytes = Vec::with_capacity(alloc, escaped.len())?;
     let mut rest = escaped;
     while !rest.is_empty() {
         let Some((byte, after)) = first_byte(rest) else {

@@ -20,7 +20,7 @@ use std::alloc::Global;
 /// Room for the encoding of most values.
 const MOST_VALUES: usize = 64;
 
-/// The bytes of lower-case hexadecimal digits, or `None`.
+/// The bytes of lower-case hexadecimal digits, or `None`. Behind them there is room for as many again.
 #[tactic(auto, unfolding(crate::specs::Reading::bytes_of))]
 fn bytes_of_digits(alloc: Global, digits: &[u8]) -> Result<Option<Vec<u8>>, OutOfMemory>
     ensures { IfOk result (λ o. option_map (λ v. v.items) o ≡ bytes_of digits.now) }
@@ -28,7 +28,8 @@ fn bytes_of_digits(alloc: Global, digits: &[u8]) -> Result<Option<Vec<u8>>, OutO
     if digits.len() % 2 != 0 {
         return Ok(None);
     }
-    let mut bytes = vec![in alloc; 0u8; digits.len() / 2]?;
+    let mut bytes = Vec::with_capacity(alloc, digits.len())?;
+    bytes.resize(digits.len() / 2, 0u8)?;
     if read_digits(digits, bytes.as_mut_slice()) {
         Ok(Some(bytes))
     } else {
@@ -45,10 +46,11 @@ fn first_item(alloc: Global, bytes: &[u8]) -> Result<Option<(Item, &[u8])>, OutO
 }
 
 /// The value whose shortest encoding these bytes are, or `None`.
-fn value_of_bytes(alloc: Global, bytes: &[u8]) -> Result<Option<Value>, OutOfMemory>
-    ensures { IfOk result (λ o. o ≡ as_value bytes.now (item_at 13 bytes.now)) }
+fn value_of_bytes(alloc: Global, mut bytes: Vec<u8>) -> Result<Option<Value>, OutOfMemory>
+    ensures { IfOk result (λ o. o ≡ as_value bytes.items (item_at 13 bytes.items)) }
 {
-    let Some((item, rest)) = first_item(alloc, bytes)? else {
+    let len = bytes.len();
+    let Some((item, rest)) = first_item(alloc, &bytes)? else {
         return Ok(None);
     };
     if !rest.is_empty() {
@@ -57,9 +59,9 @@ fn value_of_bytes(alloc: Global, bytes: &[u8]) -> Result<Option<Value>, OutOfMem
     let Ok(value) = Value::of(item) else {
         unreachable!();
     };
-    let mut again = Vec::with_capacity(alloc, bytes.len())?;
-    write_item(value.item(), &mut again)?;
-    if again.as_slice() == bytes {
+    write_item(value.item(), &mut bytes)?;
+    let (read, again) = bytes.split_at(len);
+    if again == read {
         Ok(Some(value))
     } else {
         Ok(None)
@@ -94,7 +96,7 @@ fn read_value(alloc: Global, word: &[u8]) -> Result<Option<Value>, OutOfMemory>
 {
     match behind(b'x', word) {
         Some(digits) => match bytes_of_digits(alloc, digits)? {
-            Some(bytes) => value_of_bytes(alloc, &bytes),
+            Some(bytes) => value_of_bytes(alloc, bytes),
             None => Ok(None),
         },
         None => Ok(None),

@@ -1,21 +1,38 @@
 //! The words of a line, one after another.
 
-ghost use Rattle.std.specs.Prelude.{◌≡◌, ◌∷◌, [], List, ℕ, length, ◌≤◌, IfOk, IfErr, IfSome, IfNone, decimal};
+ghost use Rattle.std.specs.Prelude.{◌≡◌, ◌∷◌, [], List, ℕ, length, take, codes, ◌≤◌, IfOk, IfErr, IfSome, IfNone, decimal, option_map};
+ghost use Rattle.grasp_types.specs.Address.{IsAddress};
 ghost use Rattle.grasp_text.specs.Line.{address_word, text_word, value_word};
 ghost use Rattle.grasp_text.specs.declared.fault.WordFault.TheVariants.{Unfit};
-ghost use Rattle.grasp_text.specs.Reading.{Reads, word_at, end_at, exactly, maybe_of, number_of, address_of, text_of, value_of};
-ghost use Rattle.grasp_text.specs.Words.{words_of, joined, is_over, is_next};
+ghost use Rattle.grasp_text.specs.Reading.{ArePlain, Reads, word_at, end_at, exactly, maybe_of, number_of, address_of, text_of, value_of};
+ghost use Rattle.grasp_text.specs.Words.{words_of, words_left, joined, is_over, is_next, HasNoBlank};
 
 use crate::fault::WordFault;
-use crate::hexes::address;
-use crate::numbers::number;
-use crate::texts::text;
+use crate::hexes::{address, v4_address, v6_address};
+use crate::numbers::{front_digits, number};
+use crate::texts::{behind, front_plain, text};
 use crate::values::value;
 use grasp_cbor::Chars;
 use grasp_types::{Address, Flags, Value};
 use memchr::memchr;
 use std::alloc::Global;
 use std::marker::Model;
+
+/// What stands behind the word that the first `end` bytes are: `Some(None)` where the line ends there. `None` where no
+/// word ends there.
+fn behind_word(rest: &[u8], end: usize) -> Option<Option<&[u8]>>
+    requires inside { end ≤ length rest.now }
+    requires whole { HasNoBlank (take end rest.now) }
+    ensures { IfSome result (λ left. words_of rest.now ≡ take end rest.now ∷ words_left (option_map (λ s. s.now) left)) }
+{
+    if end == rest.len() {
+        Some(None)
+    } else if rest[end] == b' ' {
+        Some(Some(&rest[end + 1..]))
+    } else {
+        None
+    }
+}
 
 /// The words of a line that are left to read.
 #[derive(Drop)]
@@ -120,6 +137,18 @@ impl<'a> Words<'a> {
         ensures value { Reads (λ n. n) result self.new (word_at (number_of most) self.old) }
         ensures within { IfOk result (λ n. n ≤ most) }
     {
+        match self.front_number(most) {
+            Some(n) => Ok(n),
+            None => self.any_number(most),
+        }
+    }
+
+    /// As `number`, read when the word's end was found.
+    fn any_number(&mut self, most: u64) -> Result<u64, WordFault>
+        ensures found { IfOk result (λ n. self.old ≡ decimal n ∷ self.new) }
+        ensures value { Reads (λ n. n) result self.new (word_at (number_of most) self.old) }
+        ensures within { IfOk result (λ n. n ≤ most) }
+    {
         let (word, unfit) = self.next()?;
         match number(word, most) {
             Some(n) => Ok(n),
@@ -127,13 +156,63 @@ impl<'a> Words<'a> {
         }
     }
 
+    /// Takes a number whose digits are read before the word's end is looked for. Nothing is taken after `None`, which
+    /// says nothing of the next word.
+    fn front_number(&mut self, most: u64) -> Option<u64>
+        ensures found { IfSome result (λ n. self.old ≡ decimal n ∷ self.new) }
+        ensures within { IfSome result (λ n. n ≤ most) }
+        ensures none { IfNone result (self.new ≡ self.old) }
+    {
+        let rest = self.left?;
+        let (n, end) = front_digits(rest);
+        if end == 0 || n > most || (end > 1 && rest[0] == b'0') {
+            return None;
+        }
+        self.left = behind_word(rest, end)?;
+        Some(n)
+    }
+
     /// Takes an address.
     pub fn address(&mut self) -> Result<Address, WordFault>
         ensures found { IfOk result (λ a. self.old ≡ address_word a ∷ self.new) }
         ensures value { Reads (λ a. a) result self.new (word_at address_of self.old) }
     {
+        match self.front_address() {
+            Some(address) => Ok(address),
+            None => self.any_address(),
+        }
+    }
+
+    /// As `address`, read when the word's end was found.
+    fn any_address(&mut self) -> Result<Address, WordFault>
+        ensures found { IfOk result (λ a. self.old ≡ address_word a ∷ self.new) }
+        ensures value { Reads (λ a. a) result self.new (word_at address_of self.old) }
+    {
         let (word, unfit) = self.next()?;
         address(word).ok_or(unfit)
+    }
+
+    /// Takes an address whose digits are read before the word's end is looked for. Nothing is taken after `None`, which
+    /// says nothing of the next word.
+    fn front_address(&mut self) -> Option<Address>
+        ensures found { IfSome result (λ a. self.old ≡ address_word a ∷ self.new) }
+        ensures valid { IfSome result IsAddress }
+        ensures none { IfNone result (self.new ≡ self.old) }
+    {
+        let rest = self.left?;
+        if rest.len() >= 32 {
+            if let Some(n) = v6_address(&rest[..32]) {
+                self.left = behind_word(rest, 32)?;
+                return Some(Address::V6(n));
+            }
+        }
+        if rest.len() >= 8 {
+            if let Some(n) = v4_address(&rest[..8]) {
+                self.left = behind_word(rest, 8)?;
+                return Some(Address::V4(n));
+            }
+        }
+        None
     }
 
     /// Takes this very word.
@@ -167,8 +246,47 @@ impl<'a> Words<'a> {
         ensures found { IfOk result (λ t. self.old ≡ text_word t ∷ self.new) }
         ensures value { Reads (λ t. t) result self.new (word_at text_of self.old) }
     {
+        let Some(plain) = self.front_text() else {
+            return self.any_text(alloc);
+        };
+        match Chars::of_bytes(alloc, plain)? {
+            Some(text) => Ok(text),
+            None => unreachable!(),
+        }
+    }
+
+    /// As `text`, read when the word's end was found.
+    fn any_text(&mut self, alloc: Global) -> Result<Chars, WordFault>
+        ensures found { IfOk result (λ t. self.old ≡ text_word t ∷ self.new) }
+        ensures value { Reads (λ t. t) result self.new (word_at text_of self.old) }
+    {
         let (word, unfit) = self.next()?;
         text(alloc, word)?.ok_or(unfit)
+    }
+
+    /// Takes a text's word in which every byte stands for itself, and gives these bytes. Nothing is taken after `None`,
+    /// which says nothing of the next word.
+    fn front_text(&mut self) -> Option<&'a [u8]>
+        ensures word { IfSome result (λ t. self.old ≡ (39 ∷ t.now) ∷ self.new) }
+        ensures plain { IfSome result (λ t. ArePlain t.now) }
+        ensures none { IfNone result (self.new ≡ self.old) }
+    {
+        let rest = self.left?;
+        let text = behind(b'\'', rest)?;
+        let end = front_plain(text);
+        self.left = behind_word(rest, end + 1)?;
+        Some(&text[..end])
+    }
+
+    /// Takes the first word of an objective.
+    pub(crate) fn objective(&mut self) -> Result<(), WordFault>
+        ensures { Reads (λ u. u) result self.new (word_at (exactly (codes "obj")) self.old) }
+    {
+        if let Some([b'o', b'b', b'j', b' ', rest @ ..]) = self.left {
+            self.left = Some(rest);
+            return Ok(());
+        }
+        self.exactly(b"obj")
     }
 
     /// Takes a value.

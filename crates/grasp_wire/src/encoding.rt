@@ -76,16 +76,17 @@ pub fn encode(message: &Message, limit: u32, out: &mut Vec<u8>) -> Result<(), En
     ensures too_long { (result ≡ Err TooLong) ↔ (limit < length (shortest (item_of message.now))) }
     ensures err { OnErr result (out.new.items ≡ out.old.items) }
 {
-    if !fits(message, limit) {
-        return Err(EncodeFault::TooLong);
-    }
     let len = out.len();
-    match put_message(message, out) {
-        Ok(()) => Ok(()),
-        Err(_) => {
-            out.truncate(len);
-            Err(EncodeFault::OutOfMemory)
+    if let Ok(()) = put_message(message, out) {
+        if (out.len() - len) as u64 <= u64::from(limit) {
+            return Ok(());
         }
+    }
+    out.truncate(len);
+    if fits(message, limit) {
+        Err(EncodeFault::OutOfMemory)
+    } else {
+        Err(EncodeFault::TooLong)
     }
 }
 
