@@ -21,6 +21,9 @@ const PIECES: [&[u8]; 3] = [
 /// What is sent: a message.
 const NOOP: &[u8] = &[0x81, 0x00];
 
+/// The sends that fail: those of the four outputs when they go once more.
+const FAILING: &[u64] = &[5, 6, 7, 8];
+
 /// The lines of all this.
 const LINES: &str = "\
 received datagram 1 2 wait 1 5000
@@ -34,6 +37,10 @@ sent datagram 3 4 noop
 sent dial 0 v4 7f000001 tcp 7017
 sent message 0 noop
 sent closing 0
+lost datagram 3 4 noop
+failed dial 0 v4 7f000001 tcp 7017
+failed message 0 noop
+failed closing 0
 ";
 
 /// An input that comes as soon as those before it were given.
@@ -87,13 +94,15 @@ fn outputs(alloc: Global) -> Result<Vec<Output>, OutOfMemory> {
 fn each_line_is_written(rt: HostRuntime) -> Result<(), Fail> {
     let arrivals = arrivals(rt.alloc())?;
     let outputs = outputs(rt.alloc())?;
-    let links = MemLinks::new(rt.alloc(), &arrivals);
+    let links = MemLinks::new(rt.alloc(), &arrivals).failing_at(FAILING);
     let mut traced = Traced::new(rt.alloc(), links, MemSink::new(rt.alloc()));
     for _ in 0..arrivals.len() {
         let _asked = traced.ask(0);
     }
-    for output in &outputs {
-        let _sent = traced.send(output);
+    for _ in 0..2 {
+        for output in &outputs {
+            let _sent = traced.send(output);
+        }
     }
     let written = from_utf8(traced.writer.page.sink.written());
     assert_eq!(rt; written, Ok(LINES));
