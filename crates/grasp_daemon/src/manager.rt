@@ -1,6 +1,6 @@
 //! The agent that manages a node's prefixes, with what it is to want.
 
-ghost use Rattle.std.specs.Prelude.{◌≡◌, ◌-◌, IfOk, OnOk, slice_set};
+ghost use Rattle.std.specs.Prelude.{◌≡◌, ◌-◌, IfOk, OnOk, OnErr, slice_set};
 ghost use Rattle.grasp_agent.specs.Calls.{next_call};
 ghost use Rattle.grasp_agent.specs.States.{AgentState};
 ghost use Rattle.grasp_pool.specs.Functions.{pool_of};
@@ -58,10 +58,11 @@ impl Manager {
         })
     }
 
-    /// Gives the agent its next want, where it takes one. After an `Err` it may have it or not.
+    /// Gives the agent its next want, where it takes one. After an `Err` it is as before.
     #[tactic(auto, unfolding(crate::specs::Manager::ready_manager))]
     pub fn ready(&mut self) -> Result<(), OutOfMemory>
-        ensures { OnOk result (self.new ≡ ready_manager self.old) }
+        ensures ready { OnOk result (self.new ≡ ready_manager self.old) }
+        ensures stays { OnErr result (self.new ≡ self.old) }
     {
         let Some(want) = self.wants.at(self.taken) else {
             return Ok(());

@@ -1,6 +1,6 @@
 //! The agents of a node.
 
-ghost use Rattle.std.specs.Prelude.{◌≡◌, IfOk, OnOk};
+ghost use Rattle.std.specs.Prelude.{◌≡◌, IfOk, OnOk, OnErr};
 ghost use Rattle.grasp_daemon.specs.Workers.{ready_worker, call_of, answered};
 
 use crate::manager::Manager;
@@ -21,9 +21,11 @@ pub enum Worker {
 }
 
 impl Worker {
-    /// Makes the agent ready for its turn: one that manages prefixes is given a want, where it takes one.
+    /// Makes the agent ready for its turn: one that manages prefixes is given a want, where it takes one. After an `Err` it
+    /// is as before.
     pub fn ready(&mut self) -> Result<(), OutOfMemory>
-        ensures { OnOk result (self.new ≡ ready_worker self.old) }
+        ensures ready { OnOk result (self.new ≡ ready_worker self.old) }
+        ensures stays { OnErr result (self.new ≡ self.old) }
     {
         match self {
             Worker::Manager(manager) => manager.ready(),

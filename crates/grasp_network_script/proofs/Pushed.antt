@@ -8,10 +8,10 @@ use Rattle.grasp_types.specs.Prefix.{AddressBlock}
 use Rattle.grasp_types.specs.declared.flood.FloodRead.{FloodRead}
 use Rattle.grasp_text.specs.Line.{prefix_word}
 use Rattle.grasp_text.specs.Words.{joined, spaced}
-use Rattle.grasp_text.proofs.Pushed.{one_pushed, some_pushed, joined_spaced}
+use Rattle.grasp_text.proofs.Pushed.{one_pushed, some_pushed, extends_words, extends_later, joined_spaced}
 use Rattle.grasp_network_script.specs.Answers.{flood_read_words, all_flood_read_words, prefix_words}
 
-pub ruleset pushes = (one_pushed, some_pushed)
+pub ruleset pushes = (one_pushed, some_pushed, extends_words, extends_later)
 
 -- ---- without the first blank
 

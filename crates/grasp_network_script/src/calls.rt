@@ -1,6 +1,7 @@
 //! Writing the calls of agents.
 
-ghost use Rattle.std.specs.Prelude.{◌≡◌, ◌++◌, ◌∷◌, [], OnOk, Bool, codes, decimal, string_bytes};
+ghost use Rattle.std.specs.Prelude.{◌≡◌, ◌++◌, ◌∷◌, [], OnOk, OnErr, Bool, codes, decimal, string_bytes};
+ghost use Rattle.grasp_cbor.specs.Extends.{Extends};
 ghost use Rattle.grasp_types.specs.declared.call.Call.TheVariants.{Discover, RequestNegotiate, Synchronize, Flood, EndNegotiate};
 ghost use Rattle.grasp_text.specs.Line.{or_dash, text_word, value_word};
 ghost use Rattle.grasp_text.specs.Words.{spaced};
@@ -17,7 +18,8 @@ use std::alloc::Global;
 /// A session is named by its number, and a node by its number. Where a peer or an initiator is no node of a network that
 /// a script can describe, `-` stands in its place.
 pub fn push_call(alloc: Global, out: &mut String, call: &Call) -> Result<(), OutOfMemory>
-    ensures { OnOk result (string_bytes out.new ≡ string_bytes out.old ++ spaced (call_words call.now)) }
+    ensures text { OnOk result (string_bytes out.new ≡ string_bytes out.old ++ spaced (call_words call.now)) }
+    ensures err { OnErr result (Extends (string_bytes out.old) (string_bytes out.new)) }
 {
     match call {
         Call::RegisterAsa { name } => push_named(out, "asa", name),
@@ -72,7 +74,8 @@ pub fn push_call(alloc: Global, out: &mut String, call: &Call) -> Result<(), Out
 /// Appends a word and a name, each behind a blank.
 #[tactic(auto, using(crate::proofs::Pushed::pushes))]
 fn push_named(out: &mut String, word: &str, name: &Chars) -> Result<(), OutOfMemory>
-    ensures { OnOk result (string_bytes out.new ≡ string_bytes out.old ++ spaced (word.now ∷ text_word name.now ∷ [])) }
+    ensures text { OnOk result (string_bytes out.new ≡ string_bytes out.old ++ spaced (word.now ∷ text_word name.now ∷ [])) }
+    ensures err { OnErr result (Extends (string_bytes out.old) (string_bytes out.new)) }
 {
     push_word(out, word)?;
     push_text(out, name)
@@ -81,7 +84,8 @@ fn push_named(out: &mut String, word: &str, name: &Chars) -> Result<(), OutOfMem
 /// Appends a word, a name and a number, each behind a blank.
 #[tactic(auto, using(crate::proofs::Pushed::pushes))]
 fn push_counted(out: &mut String, word: &str, name: &Chars, n: u64) -> Result<(), OutOfMemory>
-    ensures { OnOk result (string_bytes out.new ≡ string_bytes out.old ++ spaced (word.now ∷ text_word name.now ∷ decimal n ∷ [])) }
+    ensures text { OnOk result (string_bytes out.new ≡ string_bytes out.old ++ spaced (word.now ∷ text_word name.now ∷ decimal n ∷ [])) }
+    ensures err { OnErr result (Extends (string_bytes out.old) (string_bytes out.new)) }
 {
     push_named(out, word, name)?;
     push_number(out, n)
@@ -96,7 +100,8 @@ fn push_valued(
     name: &Chars,
     value: &Value,
 ) -> Result<(), OutOfMemory>
-    ensures { OnOk result (string_bytes out.new ≡ string_bytes out.old ++ spaced (word.now ∷ text_word name.now ∷ value_word value.now ∷ [])) }
+    ensures text { OnOk result (string_bytes out.new ≡ string_bytes out.old ++ spaced (word.now ∷ text_word name.now ∷ value_word value.now ∷ [])) }
+    ensures err { OnErr result (Extends (string_bytes out.old) (string_bytes out.new)) }
 {
     push_named(out, word, name)?;
     push_value(alloc, out, value)
@@ -105,7 +110,8 @@ fn push_valued(
 /// Appends a word and the number of a session, each behind a blank.
 #[tactic(auto, using(crate::proofs::Pushed::pushes))]
 fn push_session(out: &mut String, word: &str, handle: Handle) -> Result<(), OutOfMemory>
-    ensures { OnOk result (string_bytes out.new ≡ string_bytes out.old ++ spaced (word.now ∷ decimal handle.number ∷ [])) }
+    ensures text { OnOk result (string_bytes out.new ≡ string_bytes out.old ++ spaced (word.now ∷ decimal handle.number ∷ [])) }
+    ensures err { OnErr result (Extends (string_bytes out.old) (string_bytes out.new)) }
 {
     push_word(out, word)?;
     push_number(out, handle.number)
@@ -113,7 +119,8 @@ fn push_session(out: &mut String, word: &str, handle: Handle) -> Result<(), OutO
 
 /// Appends a blank and what an objective is searched for.
 fn push_kind(out: &mut String, kind: Kind) -> Result<(), OutOfMemory>
-    ensures { OnOk result (string_bytes out.new ≡ string_bytes out.old ++ spaced (kind_word kind ∷ [])) }
+    ensures text { OnOk result (string_bytes out.new ≡ string_bytes out.old ++ spaced (kind_word kind ∷ [])) }
+    ensures err { OnErr result (Extends (string_bytes out.old) (string_bytes out.new)) }
 {
     match kind {
         Kind::Negotiation => push_word(out, "neg"),
@@ -123,7 +130,8 @@ fn push_kind(out: &mut String, kind: Kind) -> Result<(), OutOfMemory>
 
 /// Appends a blank and whether a request is a dry run.
 fn push_dry(out: &mut String, dry: bool) -> Result<(), OutOfMemory>
-    ensures { OnOk result (string_bytes out.new ≡ string_bytes out.old ++ spaced (dry_word dry ∷ [])) }
+    ensures text { OnOk result (string_bytes out.new ≡ string_bytes out.old ++ spaced (dry_word dry ∷ [])) }
+    ensures err { OnErr result (Extends (string_bytes out.old) (string_bytes out.new)) }
 {
     if dry {
         push_word(out, "dry")
@@ -135,7 +143,8 @@ fn push_dry(out: &mut String, dry: bool) -> Result<(), OutOfMemory>
 /// Appends a loop count and a number of milliseconds, each behind a blank.
 #[tactic(auto, using(crate::proofs::Pushed::pushes))]
 fn push_limits(out: &mut String, loops: u8, timeout: u32) -> Result<(), OutOfMemory>
-    ensures { OnOk result (string_bytes out.new ≡ string_bytes out.old ++ spaced (decimal loops ∷ decimal timeout ∷ [])) }
+    ensures text { OnOk result (string_bytes out.new ≡ string_bytes out.old ++ spaced (decimal loops ∷ decimal timeout ∷ [])) }
+    ensures err { OnErr result (Extends (string_bytes out.old) (string_bytes out.new)) }
 {
     push_number(out, u64::from(loops))?;
     push_number(out, u64::from(timeout))
@@ -150,7 +159,8 @@ fn push_limited(
     loops: u8,
     timeout: u32,
 ) -> Result<(), OutOfMemory>
-    ensures { OnOk result (string_bytes out.new ≡ string_bytes out.old ++ spaced (word.now ∷ text_word name.now ∷ decimal loops ∷ decimal timeout ∷ [])) }
+    ensures text { OnOk result (string_bytes out.new ≡ string_bytes out.old ++ spaced (word.now ∷ text_word name.now ∷ decimal loops ∷ decimal timeout ∷ [])) }
+    ensures err { OnErr result (Extends (string_bytes out.old) (string_bytes out.new)) }
 {
     push_named(out, word, name)?;
     push_limits(out, loops, timeout)
@@ -164,7 +174,8 @@ fn push_discover(
     loops: u8,
     timeout: u32,
 ) -> Result<(), OutOfMemory>
-    ensures { OnOk result (string_bytes out.new ≡ string_bytes out.old ++ spaced (call_words (Discover name.now kind loops timeout))) }
+    ensures text { OnOk result (string_bytes out.new ≡ string_bytes out.old ++ spaced (call_words (Discover name.now kind loops timeout))) }
+    ensures err { OnErr result (Extends (string_bytes out.old) (string_bytes out.new)) }
 {
     push_named(out, "discover", name)?;
     push_kind(out, kind)?;
@@ -182,7 +193,8 @@ fn push_request(
     dry: bool,
     peer: &Locator,
 ) -> Result<(), OutOfMemory>
-    ensures { OnOk result (string_bytes out.new ≡ string_bytes out.old ++ spaced (call_words (RequestNegotiate name.now value.now loops timeout dry peer.now))) }
+    ensures text { OnOk result (string_bytes out.new ≡ string_bytes out.old ++ spaced (call_words (RequestNegotiate name.now value.now loops timeout dry peer.now))) }
+    ensures err { OnErr result (Extends (string_bytes out.old) (string_bytes out.new)) }
 {
     push_valued(alloc, out, "request", name, value)?;
     push_limits(out, loops, timeout)?;
@@ -197,7 +209,8 @@ fn push_step(
     handle: Handle,
     value: &Value,
 ) -> Result<(), OutOfMemory>
-    ensures { OnOk result (string_bytes out.new ≡ string_bytes out.old ++ spaced (codes "step" ∷ decimal handle.number ∷ value_word value.now ∷ [])) }
+    ensures text { OnOk result (string_bytes out.new ≡ string_bytes out.old ++ spaced (codes "step" ∷ decimal handle.number ∷ value_word value.now ∷ [])) }
+    ensures err { OnErr result (Extends (string_bytes out.old) (string_bytes out.new)) }
 {
     push_session(out, "step", handle)?;
     push_value(alloc, out, value)
@@ -205,7 +218,8 @@ fn push_step(
 
 #[tactic(auto, using(crate::proofs::Pushed::pushes))]
 fn push_wait(out: &mut String, handle: Handle, millis: u32) -> Result<(), OutOfMemory>
-    ensures { OnOk result (string_bytes out.new ≡ string_bytes out.old ++ spaced (codes "wait" ∷ decimal handle.number ∷ decimal millis ∷ [])) }
+    ensures text { OnOk result (string_bytes out.new ≡ string_bytes out.old ++ spaced (codes "wait" ∷ decimal handle.number ∷ decimal millis ∷ [])) }
+    ensures err { OnErr result (Extends (string_bytes out.old) (string_bytes out.new)) }
 {
     push_session(out, "wait", handle)?;
     push_number(out, u64::from(millis))
@@ -213,7 +227,8 @@ fn push_wait(out: &mut String, handle: Handle, millis: u32) -> Result<(), OutOfM
 
 #[tactic(auto, using(crate::proofs::Pushed::pushes))]
 fn push_end(out: &mut String, handle: Handle, verdict: &Verdict) -> Result<(), OutOfMemory>
-    ensures { OnOk result (string_bytes out.new ≡ string_bytes out.old ++ spaced (call_words (EndNegotiate handle verdict.now))) }
+    ensures text { OnOk result (string_bytes out.new ≡ string_bytes out.old ++ spaced (call_words (EndNegotiate handle verdict.now))) }
+    ensures err { OnErr result (Extends (string_bytes out.old) (string_bytes out.new)) }
 {
     match verdict {
         Verdict::Accept => push_session(out, "accept", handle),
@@ -232,7 +247,8 @@ fn push_invalid(
     handle: Handle,
     detail: &Option<Value>,
 ) -> Result<(), OutOfMemory>
-    ensures { OnOk result (string_bytes out.new ≡ string_bytes out.old ++ spaced (codes "invalid" ∷ decimal handle.number ∷ or_dash value_word detail.now ∷ [])) }
+    ensures text { OnOk result (string_bytes out.new ≡ string_bytes out.old ++ spaced (codes "invalid" ∷ decimal handle.number ∷ or_dash value_word detail.now ∷ [])) }
+    ensures err { OnErr result (Extends (string_bytes out.old) (string_bytes out.new)) }
 {
     push_session(out, "invalid", handle)?;
     push_optional_value(alloc, out, detail)
@@ -246,7 +262,8 @@ fn push_synchronize(
     timeout: u32,
     peer: &Locator,
 ) -> Result<(), OutOfMemory>
-    ensures { OnOk result (string_bytes out.new ≡ string_bytes out.old ++ spaced (call_words (Synchronize name.now loops timeout peer.now))) }
+    ensures text { OnOk result (string_bytes out.new ≡ string_bytes out.old ++ spaced (call_words (Synchronize name.now loops timeout peer.now))) }
+    ensures err { OnErr result (Extends (string_bytes out.old) (string_bytes out.new)) }
 {
     push_limited(out, "synchronize", name, loops, timeout)?;
     push_peer(out, peer)
@@ -261,7 +278,8 @@ fn push_flood(
     ttl: u32,
     loops: u8,
 ) -> Result<(), OutOfMemory>
-    ensures { OnOk result (string_bytes out.new ≡ string_bytes out.old ++ spaced (call_words (Flood name.now value.now ttl loops))) }
+    ensures text { OnOk result (string_bytes out.new ≡ string_bytes out.old ++ spaced (call_words (Flood name.now value.now ttl loops))) }
+    ensures err { OnErr result (Extends (string_bytes out.old) (string_bytes out.new)) }
 {
     push_valued(alloc, out, "flood", name, value)?;
     push_number(out, u64::from(ttl))?;

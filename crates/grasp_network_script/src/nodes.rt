@@ -1,6 +1,7 @@
 //! Writing nodes by their numbers.
 
-ghost use Rattle.std.specs.Prelude.{◌≡◌, ◌++◌, ◌∷◌, [], OnOk, string_bytes};
+ghost use Rattle.std.specs.Prelude.{◌≡◌, ◌++◌, ◌∷◌, [], OnOk, OnErr, string_bytes};
+ghost use Rattle.grasp_cbor.specs.Extends.{Extends};
 ghost use Rattle.grasp_text.specs.Words.{spaced};
 ghost use Rattle.grasp_network_script.specs.Calls.{node_word, peer_word, initiator_word, at_port};
 
@@ -19,7 +20,8 @@ const PORT: u16 = 7017;
 
 /// Appends a blank, and the number of the node that has this address, or `-`.
 fn push_node(out: &mut String, address: u128) -> Result<(), OutOfMemory>
-    ensures { OnOk result (string_bytes out.new ≡ string_bytes out.old ++ spaced (node_word address ∷ [])) }
+    ensures text { OnOk result (string_bytes out.new ≡ string_bytes out.old ++ spaced (node_word address ∷ [])) }
+    ensures err { OnErr result (Extends (string_bytes out.old) (string_bytes out.new)) }
 {
     if BEFORE_NODES < address && address <= LAST_NODE {
         push_number(out, (address - BEFORE_NODES) as u64)
@@ -30,7 +32,8 @@ fn push_node(out: &mut String, address: u128) -> Result<(), OutOfMemory>
 
 /// Appends a blank, and the number of the node that listens at this address and port, or `-`.
 fn push_at_port(out: &mut String, address: u128, port: u16) -> Result<(), OutOfMemory>
-    ensures { OnOk result (string_bytes out.new ≡ string_bytes out.old ++ spaced (at_port address port ∷ [])) }
+    ensures text { OnOk result (string_bytes out.new ≡ string_bytes out.old ++ spaced (at_port address port ∷ [])) }
+    ensures err { OnErr result (Extends (string_bytes out.old) (string_bytes out.new)) }
 {
     if port == PORT {
         push_node(out, address)
@@ -41,7 +44,8 @@ fn push_at_port(out: &mut String, address: u128, port: u16) -> Result<(), OutOfM
 
 /// Appends a blank, and the number of the node that listens at this locator, or `-`.
 pub(crate) fn push_peer(out: &mut String, peer: &Locator) -> Result<(), OutOfMemory>
-    ensures { OnOk result (string_bytes out.new ≡ string_bytes out.old ++ spaced (peer_word peer.now ∷ [])) }
+    ensures text { OnOk result (string_bytes out.new ≡ string_bytes out.old ++ spaced (peer_word peer.now ∷ [])) }
+    ensures err { OnErr result (Extends (string_bytes out.old) (string_bytes out.new)) }
 {
     match peer {
         Locator::V6 {
@@ -62,7 +66,8 @@ pub(crate) fn push_peer(out: &mut String, peer: &Locator) -> Result<(), OutOfMem
 
 /// Appends a blank, and the number of the node that has this address, or `-`.
 pub(crate) fn push_initiator(out: &mut String, initiator: Address) -> Result<(), OutOfMemory>
-    ensures { OnOk result (string_bytes out.new ≡ string_bytes out.old ++ spaced (initiator_word initiator ∷ [])) }
+    ensures text { OnOk result (string_bytes out.new ≡ string_bytes out.old ++ spaced (initiator_word initiator ∷ [])) }
+    ensures err { OnErr result (Extends (string_bytes out.old) (string_bytes out.new)) }
 {
     match initiator {
         Address::V4(_) => push_word(out, "-"),

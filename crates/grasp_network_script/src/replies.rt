@@ -1,6 +1,7 @@
 //! Writing the replies of a node.
 
-ghost use Rattle.std.specs.Prelude.{◌≡◌, ◌++◌, ◌∷◌, [], OnOk, codes, decimal, string_bytes};
+ghost use Rattle.std.specs.Prelude.{◌≡◌, ◌++◌, ◌∷◌, [], OnOk, OnErr, codes, decimal, string_bytes};
+ghost use Rattle.grasp_cbor.specs.Extends.{Extends};
 ghost use Rattle.grasp_types.specs.declared.reply.ApiAnswer.TheVariants as answer;
 ghost use Rattle.grasp_types.specs.declared.reply.Reply.TheVariants as reply;
 ghost use Rattle.grasp_text.specs.Line.{objective_words, all_locator_words};
@@ -20,7 +21,8 @@ use std::alloc::Global;
 
 /// Appends a blank, and whose doing it was.
 fn push_by(out: &mut String, by: By) -> Result<(), OutOfMemory>
-    ensures { OnOk result (string_bytes out.new ≡ string_bytes out.old ++ spaced (by_word by ∷ [])) }
+    ensures text { OnOk result (string_bytes out.new ≡ string_bytes out.old ++ spaced (by_word by ∷ [])) }
+    ensures err { OnErr result (Extends (string_bytes out.old) (string_bytes out.new)) }
 {
     match by {
         By::Mine => push_word(out, "mine"),
@@ -36,7 +38,8 @@ fn push_told(
     word: &str,
     objective: &Objective,
 ) -> Result<(), OutOfMemory>
-    ensures { OnOk result (string_bytes out.new ≡ string_bytes out.old ++ spaced (word.now ∷ objective_words objective.now)) }
+    ensures text { OnOk result (string_bytes out.new ≡ string_bytes out.old ++ spaced (word.now ∷ objective_words objective.now)) }
+    ensures err { OnErr result (Extends (string_bytes out.old) (string_bytes out.new)) }
 {
     push_word(out, word)?;
     push_objective(alloc, out, objective)
@@ -45,7 +48,8 @@ fn push_told(
 /// Appends a word and a number, each behind a blank.
 #[tactic(auto, using(crate::proofs::Pushed::pushes))]
 pub(crate) fn push_count(out: &mut String, word: &str, n: u64) -> Result<(), OutOfMemory>
-    ensures { OnOk result (string_bytes out.new ≡ string_bytes out.old ++ spaced (word.now ∷ decimal n ∷ [])) }
+    ensures text { OnOk result (string_bytes out.new ≡ string_bytes out.old ++ spaced (word.now ∷ decimal n ∷ [])) }
+    ensures err { OnErr result (Extends (string_bytes out.old) (string_bytes out.new)) }
 {
     push_word(out, word)?;
     push_number(out, n)
@@ -54,7 +58,8 @@ pub(crate) fn push_count(out: &mut String, word: &str, n: u64) -> Result<(), Out
 /// Appends how a session ended, each word behind a blank.
 #[tactic(auto, using(crate::proofs::Pushed::pushes))]
 fn push_outcome(alloc: Global, out: &mut String, outcome: &Outcome) -> Result<(), OutOfMemory>
-    ensures { OnOk result (string_bytes out.new ≡ string_bytes out.old ++ spaced (outcome_words outcome.now)) }
+    ensures text { OnOk result (string_bytes out.new ≡ string_bytes out.old ++ spaced (outcome_words outcome.now)) }
+    ensures err { OnErr result (Extends (string_bytes out.old) (string_bytes out.new)) }
 {
     match outcome {
         Outcome::Agreed { by, objective } => {
@@ -91,7 +96,8 @@ fn push_outcome(alloc: Global, out: &mut String, outcome: &Outcome) -> Result<()
 /// Appends how a session stands, each word behind a blank.
 #[tactic(auto, using(crate::proofs::Pushed::pushes))]
 fn push_progress(alloc: Global, out: &mut String, progress: &Progress) -> Result<(), OutOfMemory>
-    ensures { OnOk result (string_bytes out.new ≡ string_bytes out.old ++ spaced (progress_words progress.now)) }
+    ensures text { OnOk result (string_bytes out.new ≡ string_bytes out.old ++ spaced (progress_words progress.now)) }
+    ensures err { OnErr result (Extends (string_bytes out.old) (string_bytes out.new)) }
 {
     match progress {
         Progress::NotYet => push_word(out, "notyet"),
@@ -106,7 +112,8 @@ fn push_progress(alloc: Global, out: &mut String, progress: &Progress) -> Result
 /// Appends a refusal's words, each behind a blank.
 #[tactic(auto, using(crate::proofs::Pushed::pushes))]
 fn push_refusal(out: &mut String, refusal: ApiRefused) -> Result<(), OutOfMemory>
-    ensures { OnOk result (string_bytes out.new ≡ string_bytes out.old ++ spaced (reply_words (reply.Refused refusal))) }
+    ensures text { OnOk result (string_bytes out.new ≡ string_bytes out.old ++ spaced (reply_words (reply.Refused refusal))) }
+    ensures err { OnErr result (Extends (string_bytes out.old) (string_bytes out.new)) }
 {
     push_count(out, "refused", u64::from(refusal.number()))?;
     push_word(out, refusal.name())
@@ -114,7 +121,8 @@ fn push_refusal(out: &mut String, refusal: ApiRefused) -> Result<(), OutOfMemory
 
 /// Appends the words of the locators, each behind a blank.
 fn push_locators(alloc: Global, out: &mut String, locators: &Locators) -> Result<(), OutOfMemory>
-    ensures { OnOk result (string_bytes out.new ≡ string_bytes out.old ++ spaced (all_locator_words locators.now)) }
+    ensures text { OnOk result (string_bytes out.new ≡ string_bytes out.old ++ spaced (all_locator_words locators.now)) }
+    ensures err { OnErr result (Extends (string_bytes out.old) (string_bytes out.new)) }
 {
     for i in 0..locators.len() {
         let Some(locator) = locators.at(i) else {
@@ -128,7 +136,8 @@ fn push_locators(alloc: Global, out: &mut String, locators: &Locators) -> Result
 /// Appends what a flood told, each word behind a blank.
 #[tactic(auto, using(crate::proofs::Pushed::pushes))]
 fn push_flood_read(alloc: Global, out: &mut String, read: &FloodRead) -> Result<(), OutOfMemory>
-    ensures { OnOk result (string_bytes out.new ≡ string_bytes out.old ++ spaced (flood_read_words read.now)) }
+    ensures text { OnOk result (string_bytes out.new ≡ string_bytes out.old ++ spaced (flood_read_words read.now)) }
+    ensures err { OnErr result (Extends (string_bytes out.old) (string_bytes out.new)) }
 {
     push_address(alloc, out, read.initiator)?;
     push_objective(alloc, out, &read.objective)?;
@@ -137,7 +146,8 @@ fn push_flood_read(alloc: Global, out: &mut String, read: &FloodRead) -> Result<
 
 /// Appends what floods told, each word behind a blank.
 fn push_flood_reads(alloc: Global, out: &mut String, reads: &FloodReads) -> Result<(), OutOfMemory>
-    ensures { OnOk result (string_bytes out.new ≡ string_bytes out.old ++ spaced (all_flood_read_words reads.now)) }
+    ensures text { OnOk result (string_bytes out.new ≡ string_bytes out.old ++ spaced (all_flood_read_words reads.now)) }
+    ensures err { OnErr result (Extends (string_bytes out.old) (string_bytes out.new)) }
 {
     for i in 0..reads.len() {
         let Some(read) = reads.at(i) else {
@@ -157,7 +167,8 @@ fn push_incoming(
     from: Address,
     objective: &Objective,
 ) -> Result<(), OutOfMemory>
-    ensures { OnOk result (string_bytes out.new ≡ string_bytes out.old ++ spaced (answer_words (answer.Incoming handle from objective.now))) }
+    ensures text { OnOk result (string_bytes out.new ≡ string_bytes out.old ++ spaced (answer_words (answer.Incoming handle from objective.now))) }
+    ensures err { OnErr result (Extends (string_bytes out.old) (string_bytes out.new)) }
 {
     push_count(out, "incoming", handle.number)?;
     push_address(alloc, out, from)?;
@@ -167,7 +178,8 @@ fn push_incoming(
 /// Appends the answer to an agent's call, each word behind a blank.
 #[tactic(auto, using(crate::proofs::Pushed::pushes))]
 fn push_api_answer(alloc: Global, out: &mut String, answer: &ApiAnswer) -> Result<(), OutOfMemory>
-    ensures { OnOk result (string_bytes out.new ≡ string_bytes out.old ++ spaced (answer_words answer.now)) }
+    ensures text { OnOk result (string_bytes out.new ≡ string_bytes out.old ++ spaced (answer_words answer.now)) }
+    ensures err { OnErr result (Extends (string_bytes out.old) (string_bytes out.new)) }
 {
     match answer {
         ApiAnswer::Asa(number) => push_count(out, "asa", u64::from(*number)),
@@ -198,7 +210,8 @@ fn push_api_answer(alloc: Global, out: &mut String, answer: &ApiAnswer) -> Resul
 /// Of outputs it tells how many they are.
 #[tactic(auto, using(crate::proofs::Pushed::pushes))]
 pub fn push_reply(alloc: Global, out: &mut String, reply: &Reply) -> Result<(), OutOfMemory>
-    ensures { OnOk result (string_bytes out.new ≡ string_bytes out.old ++ spaced (reply_words reply.now)) }
+    ensures text { OnOk result (string_bytes out.new ≡ string_bytes out.old ++ spaced (reply_words reply.now)) }
+    ensures err { OnErr result (Extends (string_bytes out.old) (string_bytes out.new)) }
 {
     match reply {
         Reply::Api(answer) => push_api_answer(alloc, out, answer),

@@ -1,6 +1,7 @@
 //! Writing reports.
 
-ghost use Rattle.std.specs.Prelude.{◌≡◌, ◌++◌, ◌∷◌, [], OnOk, IfOk, Result, codes, string_bytes};
+ghost use Rattle.std.specs.Prelude.{◌≡◌, ◌++◌, ◌∷◌, [], OnOk, OnErr, IfOk, Result, codes, string_bytes};
+ghost use Rattle.grasp_cbor.specs.Extends.{Extends};
 ghost use Rattle.grasp_agent.specs.declared.want.WantFault.{WantFault};
 ghost use Rattle.grasp_text.specs.Words.{spaced};
 ghost use Rattle.grasp_network_script.specs.Reports.{want_words, report_words, made_words, told_report};
@@ -26,7 +27,8 @@ pub fn told_report(alloc: Global, line: &Chars, report: &Report) -> Result<Chars
 /// Appends the part of a report behind the event's line.
 #[tactic(auto, using(crate::proofs::Pushed::pushes))]
 fn push_told(alloc: Global, out: &mut String, report: &Report) -> Result<(), OutOfMemory>
-    ensures { OnOk result (string_bytes out.new ≡ string_bytes out.old ++ spaced (made_words report.now ++ codes "=" ∷ report_words report.now)) }
+    ensures text { OnOk result (string_bytes out.new ≡ string_bytes out.old ++ spaced (made_words report.now ++ codes "=" ∷ report_words report.now)) }
+    ensures err { OnErr result (Extends (string_bytes out.old) (string_bytes out.new)) }
 {
     push_made(alloc, out, report)?;
     push_told_answer(alloc, out, report)
@@ -34,7 +36,8 @@ fn push_told(alloc: Global, out: &mut String, report: &Report) -> Result<(), Out
 
 /// Appends the call that a node's agent made, each word behind a blank.
 fn push_made(alloc: Global, out: &mut String, report: &Report) -> Result<(), OutOfMemory>
-    ensures { OnOk result (string_bytes out.new ≡ string_bytes out.old ++ spaced (made_words report.now)) }
+    ensures text { OnOk result (string_bytes out.new ≡ string_bytes out.old ++ spaced (made_words report.now)) }
+    ensures err { OnErr result (Extends (string_bytes out.old) (string_bytes out.new)) }
 {
     match report {
         Report::Agent { call, reply: _ } => push_call(alloc, out, call),
@@ -49,7 +52,8 @@ fn push_made(alloc: Global, out: &mut String, report: &Report) -> Result<(), Out
 /// Appends ` =` and what an event came to, each word behind a blank.
 #[tactic(auto, using(crate::proofs::Pushed::pushes))]
 fn push_told_answer(alloc: Global, out: &mut String, report: &Report) -> Result<(), OutOfMemory>
-    ensures { OnOk result (string_bytes out.new ≡ string_bytes out.old ++ spaced (codes "=" ∷ report_words report.now)) }
+    ensures text { OnOk result (string_bytes out.new ≡ string_bytes out.old ++ spaced (codes "=" ∷ report_words report.now)) }
+    ensures err { OnErr result (Extends (string_bytes out.old) (string_bytes out.new)) }
 {
     push_word(out, "=")?;
     push_answer(alloc, out, report)
@@ -58,7 +62,8 @@ fn push_told_answer(alloc: Global, out: &mut String, report: &Report) -> Result<
 /// Appends whether an agent took a want, each word behind a blank.
 #[tactic(auto, using(crate::proofs::Pushed::pushes))]
 fn push_want(out: &mut String, taken: &Result<(), WantFault>) -> Result<(), OutOfMemory>
-    ensures { OnOk result (string_bytes out.new ≡ string_bytes out.old ++ spaced (want_words taken.now)) }
+    ensures text { OnOk result (string_bytes out.new ≡ string_bytes out.old ++ spaced (want_words taken.now)) }
+    ensures err { OnErr result (Extends (string_bytes out.old) (string_bytes out.new)) }
 {
     match taken {
         Ok(()) => push_word(out, "ok"),
@@ -72,7 +77,8 @@ fn push_want(out: &mut String, taken: &Result<(), WantFault>) -> Result<(), OutO
 
 /// Appends what an event came to, each word behind a blank.
 fn push_answer(alloc: Global, out: &mut String, report: &Report) -> Result<(), OutOfMemory>
-    ensures { OnOk result (string_bytes out.new ≡ string_bytes out.old ++ spaced (report_words report.now)) }
+    ensures text { OnOk result (string_bytes out.new ≡ string_bytes out.old ++ spaced (report_words report.now)) }
+    ensures err { OnErr result (Extends (string_bytes out.old) (string_bytes out.new)) }
 {
     match report {
         Report::Reply(reply) => push_reply(alloc, out, reply),

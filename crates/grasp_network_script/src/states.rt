@@ -1,6 +1,7 @@
 //! Writing the state of a node.
 
-ghost use Rattle.std.specs.Prelude.{◌≡◌, ◌++◌, ◌∷◌, [], OnOk, IfOk, codes, string_bytes};
+ghost use Rattle.std.specs.Prelude.{◌≡◌, ◌++◌, ◌∷◌, [], OnOk, OnErr, IfOk, codes, string_bytes};
+ghost use Rattle.grasp_cbor.specs.Extends.{Extends};
 ghost use Rattle.grasp_text.specs.Words.{spaced};
 ghost use Rattle.grasp_network_script.specs.Answers.{prefix_words};
 ghost use Rattle.grasp_network_script.specs.Reports.{state_words, told_state};
@@ -27,7 +28,8 @@ pub fn told_state(alloc: Global, line: &Chars, agent: &PrefixAgent) -> Result<Ch
 /// Appends the part of the report behind the line.
 #[tactic(auto, using(crate::proofs::Pushed::pushes))]
 fn push_told(alloc: Global, out: &mut String, pool: &Pool) -> Result<(), OutOfMemory>
-    ensures { OnOk result (string_bytes out.new ≡ string_bytes out.old ++ spaced (codes "=" ∷ state_words pool.now)) }
+    ensures text { OnOk result (string_bytes out.new ≡ string_bytes out.old ++ spaced (codes "=" ∷ state_words pool.now)) }
+    ensures err { OnErr result (Extends (string_bytes out.old) (string_bytes out.new)) }
 {
     push_word(out, "=")?;
     push_pool(alloc, out, pool)
@@ -35,7 +37,8 @@ fn push_told(alloc: Global, out: &mut String, pool: &Pool) -> Result<(), OutOfMe
 
 /// Appends the prefixes of a pool, each word behind a blank.
 fn push_pool(alloc: Global, out: &mut String, pool: &Pool) -> Result<(), OutOfMemory>
-    ensures { OnOk result (string_bytes out.new ≡ string_bytes out.old ++ spaced (state_words pool.now)) }
+    ensures text { OnOk result (string_bytes out.new ≡ string_bytes out.old ++ spaced (state_words pool.now)) }
+    ensures err { OnErr result (Extends (string_bytes out.old) (string_bytes out.new)) }
 {
     push_held(alloc, out, pool)?;
     push_kept(alloc, out, pool)?;
@@ -45,7 +48,8 @@ fn push_pool(alloc: Global, out: &mut String, pool: &Pool) -> Result<(), OutOfMe
 /// Appends `held` and the prefixes that are held, each behind a blank.
 #[tactic(auto, using(crate::proofs::Pushed::pushes))]
 fn push_held(alloc: Global, out: &mut String, pool: &Pool) -> Result<(), OutOfMemory>
-    ensures { OnOk result (string_bytes out.new ≡ string_bytes out.old ++ spaced (codes "held" ∷ prefix_words pool.now.free)) }
+    ensures text { OnOk result (string_bytes out.new ≡ string_bytes out.old ++ spaced (codes "held" ∷ prefix_words pool.now.free)) }
+    ensures err { OnErr result (Extends (string_bytes out.old) (string_bytes out.new)) }
 {
     push_word(out, "held")?;
     push_free(alloc, out, pool)
@@ -54,7 +58,8 @@ fn push_held(alloc: Global, out: &mut String, pool: &Pool) -> Result<(), OutOfMe
 /// Appends `reserved` and the prefixes that are reserved, each behind a blank.
 #[tactic(auto, using(crate::proofs::Pushed::pushes))]
 fn push_kept(alloc: Global, out: &mut String, pool: &Pool) -> Result<(), OutOfMemory>
-    ensures { OnOk result (string_bytes out.new ≡ string_bytes out.old ++ spaced (codes "reserved" ∷ prefix_words pool.now.reserved)) }
+    ensures text { OnOk result (string_bytes out.new ≡ string_bytes out.old ++ spaced (codes "reserved" ∷ prefix_words pool.now.reserved)) }
+    ensures err { OnErr result (Extends (string_bytes out.old) (string_bytes out.new)) }
 {
     push_word(out, "reserved")?;
     push_reserved(alloc, out, pool)
@@ -63,7 +68,8 @@ fn push_kept(alloc: Global, out: &mut String, pool: &Pool) -> Result<(), OutOfMe
 /// Appends `doubt` and the prefixes in doubt, each behind a blank.
 #[tactic(auto, using(crate::proofs::Pushed::pushes))]
 fn push_doubt(alloc: Global, out: &mut String, pool: &Pool) -> Result<(), OutOfMemory>
-    ensures { OnOk result (string_bytes out.new ≡ string_bytes out.old ++ spaced (codes "doubt" ∷ prefix_words pool.now.doubtful)) }
+    ensures text { OnOk result (string_bytes out.new ≡ string_bytes out.old ++ spaced (codes "doubt" ∷ prefix_words pool.now.doubtful)) }
+    ensures err { OnErr result (Extends (string_bytes out.old) (string_bytes out.new)) }
 {
     push_word(out, "doubt")?;
     push_doubtful(alloc, out, pool)
@@ -71,7 +77,8 @@ fn push_doubt(alloc: Global, out: &mut String, pool: &Pool) -> Result<(), OutOfM
 
 /// Appends the prefixes that are held, each behind a blank.
 fn push_free(alloc: Global, out: &mut String, pool: &Pool) -> Result<(), OutOfMemory>
-    ensures { OnOk result (string_bytes out.new ≡ string_bytes out.old ++ spaced (prefix_words pool.now.free)) }
+    ensures text { OnOk result (string_bytes out.new ≡ string_bytes out.old ++ spaced (prefix_words pool.now.free)) }
+    ensures err { OnErr result (Extends (string_bytes out.old) (string_bytes out.new)) }
 {
     // What is read of a pool tells that it is one.
     let _room = pool.room();
@@ -86,7 +93,8 @@ fn push_free(alloc: Global, out: &mut String, pool: &Pool) -> Result<(), OutOfMe
 
 /// Appends the prefixes that are reserved, each behind a blank.
 fn push_reserved(alloc: Global, out: &mut String, pool: &Pool) -> Result<(), OutOfMemory>
-    ensures { OnOk result (string_bytes out.new ≡ string_bytes out.old ++ spaced (prefix_words pool.now.reserved)) }
+    ensures text { OnOk result (string_bytes out.new ≡ string_bytes out.old ++ spaced (prefix_words pool.now.reserved)) }
+    ensures err { OnErr result (Extends (string_bytes out.old) (string_bytes out.new)) }
 {
     // What is read of a pool tells that it is one.
     let _room = pool.room();
@@ -101,7 +109,8 @@ fn push_reserved(alloc: Global, out: &mut String, pool: &Pool) -> Result<(), Out
 
 /// Appends the prefixes in doubt, each behind a blank.
 fn push_doubtful(alloc: Global, out: &mut String, pool: &Pool) -> Result<(), OutOfMemory>
-    ensures { OnOk result (string_bytes out.new ≡ string_bytes out.old ++ spaced (prefix_words pool.now.doubtful)) }
+    ensures text { OnOk result (string_bytes out.new ≡ string_bytes out.old ++ spaced (prefix_words pool.now.doubtful)) }
+    ensures err { OnErr result (Extends (string_bytes out.old) (string_bytes out.new)) }
 {
     // What is read of a pool tells that it is one.
     let _room = pool.room();

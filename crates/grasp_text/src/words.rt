@@ -112,6 +112,7 @@ impl<'a> Words<'a> {
         ensures word { IfOk result (λ x. self.old ≡ x.0.now ∷ self.new) }
         ensures unfit { IfOk result (λ x. x.1 ≡ Unfit (length (joined self.old))) }
         ensures missing { IfErr result (λ e. (self.old ≡ []) × (e ≡ Unfit 0)) }
+        ensures stays { IfErr result (λ e. self.new ≡ self.old) }
     {
         let left = self.left();
         match self.take() {

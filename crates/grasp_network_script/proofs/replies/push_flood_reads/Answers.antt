@@ -6,4 +6,4 @@ use Rattle.grasp_network_script.proofs.replies.push_flood_reads.Goals as goal
 pub loop-i-preserved : goal.loop-i-preserved
 loop-i-preserved c =
     let at : slice_get c.args.reads.now c.loop-i.i ≡ Some c.in-Some.read.now = sym c.in-Some.ensures in
-    reads_step c.args.reads.now c.loop-i.i c.in-Some.read.now (string_bytes c.args.out.now) (string_bytes c.loop-i.out) (string_bytes c.push_flood_read.new.out) at c.loop-i.invariant c.in_ok-push_flood_read.ensures
+    reads_step c.args.reads.now c.loop-i.i c.in-Some.read.now (string_bytes c.args.out.now) (string_bytes c.loop-i.out) (string_bytes c.push_flood_read.new.out) at c.loop-i.invariant c.in_ok-push_flood_read.ensures.text

@@ -5,7 +5,7 @@ use Rattle.grasp_network_script.specs.Answers.{prefix_words}
 use Rattle.grasp_network_script.proofs.Pushed.{on_ok}
 use Rattle.grasp_network_script.proofs.states.push_pool.Goals as goal
 
-pub returns : goal.returns
-returns c = on_ok c.push_doubt.result c.push_doubt.ensures (λ e.
-    some_pushed (string_bytes c.args.out.now) (string_bytes c.push_held.new.out) (string_bytes c.push_doubt.new.out) (codes "held" ∷ prefix_words c.args.pool.now.free) ((codes "reserved" ∷ prefix_words c.args.pool.now.reserved) ++ (codes "doubt" ∷ prefix_words c.args.pool.now.doubtful)) c.in_ok-push_held.ensures (
-    some_pushed (string_bytes c.push_held.new.out) (string_bytes c.push_kept.new.out) (string_bytes c.push_doubt.new.out) (codes "reserved" ∷ prefix_words c.args.pool.now.reserved) (codes "doubt" ∷ prefix_words c.args.pool.now.doubtful) c.in_ok-push_kept.ensures e))
+pub returns-clause-text : goal.returns-clause-text
+returns-clause-text c = on_ok c.push_doubt.result c.push_doubt.ensures.text (λ e.
+    some_pushed (string_bytes c.args.out.now) (string_bytes c.push_held.new.out) (string_bytes c.push_doubt.new.out) (codes "held" ∷ prefix_words c.args.pool.now.free) ((codes "reserved" ∷ prefix_words c.args.pool.now.reserved) ++ (codes "doubt" ∷ prefix_words c.args.pool.now.doubtful)) c.in_ok-push_held.ensures.text (
+    some_pushed (string_bytes c.push_held.new.out) (string_bytes c.push_kept.new.out) (string_bytes c.push_doubt.new.out) (codes "reserved" ∷ prefix_words c.args.pool.now.reserved) (codes "doubt" ∷ prefix_words c.args.pool.now.doubtful) c.in_ok-push_kept.ensures.text e))
