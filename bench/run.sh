@@ -1,20 +1,25 @@
 #!/bin/sh
 # Times `grasp_replay show` and `grasp_replay pack` beside C programs on libcbor that do the same.
 #
-#   bench/run.sh [BYTES]      by default 16000000, at most 16777216
+#   bench/run.sh [BYTES [PROGRAM]]      by default 16000000, at most 16777216
 #
-# It needs the Rattle kit's `rt`, a C compiler, python3 and libcbor (Debian: libcbor-dev). The files that it makes are in
-# a folder of /tmp. It prints seconds of processor time in user mode, the best of five runs each: for `show` on a stream
-# of so many bytes, and for `pack` on lines of at most as many, the two programs and their ratio; and each of the words on
-# about a half and a quarter.
+# PROGRAM is a grasp_replay that was built before; where none is given, `rt run` proves and builds one. It needs the Rattle
+# kit's `rt`, a C compiler, python3 and libcbor (Debian: libcbor-dev). The files that it makes are in a folder of /tmp. It
+# prints seconds of processor time in user mode, the best of five runs each: for `show` on a stream of so many bytes, and
+# for `pack` on lines of at most as many, the two programs and their ratio; and each of the words on about a half and a
+# quarter. Where valgrind is there, it then counts instructions: of `show` on 1,000,000 bytes, and of `pack` on the lines of
+# 450,000.
 set -eu
 here=$(cd "$(dirname "$0")" && pwd)
 bytes=${1:-16000000}
 work=$(mktemp -d)
 trap 'rm -rf "$work"' EXIT
 
-(cd "$here/../crates/grasp_replay" && rt run -- show </dev/null)
-program=$here/../crates/grasp_replay/out/grasp_replay
+program=${2:-}
+if [ -z "$program" ]; then
+    (cd "$here/../crates/grasp_replay" && rt run -- show </dev/null)
+    program=$here/../crates/grasp_replay/out/grasp_replay
+fi
 cc -O2 -o "$work/show_libcbor" "$here/show_libcbor.c" -lcbor
 cc -O2 -o "$work/pack_libcbor" "$here/pack_libcbor.c" -lcbor
 python3 "$here/make_messages.py" "$bytes" >"$work/stream"
@@ -63,3 +68,20 @@ echo "show: on a half and a quarter of them: $show_half s, $show_quarter s"
 echo "pack: the C program on $(wc -c <"$work/lines") bytes of lines: $pack_c s"
 echo "pack: grasp_replay on them: $pack s, $(ratio "$pack" "$pack_c") times the C program"
 echo "pack: on a half and a quarter of the lines: $pack_half s, $pack_quarter s"
+
+if ! command -v valgrind >/dev/null; then
+    exit
+fi
+# The instructions that callgrind counts in a call of a program on this input.
+counted() {
+    valgrind --tool=callgrind --callgrind-out-file=/dev/null "$2" $3 <"$1" 2>&1 >/dev/null | sed -n 's/.*Collected : //p'
+}
+python3 "$here/make_messages.py" 1000000 >"$work/stream"
+python3 "$here/make_messages.py" 450000 >"$work/packed"
+"$program" show <"$work/packed" >"$work/lines"
+show_c=$(counted "$work/stream" "$work/show_libcbor" "")
+show=$(counted "$work/stream" "$program" show)
+pack_c=$(counted "$work/lines" "$work/pack_libcbor" "")
+pack=$(counted "$work/lines" "$program" pack)
+echo "show: $show instructions, $(ratio "$show" "$show_c") times the $show_c of the C program"
+echo "pack: $pack instructions, $(ratio "$pack" "$pack_c") times the $pack_c of the C program"

@@ -1,17 +1,16 @@
 -- What leads bytes is found, and what is found leads them.
-use Rattle.std.proofs.Common.{◌≡◌, ℕ, ◌+◌, ◌*◌, ◌/◌, ◌%◌, ◌<◌, ◌≤◌, Bool, true, false, cond, ltb, eqb, List, [], ◌∷◌, ◌++◌, length, Option, Some, None, refl, sym, ap, subst, ◌∙◌, append_assoc, inl, inr, arith}
+use Rattle.std.proofs.Common.{◌≡◌, ℕ, ◌+◌, ◌*◌, ◌/◌, ◌%◌, ◌<◌, ◌≤◌, Bool, true, false, cond, eqb, List, [], ◌∷◌, ◌++◌, length, Option, Some, None, refl, sym, ap, subst, ◌∙◌, append_assoc, arith}
 use Rattle.std.specs.Prelude.{option_map, IfSome, IfNone}
 use Rattle.std.specs.Int.{w16, w32, w64, to_be_bytes}
 use Rattle.std.proofs.lemmas.Bool.{lt-ltb, eqb-true, eq-eqb}
 use Rattle.std.proofs.lemmas.Nat.{from_be_bytes-to_be_bytes_2, from_be_bytes-to_be_bytes_4, from_be_bytes-to_be_bytes_8}
 use Rattle.grasp_cbor.specs.Head.{HeadSize, direct, one_byte, two_bytes, four_bytes, eight_bytes, argument_limit, sized_head, IsHead}
-use Rattle.grasp_cbor.specs.Build.{◌>>=◌, Found, value_of, argument_at, argument_in, content_at, string_in}
-use Rattle.grasp_cbor.specs.Encodes.{IsContent, IsDefiniteString, string_major}
+use Rattle.grasp_cbor.specs.Build.{◌>>=◌, value_of, argument_at, argument_in, content_at, string_in}
+use Rattle.grasp_cbor.specs.Encodes.{IsContent, string_major}
 use Rattle.grasp_cbor.specs.DataItem.{DataItem, unsigned, depth_of}
 use Rattle.grasp_cbor.specs.Built.{IsBuilt}
 use Rattle.grasp_cbor.specs.Leading.{Leads, LeadsArray, LeadsString}
 use Rattle.grasp_cbor.specs.declared.heads.StringKind.{StringKind}
-use Rattle.grasp_cbor.specs.declared.heads.StringKind.TheVariants as kinds
 use Rattle.grasp_cbor.specs.declared.heads.Argument.TheVariants.{Direct}
 use Rattle.grasp_cbor.proofs.HeadsRead.{number_again}
 use Rattle.grasp_cbor.proofs.Takes.{IsBytes, IsBytes-rest, bind_ok, ok_is, Takes, Takes-then, size_in, low_of, tail_of, sized_head_is, argument_takes, content_takes}

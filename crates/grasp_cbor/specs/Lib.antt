@@ -1,3 +1,4 @@
+pub mod Behind
 pub mod Build
 pub mod Built
 pub mod Bytes

@@ -6,6 +6,7 @@
 #![tactic(auto)]
 
 mod build;
+mod compare;
 mod front;
 mod heads;
 mod item_reader;
@@ -24,6 +25,7 @@ mod walker;
 mod write;
 
 pub use build::encodings_are_apart;
+pub use compare::behind_shortest;
 pub use front::{
     read_array_head, read_byte_string, read_first_item, read_null, read_text_string, read_unsigned,
 };

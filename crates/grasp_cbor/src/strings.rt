@@ -186,6 +186,23 @@ impl Chars {
         }
     }
 
+    /// The text that these bytes are, which are moved and need no memory, or `None` where they aren't UTF-8.
+    pub fn from_vec(bytes: Vec<u8>) -> Option<Chars>
+        ensures text { IfSome result (λ r. r ≡ bytes.items) }
+        ensures some { IfSome result (λ _. IsUtf8 bytes.items) }
+        ensures none { IfNone result (¬ IsUtf8 bytes.items) }
+    {
+        match String::from_utf8(bytes) {
+            Ok(held) => {
+                let chars = Chars { held };
+                // That its text can be lent tells that the bytes are UTF-8.
+                chars.text();
+                Some(chars)
+            }
+            Err(_) => None,
+        }
+    }
+
     /// How many bytes the text has.
     pub fn len(&self) -> u64
         ensures { result ≡ length self.now }

@@ -1,7 +1,7 @@
 //! Writing items in their shortest encoding: each head has the least width (RFC 8949, section 4.2.1), a float keeps its
 //! width, and pairs keep their order.
 
-ghost use Rattle.std.specs.Prelude.{◌≡◌, ℕ, ◌<◌, ◌≤◌, List, [], ◌∷◌, ◌++◌, OnOk, OnErr};
+ghost use Rattle.std.specs.Prelude.{vec_len, vec_capacity, ◌≡◌, ℕ, ◌+◌, ◌<◌, ◌≤◌, List, [], ◌∷◌, ◌++◌, OnOk, OnErr};
 ghost use Rattle.grasp_cbor.specs.Bytes.{AllBytes};
 ghost use Rattle.grasp_cbor.specs.DataItem.{depth_of, data_items, data_pairs};
 ghost use Rattle.grasp_cbor.specs.Item.{data_item_of, items_of, pairs_of, float_of};
@@ -13,6 +13,9 @@ ghost use Rattle.grasp_cbor.specs.Laws.{ShortestEncodes, EncodedAreEncodable};
 ghost use Rattle.grasp_cbor.specs.Shortest.{shortest, shortest_items, shortest_pairs};
 
 use crate::{FloatBits, Item, Items, OutOfMemory, Pairs};
+
+/// The most bytes of a head.
+const MOST_HEAD: usize = 9;
 
 /// The shortest encoding of an item is one of its encodings, where its numbers are in range and it nests at most
 /// 16 deep; and what fewer than 2 ^ 64 bytes encode has its numbers in range.
@@ -107,19 +110,45 @@ fn write_map(out: &mut Vec<u8>, pairs: &Pairs) -> Result<(), OutOfMemory>
     Ok(())
 }
 
-/// Appends the shortest head of a major type and an argument.
-#[tactic(auto, unfolding(crate::specs::Head::shortest_head, crate::specs::Head::shortest_size))]
+/// Appends the shortest head of a major type and an argument. After an `Err` the vector is as before.
+#[inline(always)]
 pub(crate) fn write_head(out: &mut Vec<u8>, major: u8, n: u64) -> Result<(), OutOfMemory>
     requires { major < 8 }
     ensures ok { OnOk result (out.new.items ≡ out.old.items ++ shortest_head major n) }
     ensures err { OnErr result (out.new.items ≡ out.old.items) }
 {
+    if out.capacity() - out.len() < MOST_HEAD {
+        return write_head_in_new_room(out, major, n);
+    }
+    push_head(out, major, n);
+    Ok(())
+}
+
+/// As `write_head`, after more room was asked for.
+#[cold]
+#[inline(never)]
+fn write_head_in_new_room(out: &mut Vec<u8>, major: u8, n: u64) -> Result<(), OutOfMemory>
+    requires { major < 8 }
+    ensures ok { OnOk result (out.new.items ≡ out.old.items ++ shortest_head major n) }
+    ensures err { OnErr result (out.new.items ≡ out.old.items) }
+{
+    out.reserve(MOST_HEAD)?;
+    push_head(out, major, n);
+    Ok(())
+}
+
+/// Appends the shortest head of a major type and an argument, for which there is room.
+#[inline(always)]
+#[tactic(auto, unfolding(crate::specs::Head::shortest_head, crate::specs::Head::shortest_size))]
+fn push_head(out: &mut Vec<u8>, major: u8, n: u64)
+    requires major { major < 8 }
+    requires room { vec_len out.old + 9 ≤ vec_capacity out.old }
+    ensures { out.new.items ≡ out.old.items ++ shortest_head major n }
+{
     let first = major * 32;
     if n < 24 {
-        return push(out, first + n as u8);
-    }
-    out.reserve(9)?;
-    if n < 0x100 {
+        out.push_reserved(first + n as u8);
+    } else if n < 0x100 {
         out.push_reserved(first + 24);
         out.push_reserved(n as u8);
     } else if n < 0x1_0000 {
@@ -146,7 +175,6 @@ pub(crate) fn write_head(out: &mut Vec<u8>, major: u8, n: u64) -> Result<(), Out
         out.push_reserved(g);
         out.push_reserved(h);
     }
-    Ok(())
 }
 
 fn write_simple(out: &mut Vec<u8>, number: u8) -> Result<(), OutOfMemory>

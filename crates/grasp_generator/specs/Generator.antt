@@ -70,7 +70,7 @@ near_line stream = bytes_line stream (codes "near")
 abbrev pub cut_line : ℕ → List ℕ
 cut_line stream = line (codes "cut") (decimal stream ∷ codes "far" ∷ [])
 
--- one time in eight the stream is cut before its last bytes
+-- one time in eight the far side is told that the stream is cut, in place of its last bytes
 abbrev pub last_line : ℕ → ℕ → List ℕ
 last_line stream chance = if chance == 0 then cut_line stream else far_line stream
 

@@ -102,7 +102,7 @@ digit_visible (suc (suc (suc (suc (suc (suc (suc (suc (suc (suc (suc (suc (suc (
 digit_visible (suc (suc (suc (suc (suc (suc (suc (suc (suc (suc (suc (suc (suc (suc (suc zero))))))))))))))) lt = refl
 digit_visible (suc (suc (suc (suc (suc (suc (suc (suc (suc (suc (suc (suc (suc (suc (suc (suc n)))))))))))))))) lt = absurd (omega arith)
 
-hex_visible : (bytes : List ℕ) → AllBytes bytes → Visible (encode_lower bytes)
+pub hex_visible : (bytes : List ℕ) → AllBytes bytes → Visible (encode_lower bytes)
 unfolding encode_with
 hex_visible [] h = visible_nil
 hex_visible (b ∷ bytes) h =

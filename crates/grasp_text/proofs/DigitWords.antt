@@ -19,9 +19,6 @@ digits_of_byte high low h l p q =
     let second : (h * 16 + l) % 16 ≡ l = omega arith in
     (sym dh.spelled ∙ ap (slice_index lower_digits) (sym first), sym dl.spelled ∙ ap (slice_index lower_digits) (sym second))
 
-pub no_high_digit : (high low : ℕ) → digit_of high ≡ None → (byte : ℕ) → byte < 256 → ¬ AreDigitsOf high low byte
-no_high_digit high low none byte lt is = absurd (let z : None ≡ some (byte / 16) = sym none ∙ ap digit_of is.0 ∙ digit_again (byte / 16) (omega arith) in cc)
-
 pub no_low_digit : (high low : ℕ) → digit_of low ≡ None → (byte : ℕ) → byte < 256 → ¬ AreDigitsOf high low byte
 no_low_digit high low none byte lt is = absurd (let z : None ≡ some (byte % 16) = sym none ∙ ap digit_of is.1 ∙ digit_again (byte % 16) (omega arith) in cc)
 
@@ -47,6 +44,13 @@ bytes_set (x ∷ xs) zero byte h lt zero = lt
 bytes_set (x ∷ xs) zero byte h lt (suc k) = h (suc k)
 bytes_set (x ∷ xs) (suc i) byte h lt zero = h zero
 bytes_set (x ∷ xs) (suc i) byte h lt (suc k) = bytes_set xs i byte (λ m. h (suc m)) lt k
+
+-- and where the first of them are taken
+pub bytes_taken : (n : ℕ) (xs : List ℕ) → IsBytes xs → IsBytes (take n xs)
+bytes_taken zero xs h k = omega arith
+bytes_taken (suc n) [] h k = h k
+bytes_taken (suc n) (x ∷ xs) h zero = h zero
+bytes_taken (suc n) (x ∷ xs) h (suc k) = bytes_taken n xs (λ m. h (suc m)) k
 
 -- the digits of one byte more are read
 pub digits_read : (digits out : List ℕ) (i byte : ℕ) → 2 * i + 1 < length digits → i < length out → AreDigitsOf (get_or digits (2 * i) 0) (get_or digits (2 * i + 1) 0) byte → take (2 * i) digits ≡ encode_lower (take i out) → take (2 * (i + 1)) digits ≡ encode_lower (take (i + 1) (slice_set out i byte))

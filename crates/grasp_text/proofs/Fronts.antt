@@ -10,10 +10,12 @@ use Rattle.std.proofs.lemmas.List.Elements.{All-from_recursion}
 use Rattle.std.proofs.lemmas.List.Splits.{slice_split_none, slice_split_at}
 use Rattle.std.proofs.lemmas.Str.{IsUtf8-from_ascii}
 use Rattle.std.proofs.lemmas.Str.Parse.{digit_from_value}
+use Rattle.hex.specs.Hex.{IsBytes, encode_lower}
+use Rattle.grasp_cbor.proofs.HeadBytes.{AllBytes-from}
 use Rattle.grasp_text.specs.Line.{v4_word, v6_word, text_word}
 use Rattle.grasp_text.specs.Reading.{ArePlain, is_plain, v4_of, v6_of, behind_byte}
 use Rattle.grasp_text.specs.Words.{words_of, HasNoBlank}
-use Rattle.grasp_text.proofs.Blanks.{v4_visible, v6_visible, each_other}
+use Rattle.grasp_text.proofs.Blanks.{v4_visible, v6_visible, hex_visible, each_other}
 use Rattle.grasp_text.proofs.HexWords.{v4_exact, v6_exact}
 use Rattle.grasp_text.proofs.Leaves.{behind_only}
 use Rattle.grasp_text.proofs.NumberWords.{digits_spelled, some}
@@ -56,6 +58,9 @@ v4_no_blank word n e = subst HasNoBlank (sym (v4_digits word n e).1) (each_other
 pub v6_no_blank : (word : List ℕ) (n : ℕ) → Some n ≡ v6_of word → HasNoBlank word
 v6_no_blank word n e = subst HasNoBlank (sym (v6_digits word n e).1) (each_other (v6_word n) (v6_visible n).all)
 
+pub value_no_blank : (bytes : List ℕ) → IsBytes bytes → HasNoBlank (120 ∷ encode_lower bytes)
+value_no_blank bytes fits = (refl, each_other (encode_lower bytes) (hex_visible bytes (AllBytes-from bytes fits)).all)
+
 plain_range : (b : ℕ) → is_plain b ≡ true → (33 ≤ b) × (b ≤ 126)
 plain_range b e =
     let visible = and_parts (leb 33 b && leb b 126) (not (eqb b 37)) e in
@@ -77,6 +82,10 @@ number_front s k n inside long digits e small one =
 -- an apostrophe and bytes behind it
 pub text_front : (s t : List ℕ) (k : ℕ) → some t ≡ behind_byte 39 s → take (k + 1) s ≡ 39 ∷ take k t
 text_front s t k e = ap (take (k + 1)) (behind_only 39 s t (sym e)) ∙ ap (λ (i : ℕ). take i (39 ∷ t)) (add-one k)
+
+-- `x` and digits behind it
+pub value_front : (s t bytes : List ℕ) (k : ℕ) → some t ≡ behind_byte 120 s → take k t ≡ encode_lower bytes → take (k + 1) s ≡ 120 ∷ encode_lower bytes
+value_front s t bytes k e d = ap (take (k + 1)) (behind_only 120 s t (sym e)) ∙ ap (λ (i : ℕ). take i (120 ∷ t)) (add-one k) ∙ ap (λ (x : List ℕ). 120 ∷ x) d
 
 -- ---- texts of bytes that stand for themselves
 

@@ -11,10 +11,8 @@ use Rattle.grasp_types.specs.declared.flood.FloodPart.{FloodPart}
 use Rattle.grasp_types.specs.declared.objective.Objective.{Objective}
 use Rattle.grasp_text.specs.Grammar.{ending, objective_at, final_objective_at, last_objective, locator_at, begins_objective, locators_step, locators_at, answers_at, optional_locator_at, flood_part_at, parts_step, parts_at, flood_parts_at}
 use Rattle.grasp_text.specs.Line.{objective_words, locator_words, locator_or_none, all_locator_words, optional_objective_words, flood_part_words, all_flood_part_words}
-use Rattle.grasp_text.specs.Reading.{Parsed, ◌>>=◌, Fails}
+use Rattle.grasp_text.specs.Reading.{Parsed, ◌>>=◌}
 use Rattle.grasp_text.specs.Words.{is_over, is_next}
-use Rattle.grasp_text.specs.declared.fault.WordFault.{WordFault}
-use Rattle.grasp_text.specs.declared.fault.WordFault.TheVariants as faults
 use Rattle.grasp_text.proofs.Lawful.{Anything, Nothing, Lawful, Only, Then, Made, Starts, or_end_lawful, branch_lawful, then_lawful, then_all, made_lawful, restated, rewritten, none_lawful}
 use Rattle.grasp_text.proofs.PartLaws.{ending_lawful, ObjectiveWords, objective_lawful, objective_takes, objective_starts, LocatorWords, locator_lawful, locator_takes, locator_starts, locator_shorter, OptionalLocatorWords, optional_lawful}
 use Rattle.grasp_text.proofs.Until.{IsLocal, until_step}
@@ -357,8 +355,3 @@ parts_over before (w ∷ ws) total over e = absurd (let z = over in cc)
 pub parts_next : (before : List FloodPart) (ws : List (List ℕ)) (total : Parsed (List FloodPart)) → is_over ws ≡ false → parts_at before ws ≡ total → total ≡ (flood_part_at ws >>= λ next. parts_at (before ++ next.0 ∷ []) next.1)
 parts_next before [] total over e = absurd (let z = over in cc)
 parts_next before (w ∷ ws) total over e = sym e ∙ parts_again before (w ∷ ws)
-
--- what a failed step says of the whole
-pub fails_through : {A B : Type 0} (fault : WordFault) (r : Parsed A) (f : A × List (List ℕ) → Parsed B) (total : Parsed B) → Fails fault r → total ≡ (r >>= f) → Fails fault total
-fails_through (faults.Unfit n) r f total h e = e ∙ ap (λ (x : Parsed _). x >>= f) h
-fails_through faults.OutOfMemory r f total h e = tt

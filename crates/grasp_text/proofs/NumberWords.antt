@@ -8,7 +8,7 @@ use Rattle.std.proofs.lemmas.Bool.{le-leb, leb-true}
 use Rattle.std.proofs.lemmas.Fmt.{decimal_is_IsNumeral, decimal-digits_value, decimal_digit, decimal_injective, IsAscii-decimal, digits_decimal, decimal_nonempty, first_decimal}
 use Rattle.std.proofs.lemmas.Str.Parse.{IsNumeralModel, numerals_by_value, tells_digits, digit_at, digits_value-take-le, digits_value_short}
 use Rattle.std.proofs.lemmas.Int.Digits.{digits_more, digits_value_more}
-use Rattle.std.proofs.lemmas.List.{take_all, length-take}
+use Rattle.std.proofs.lemmas.List.{length-take}
 use Rattle.std.proofs.lemmas.Str.{IsUtf8-from_ascii}
 use Rattle.std.proofs.lemmas.Slice.Eq.{bytes_eq-Decides}
 use Rattle.grasp_text.specs.Reading.{number_of}
@@ -114,12 +114,6 @@ digit_none ds i v inside e h n lt is =
     let more : digits_value 10 (take (i + 1) ds) ≡ digits_value 10 (take i ds) * 10 + digit_value c = digits_value_more 10 ds i inside in
     let d : digit_value c ≡ c - 48 = digit_value_of c a (omega (arith, b)) in
     absurd (omega (arith, big, e, whole, le, more, d, lt))
-
-pub digits_all : (ds : List ℕ) (i : ℕ) → length ds ≤ i → AllDigits 10 (take i ds) → AllDigits 10 ds
-digits_all ds i le h = subst (AllDigits 10) (take_all i ds le) h
-
-pub value_all : (ds : List ℕ) (i v : ℕ) → length ds ≤ i → v ≡ digits_value 10 (take i ds) → v ≡ digits_value 10 ds
-value_all ds i v le e = e ∙ ap (digits_value 10) (take_all i ds le)
 
 pub empty_none : (ds : List ℕ) → length ds ≡ 0 → (n : ℕ) → n < 2 ^ 64 → ¬ (ds ≡ decimal n)
 empty_none ds none n lt is =

@@ -70,13 +70,6 @@ parts_step ps i p old out new e a b =
     some_pushed old out new (all_flood_part_words (take i ps)) (flood_part_words p) a b
     ∙ ap (λ (x : List (List ℕ)). old ++ spaced x) (sym (ap all_flood_part_words (take_next ps i p e) ∙ all_flood_part_words-append (take i ps) (p ∷ []) ∙ ap (λ (x : List (List ℕ)). all_flood_part_words (take i ps) ++ x) (append-nil (flood_part_words p))))
 
--- all of them
-pub locators_done : (ls : List Locator) (i : ℕ) (old new : List ℕ) → length ls ≤ i → new ≡ old ++ spaced (all_locator_words (take i ls)) → new ≡ old ++ spaced (all_locator_words ls)
-locators_done ls i old new le e = e ∙ ap (λ (x : List Locator). old ++ spaced (all_locator_words x)) (take_all i ls le)
-
-pub parts_done : (ps : List FloodPart) (i : ℕ) (old new : List ℕ) → length ps ≤ i → new ≡ old ++ spaced (all_flood_part_words (take i ps)) → new ≡ old ++ spaced (all_flood_part_words ps)
-parts_done ps i old new le e = e ∙ ap (λ (x : List FloodPart). old ++ spaced (all_flood_part_words x)) (take_all i ps le)
-
 pub all_done : {A : Type 0} (P : A → Type 0) (xs : List A) (i : ℕ) → length xs ≤ i → AllByRecursion P (take i xs) → AllByRecursion P xs
 all_done P xs i le h = subst (λ ys. AllByRecursion P ys) (take_all i xs le) h
 

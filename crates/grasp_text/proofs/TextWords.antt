@@ -1,13 +1,13 @@
 -- Texts as words.
-use Rattle.std.proofs.Common.{◌≡◌, ℕ, zero, suc, ◌+◌, ◌/◌, ◌%◌, ◌<◌, ◌≤◌, Bool, true, false, cond, eqb, List, [], ◌∷◌, ◌++◌, length, get_or, take, Option, Some, None, Result, Ok, Err, refl, sym, ap, subst, ◌∙◌, append_assoc, arith}
-use Rattle.std.proofs.lemmas.List.{append-nil, take_all, take_more}
-use Rattle.std.specs.Prelude.{slice_index, IfOk, IfSome, IfNone}
+use Rattle.std.proofs.Common.{◌≡◌, ℕ, zero, suc, ◌+◌, ◌/◌, ◌%◌, ◌<◌, Bool, true, false, cond, eqb, List, [], ◌∷◌, ◌++◌, length, get_or, take, Option, Some, None, refl, sym, ap, ◌∙◌, append_assoc, arith}
+use Rattle.std.proofs.lemmas.List.{append-nil, take_more}
+use Rattle.std.specs.Prelude.{slice_index, IfSome, IfNone}
 use Rattle.std.specs.Str.{IsUtf8, is_utf8}
 use Rattle.std.proofs.lemmas.Str.{IsUtf8-from_is_utf8, is_utf8-from_IsUtf8}
 use Rattle.grasp_text.proofs.NumberWords.{some}
 use Rattle.hex.specs.Hex.{lower_digits}
 use Rattle.grasp_text.specs.Line.{escaped, all_escaped}
-use Rattle.grasp_text.specs.Reading.{unescaped, first_unescaped, paired, onto, as_text, byte_of, behind_percent, is_plain, ArePlain}
+use Rattle.grasp_text.specs.Reading.{unescaped, first_unescaped, paired, onto, as_text, byte_of, is_plain, ArePlain}
 
 pub lower_digit_small : (i : ℕ) → i < 16 → slice_index lower_digits i < 128
 lower_digit_small zero lt = omega arith
@@ -109,12 +109,6 @@ plain_append : (xs : List ℕ) (b : ℕ) → ArePlain xs → is_plain b ≡ true
 plain_append [] b h e = (e, tt)
 plain_append (x ∷ xs) b h e = (h.0, plain_append xs b h.1 e)
 
-pub plain_more : (xs : List ℕ) (i : ℕ) → i < length xs → is_plain (get_or xs i 0) ≡ true → ArePlain (take i xs) → ArePlain (take (i + 1) xs)
-plain_more xs i lt e h = subst ArePlain (sym (take_more xs i 0 lt)) (plain_append (take i xs) (get_or xs i 0) h e)
-
-pub plain_all : (xs : List ℕ) (i : ℕ) → length xs ≤ i → ArePlain (take i xs) → ArePlain xs
-plain_all xs i le h = subst ArePlain (take_all i xs le) h
-
 escaped_plain : (b : ℕ) → is_plain b ≡ true → escaped b ≡ b ∷ []
 escaped_plain b e = ap (λ (p : Bool). cond p (b ∷ []) (37 ∷ slice_index lower_digits (b / 16) ∷ slice_index lower_digits (b % 16) ∷ [])) e
 
@@ -122,19 +116,6 @@ escaped_plain b e = ap (λ (p : Bool). cond p (b ∷ []) (37 ∷ slice_index low
 pub plain_escaped : (xs : List ℕ) → ArePlain xs → all_escaped xs ≡ xs
 plain_escaped [] h = refl
 plain_escaped (b ∷ xs) h = ap (λ (t : List ℕ). t ++ all_escaped xs) (escaped_plain b h.0) ∙ ap (λ (t : List ℕ). b ∷ t) (plain_escaped xs h.1)
-
-first_plain : (b : ℕ) (rest : List ℕ) → is_plain b ≡ true → first_unescaped (b ∷ rest) ≡ Some (b, rest)
-unfolding first_unescaped
-first_plain b rest e = ap (λ (p : Bool). cond p (Some (b, rest)) (cond (eqb b 37) (behind_percent rest) None)) e
-
-nothing_unescaped : unescaped [] ≡ some []
-unfolding unescaped
-nothing_unescaped = refl
-
--- and are unescaped as themselves
-pub plain_unescaped : (xs : List ℕ) → ArePlain xs → unescaped xs ≡ some xs
-plain_unescaped [] h = nothing_unescaped
-plain_unescaped (b ∷ rest) h = unescaped_first b rest ∙ ap then_unescaped (first_plain b rest h.0) ∙ ap (onto (Some b)) (plain_unescaped rest h.1)
 
 -- a blank and a text behind a text
 pub text_pushed : (old middle new body text : List ℕ) → middle ≡ old ++ 32 ∷ 39 ∷ [] → new ≡ middle ++ body → body ≡ all_escaped text → new ≡ old ++ 32 ∷ 39 ∷ (all_escaped text ++ [])
@@ -159,7 +140,6 @@ one_text : (o : Option (List ℕ)) (bytes : List ℕ) → IfSome o (λ t. t ≡ 
 one_text (Some t) bytes same text none = ap Some same ∙ sym (ap (λ (b : Bool). cond b (some bytes) None) (is_utf8-from_IsUtf8 bytes text))
 one_text None bytes same text none = sym (ap (λ (b : Bool). cond b (some bytes) None) (no_text bytes (is_utf8 bytes) refl none))
 
--- what `of_bytes` gives
-pub text_by : {E : Type 0} (r : Result (Option (List ℕ)) E) (bytes : List ℕ) (read want : Option (List ℕ)) → IfOk r (λ o. IfSome o (λ t. t ≡ bytes)) → IfOk r (λ o. IfSome o (λ t. IsUtf8 bytes)) → IfOk r (λ o. IfNone o (¬ IsUtf8 bytes)) → read ≡ Some bytes → want ≡ as_text read → IfOk r (λ o. o ≡ want)
-text_by (Ok o) bytes read want same text none is w = one_text o bytes same text none ∙ ap as_text (sym is) ∙ sym w
-text_by (Err e) bytes read want same text none is w = tt
+-- what `from_vec` gives
+pub text_by : (o : Option (List ℕ)) (bytes : List ℕ) (read : Option (List ℕ)) → IfSome o (λ t. t ≡ bytes) → IfSome o (λ t. IsUtf8 bytes) → IfNone o (¬ IsUtf8 bytes) → read ≡ Some bytes → o ≡ as_text read
+text_by o bytes read same text none is = one_text o bytes same text none ∙ ap as_text (sym is)

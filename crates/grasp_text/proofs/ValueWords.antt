@@ -1,5 +1,5 @@
 -- Values as words.
-use Rattle.std.proofs.Common.{◌≡◌, ℕ, ◌≤◌, inl, Bool, true, false, cond, List, [], ◌∷◌, Option, Some, None, Result, Ok, Err, refl, sym, ap, subst, ◌∙◌, arith}
+use Rattle.std.proofs.Common.{◌≡◌, ℕ, ◌<◌, ◌≤◌, inl, Bool, true, false, cond, List, [], ◌∷◌, ◌++◌, length, length-append, Option, Some, None, Result, Ok, Err, refl, sym, ap, subst, ◌∙◌, arith}
 use Rattle.std.specs.Prelude.{IfOk, IfSome, IfNone, option_map}
 use Rattle.std.specs.Str.{bytes_eq}
 use Rattle.std.proofs.lemmas.List.{append-nil}
@@ -125,6 +125,10 @@ value_only : (word : List ℕ) (item : DataItem) → value_of word ≡ Some item
 unfolding value_of
 value_only word item e = value_only_behind word item (behind_byte 120 word) refl e
 
+-- `x` and the digits of bytes in which a value is found
+pub value_of_digits : (bytes : List ℕ) (item : DataItem) → IsBytes bytes → Some item ≡ as_value bytes (item_at 13 bytes) → IsValueWord item (120 ∷ encode_lower bytes)
+value_of_digits bytes item fits e = let v = value_only_at bytes (item_at 13 bytes) item fits refl (sym e) in record { value = v.value; spelled = ap (λ (x : List ℕ). 120 ∷ encode_lower x) v.spelled }
+
 -- null is a value
 null_value : IsValue (simple_value 22)
 null_value = record { within = omega arith; encodable = (inl (omega arith), omega arith) }
@@ -156,3 +160,29 @@ pub first_is : {X E : Type 0} (item : X → DataItem) (rest : X → List ℕ) (b
 first_is item rest bytes (Err e) fits led none = tt
 first_is item rest bytes (Ok None) fits led none = first_none bytes fits none
 first_is item rest bytes (Ok (Some x)) fits led none = first_some bytes (rest x) (item x) led.0 led.1
+
+-- ---- the value of bytes that begin with an item
+
+-- bytes that don't begin with the item's shortest encoding are no value's
+pub whole_apart : (bytes : List ℕ) (item : DataItem) (rest : List ℕ) → ((r : List ℕ) → ¬ (bytes ≡ shortest item ++ r)) → whole_value bytes item rest ≡ None
+whole_apart bytes item (b ∷ rest) apart = refl
+whole_apart bytes item [] apart = by_test (bytes_eq (shortest item) bytes) refl where
+  by_test : (t : Bool) → bytes_eq (shortest item) bytes ≡ t → cond t (some item) None ≡ None
+  by_test true e = absurd (apart [] (sym ((bytes_eq-Decides (shortest item) bytes).0 e) ∙ sym (append-nil (shortest item))))
+  by_test false e = refl
+
+-- nor are those that go on behind it
+pub whole_longer : (bytes : List ℕ) (item : DataItem) (rest behind : List ℕ) → bytes ≡ shortest item ++ behind → 0 < length behind → whole_value bytes item rest ≡ None
+whole_longer bytes item (b ∷ rest) behind e more = refl
+whole_longer bytes item [] behind e more = by_test (bytes_eq (shortest item) bytes) refl where
+  by_test : (t : Bool) → bytes_eq (shortest item) bytes ≡ t → cond t (some item) None ≡ None
+  by_test true f = absurd (let same = ap length ((bytes_eq-Decides (shortest item) bytes).0 f) in omega (arith, same, ap length e, length-append (shortest item) behind, more))
+  by_test false f = refl
+
+-- and those that end with it are the item's
+pub whole_same : (bytes : List ℕ) (item : DataItem) (rest behind : List ℕ) → bytes ≡ shortest item ++ behind → length rest ≡ 0 → length behind ≡ 0 → whole_value bytes item rest ≡ Some item
+whole_same bytes item (x ∷ rest) behind e r b = absurd (omega (arith, r))
+whole_same bytes item [] (x ∷ behind) e r b = absurd (omega (arith, b))
+whole_same bytes item [] [] e r b = ap (λ (t : Bool). cond t (some item) None) ((bytes_eq-Decides (shortest item) bytes).1 (sym (e ∙ append-nil (shortest item))))
+
+pub ruleset whole = (whole_apart, whole_longer, whole_same)

@@ -1,6 +1,6 @@
 //! Lower-case hexadecimal digits, two for each byte.
 
-ghost use Rattle.std.specs.Prelude.{◌≡◌, ℕ, List, true, false, ◌<◌, ◌*◌, length, IfSome, IfNone};
+ghost use Rattle.std.specs.Prelude.{◌≡◌, ℕ, List, true, false, ◌<◌, ◌≤◌, ◌*◌, length, take, IfSome, IfNone};
 ghost use Rattle.hex.specs.Hex.{IsBytes, encode_lower};
 ghost use Rattle.grasp_text.specs.Reading.{digit_of, AreDigitsOf};
 
@@ -53,4 +53,23 @@ pub(crate) fn read_digits(digits: &[u8], out: &mut [u8]) -> bool
         }
     }
     true
+}
+
+/// Writes the bytes of the digits at the front, at most as many as there is room for, and tells how many.
+pub(crate) fn front_bytes(digits: &[u8], out: &mut [u8]) -> usize
+    ensures room { result ≤ length out.new }
+    ensures inside { 2 * result ≤ length digits.now }
+    ensures digits { take (2 * result) digits.now ≡ encode_lower (take result out.new) }
+    ensures fits { IsBytes out.new }
+{
+    let most = out.len().min(digits.len() / 2);
+    let mut count = 0;
+    while count < most {
+        match byte_of_digits(digits[2 * count], digits[2 * count + 1]) {
+            Some(byte) => out[count] = byte,
+            None => break,
+        }
+        count += 1;
+    }
+    count
 }

@@ -57,11 +57,11 @@ pub(crate) fn front_digits(bytes: &[u8]) -> (u64, usize)
     let mut value = 0;
     let mut end = 0;
     while end < bytes.len() && end < MOST_DIGITS {
-        let digit = bytes[end];
-        if digit < b'0' || digit > b'9' {
+        let digit = bytes[end].wrapping_sub(b'0');
+        if digit > 9 {
             break;
         }
-        value = value * 10 + u64::from(digit - b'0');
+        value = value * 10 + u64::from(digit);
         end += 1;
     }
     (value, end)

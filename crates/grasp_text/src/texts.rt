@@ -143,11 +143,8 @@ fn read_text(alloc: Global, word: &[u8]) -> Result<Option<Chars>, OutOfMemory>
 fn text_of_escaped(alloc: Global, escaped: &[u8]) -> Result<Option<Chars>, OutOfMemory>
     ensures { IfOk result (λ o. o ≡ as_text (unescaped escaped.now)) }
 {
-    if stand_for_themselves(escaped) {
-        return Chars::of_bytes(alloc, escaped);
-    }
     match unescape(alloc, escaped)? {
-        Some(bytes) => Chars::of_bytes(alloc, &bytes),
+        Some(bytes) => Ok(Chars::from_vec(bytes)),
         None => Ok(None),
     }
 }

@@ -13,14 +13,14 @@ ghost use Rattle.grasp_text.specs.Words.{spaced};
 
 use crate::digits::read_digits;
 use crate::texts::behind;
-use grasp_cbor::{Item, OutOfMemory, read_first_item, write_item};
+use grasp_cbor::{Item, OutOfMemory, behind_shortest, read_first_item, write_item};
 use grasp_types::Value;
 use std::alloc::Global;
 
 /// Room for the encoding of most values.
 const MOST_VALUES: usize = 64;
 
-/// The bytes of lower-case hexadecimal digits, or `None`. Behind them there is room for as many again.
+/// The bytes of lower-case hexadecimal digits, or `None`.
 #[tactic(auto, unfolding(crate::specs::Reading::bytes_of))]
 fn bytes_of_digits(alloc: Global, digits: &[u8]) -> Result<Option<Vec<u8>>, OutOfMemory>
     ensures { IfOk result (λ o. option_map (λ v. v.items) o ≡ bytes_of digits.now) }
@@ -28,7 +28,7 @@ fn bytes_of_digits(alloc: Global, digits: &[u8]) -> Result<Option<Vec<u8>>, OutO
     if digits.len() % 2 != 0 {
         return Ok(None);
     }
-    let mut bytes = Vec::with_capacity(alloc, digits.len())?;
+    let mut bytes = Vec::with_capacity(alloc, digits.len() / 2)?;
     bytes.resize(digits.len() / 2, 0u8)?;
     if read_digits(digits, bytes.as_mut_slice()) {
         Ok(Some(bytes))
@@ -46,25 +46,25 @@ fn first_item(alloc: Global, bytes: &[u8]) -> Result<Option<(Item, &[u8])>, OutO
 }
 
 /// The value whose shortest encoding these bytes are, or `None`.
-fn value_of_bytes(alloc: Global, mut bytes: Vec<u8>) -> Result<Option<Value>, OutOfMemory>
-    ensures { IfOk result (λ o. o ≡ as_value bytes.items (item_at 13 bytes.items)) }
+#[tactic(auto, using(crate::proofs::ValueWords::whole))]
+pub(crate) fn value_of_bytes(alloc: Global, bytes: &[u8]) -> Result<Option<Value>, OutOfMemory>
+    ensures { IfOk result (λ o. o ≡ as_value bytes.now (item_at 13 bytes.now)) }
 {
-    let len = bytes.len();
-    let Some((item, rest)) = first_item(alloc, &bytes)? else {
+    let Some((item, rest)) = first_item(alloc, bytes)? else {
         return Ok(None);
     };
     if !rest.is_empty() {
         return Ok(None);
     }
-    let Ok(value) = Value::of(item) else {
-        unreachable!();
+    let Some(behind) = behind_shortest(&item, bytes) else {
+        return Ok(None);
     };
-    write_item(value.item(), &mut bytes)?;
-    let (read, again) = bytes.split_at(len);
-    if again == read {
-        Ok(Some(value))
-    } else {
-        Ok(None)
+    if !behind.is_empty() {
+        return Ok(None);
+    }
+    match Value::of(item) {
+        Ok(value) => Ok(Some(value)),
+        Err(_) => unreachable!(),
     }
 }
 
@@ -96,7 +96,7 @@ fn read_value(alloc: Global, word: &[u8]) -> Result<Option<Value>, OutOfMemory>
 {
     match behind(b'x', word) {
         Some(digits) => match bytes_of_digits(alloc, digits)? {
-            Some(bytes) => value_of_bytes(alloc, bytes),
+            Some(bytes) => value_of_bytes(alloc, &bytes),
             None => Ok(None),
         },
         None => Ok(None),

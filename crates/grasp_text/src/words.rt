@@ -1,22 +1,27 @@
 //! The words of a line, one after another.
 
-ghost use Rattle.std.specs.Prelude.{◌≡◌, ◌∷◌, [], List, ℕ, length, take, codes, ◌≤◌, IfOk, IfErr, IfSome, IfNone, decimal, option_map};
+ghost use Rattle.std.specs.Prelude.{◌≡◌, ◌∷◌, [], List, ℕ, true, false, length, take, codes, ◌≤◌, IfOk, IfErr, OnErr, IfSome, IfNone, decimal, option_map};
 ghost use Rattle.grasp_types.specs.Address.{IsAddress};
+ghost use Rattle.grasp_types.specs.Objective.{IsValue};
 ghost use Rattle.grasp_text.specs.Line.{address_word, text_word, value_word};
 ghost use Rattle.grasp_text.specs.declared.fault.WordFault.TheVariants.{Unfit};
 ghost use Rattle.grasp_text.specs.Reading.{ArePlain, Reads, word_at, end_at, exactly, maybe_of, number_of, address_of, text_of, value_of};
 ghost use Rattle.grasp_text.specs.Words.{words_of, words_left, joined, is_over, is_next, HasNoBlank};
 
+use crate::digits::front_bytes;
 use crate::fault::WordFault;
 use crate::hexes::{address, v4_address, v6_address};
 use crate::numbers::{front_digits, number};
 use crate::texts::{behind, front_plain, text};
-use crate::values::value;
-use grasp_cbor::Chars;
+use crate::values::{value, value_of_bytes};
+use grasp_cbor::{Chars, OutOfMemory};
 use grasp_types::{Address, Flags, Value};
 use memchr::memchr;
 use std::alloc::Global;
 use std::marker::Model;
+
+/// The most bytes of a value that are read before its word's end is looked for.
+const MOST_FRONT_BYTES: usize = 64;
 
 /// What stands behind the word that the first `end` bytes are: `Some(None)` where the line ends there. `None` where no
 /// word ends there.
@@ -144,7 +149,9 @@ impl<'a> Words<'a> {
         }
     }
 
-    /// As `number`, read when the word's end was found.
+    /// As `number`, read when the word's end was found. This and the others that read so are never inlined: what reads
+    /// at the front then needs no saved registers.
+    #[inline(never)]
     fn any_number(&mut self, most: u64) -> Result<u64, WordFault>
         ensures found { IfOk result (λ n. self.old ≡ decimal n ∷ self.new) }
         ensures value { Reads (λ n. n) result self.new (word_at (number_of most) self.old) }
@@ -185,6 +192,7 @@ impl<'a> Words<'a> {
     }
 
     /// As `address`, read when the word's end was found.
+    #[inline(never)]
     fn any_address(&mut self) -> Result<Address, WordFault>
         ensures found { IfOk result (λ a. self.old ≡ address_word a ∷ self.new) }
         ensures value { Reads (λ a. a) result self.new (word_at address_of self.old) }
@@ -257,6 +265,7 @@ impl<'a> Words<'a> {
     }
 
     /// As `text`, read when the word's end was found.
+    #[inline(never)]
     fn any_text(&mut self, alloc: Global) -> Result<Chars, WordFault>
         ensures found { IfOk result (λ t. self.old ≡ text_word t ∷ self.new) }
         ensures value { Reads (λ t. t) result self.new (word_at text_of self.old) }
@@ -295,12 +304,64 @@ impl<'a> Words<'a> {
         ensures found { IfOk result (λ v. self.old ≡ value_word v ∷ self.new) }
         ensures value { Reads (λ v. v) result self.new (word_at value_of self.old) }
     {
+        match self.front_value(alloc)? {
+            Some(value) => Ok(value),
+            None => self.any_value(alloc),
+        }
+    }
+
+    /// As `value`, read when the word's end was found.
+    #[inline(never)]
+    fn any_value(&mut self, alloc: Global) -> Result<Value, WordFault>
+        ensures found { IfOk result (λ v. self.old ≡ value_word v ∷ self.new) }
+        ensures value { Reads (λ v. v) result self.new (word_at value_of self.old) }
+    {
         let (word, unfit) = self.next()?;
         value(alloc, word)?.ok_or(unfit)
     }
 
+    /// Takes a value whose digits are read before the word's end is looked for. Nothing is taken after `None`, which
+    /// says nothing of the next word.
+    fn front_value(&mut self, alloc: Global) -> Result<Option<Value>, OutOfMemory>
+        ensures found { IfOk result (λ o. IfSome o (λ v. self.old ≡ value_word v ∷ self.new)) }
+        ensures valid { IfOk result (λ o. IfSome o IsValue) }
+        ensures none { IfOk result (λ o. IfNone o (self.new ≡ self.old)) }
+        ensures err { OnErr result (self.new ≡ self.old) }
+    {
+        let Some(rest) = self.left else {
+            return Ok(None);
+        };
+        let Some(digits) = behind(b'x', rest) else {
+            return Ok(None);
+        };
+        let mut room = [0u8; MOST_FRONT_BYTES];
+        let count = front_bytes(digits, &mut room);
+        let Some(left) = behind_word(rest, 2 * count + 1) else {
+            return Ok(None);
+        };
+        let Some(value) = value_of_bytes(alloc, &room[..count])? else {
+            return Ok(None);
+        };
+        self.left = left;
+        Ok(Some(value))
+    }
+
     /// Takes a value, or `-` for none.
     pub fn optional_value(&mut self, alloc: Global) -> Result<Option<Value>, WordFault>
+        ensures { Reads (λ v. v) result self.new (word_at (maybe_of value_of) self.old) }
+    {
+        if let Some(value) = self.front_value(alloc)? {
+            return Ok(Some(value));
+        }
+        if self.front_none() {
+            return Ok(None);
+        }
+        self.any_optional_value(alloc)
+    }
+
+    /// As `optional_value`, read when the word's end was found.
+    #[inline(never)]
+    fn any_optional_value(&mut self, alloc: Global) -> Result<Option<Value>, WordFault>
         ensures { Reads (λ v. v) result self.new (word_at (maybe_of value_of) self.old) }
     {
         let (word, unfit) = self.next()?;
@@ -310,6 +371,26 @@ impl<'a> Words<'a> {
                 Some(value) => Ok(Some(value)),
                 None => Err(unfit),
             },
+        }
+    }
+
+    /// Takes the word `-`, or nothing where the next word is another.
+    fn front_none(&mut self) -> bool
+        ensures found { result ≡ true → self.old ≡ codes "-" ∷ self.new }
+        ensures none { result ≡ false → self.new ≡ self.old }
+    {
+        let Some(rest) = self.left else {
+            return false;
+        };
+        if behind(b'-', rest).is_none() {
+            return false;
+        }
+        match behind_word(rest, 1) {
+            Some(left) => {
+                self.left = left;
+                true
+            }
+            None => false,
         }
     }
 }
