@@ -5,7 +5,7 @@
 use grasp_daemon::{Status, finish, node_main, print_text, text_for};
 use grasp_io::{FileSource, Links, MioLinks, StdClock, StdSink, random_seed};
 use grasp_trace::Traced;
-use std::env;
+use std::env::{self, VarError};
 use std::io::ErrorKind;
 use std::process::ExitCode;
 use std::rt::Env;
@@ -21,28 +21,44 @@ fn main(rt: HostRuntime) -> ExitCode {
     ExitCode::from(finish(rt.alloc(), &status, &mut errors))
 }
 
-/// Does what the words ask for. The agents of a node run in threads of the second runtime.
+/// Does what the words ask for. Where they are no call, nothing is touched.
 fn answer<R: Threads + Wait + Sync>(rt: &HostRuntime, threads: &R, words: &[String]) -> Status {
-    match text_for(words) {
-        Some(text) => print_text(text.text(), &mut StdSink::new(rt.stdout())),
-        None => run(rt, threads, words),
+    if let Some(text) = text_for(words) {
+        return print_text(text.text(), &mut StdSink::new(rt.stdout()));
+    }
+    match file(words) {
+        Some(file) => run(rt, threads, words, file),
+        None => Status::Usage,
     }
 }
 
-/// Runs a node with a seed of the machine's. Where the environment has GRASP_TRACE, what its links give and take is written to
-/// standard error.
-fn run<R: Threads + Wait + Sync>(rt: &HostRuntime, threads: &R, words: &[String]) -> Status {
+/// The path of the configuration, where the words name one.
+fn file(words: &[String]) -> Option<&str> {
+    match words {
+        [run, file] if run.as_str() == "run" => Some(file.as_str()),
+        _ => None,
+    }
+}
+
+/// Runs a node with a seed of the machine's, and its agents in threads of the second runtime. Where the environment has
+/// GRASP_TRACE, what the node's links give and take is written to standard error.
+fn run<R: Threads + Wait + Sync>(
+    rt: &HostRuntime,
+    threads: &R,
+    words: &[String],
+    file: &str,
+) -> Status {
     let Some(seed) = random_seed(rt) else {
         return Status::ReadFault;
     };
     let mut links = MioLinks::new(rt, rt.alloc());
-    if env::var(rt, "GRASP_TRACE").is_err() {
-        let status = run_over(rt, threads, words, seed, &mut links);
+    if let Err(VarError::NotPresent) = env::var(rt, "GRASP_TRACE") {
+        let status = run_over(rt, threads, words, file, seed, &mut links);
         links.settle();
         return status;
     }
     let mut traced = Traced::new(rt.alloc(), links, StdSink::new(rt.stderr()));
-    let status = run_over(rt, threads, words, seed, &mut traced);
+    let status = run_over(rt, threads, words, file, seed, &mut traced);
     traced.into_links().settle();
     status
 }
@@ -52,10 +68,11 @@ fn run_over<R: Threads + Wait + Sync, L: Links>(
     rt: &HostRuntime,
     threads: &R,
     words: &[String],
+    file: &str,
     seed: [u8; 32],
     links: &mut L,
 ) -> Status {
-    let mut source = FileSource::open(rt, file(words));
+    let mut source = FileSource::open(rt, file);
     let mut sink = StdSink::new(rt.stdout());
     let mut clock = StdClock::new(rt);
     node_main(
@@ -68,14 +85,6 @@ fn run_over<R: Threads + Wait + Sync, L: Links>(
         &mut clock,
         seed,
     )
-}
-
-/// The path of the configuration, or none.
-fn file(words: &[String]) -> &str {
-    match words {
-        [_run, file] => file.as_str(),
-        _ => "",
-    }
 }
 
 /// The words after the program's name. A word that isn't UTF-8 is no call's.

@@ -1,21 +1,11 @@
 -- Lines, word by word.
-use Rattle.std.proofs.Common.{◌≡◌, ℕ, List, [], ◌∷◌, ◌++◌, Result, Ok, Err, OnOk, ap, ◌∙◌, append_assoc, append-nil}
+use Rattle.std.proofs.Common.{◌≡◌, ℕ, List, [], ◌∷◌, ◌++◌, Result, Ok, Err, OnOk, ap, ◌∙◌}
 use Rattle.grasp_text.specs.Words.{spaced}
 use Rattle.grasp_text.proofs.Pushed.{one_pushed, some_pushed}
 use Rattle.grasp_trace.specs.Lines.{line_text}
 
 -- words behind words
 pub ruleset pushes = (one_pushed, some_pushed)
-
--- a word of which a part is appended later
-word_parts : (old first second new v rest : List ℕ) (w : List ℕ) → first ≡ old ++ 32 ∷ (w ++ []) → second ≡ first ++ v → new ≡ second ++ rest → new ≡ old ++ 32 ∷ ((w ++ v) ++ rest)
-word_parts old first second new v rest w p q r =
-    r ∙ ap (λ (x : List ℕ). x ++ rest) (q ∙ ap (λ (x : List ℕ). x ++ v) p ∙ append_assoc old (32 ∷ (w ++ [])) v ∙ ap (λ (x : List ℕ). old ++ 32 ∷ (x ++ v)) (append-nil w))
-    ∙ append_assoc old (32 ∷ (w ++ v)) rest
-
-pub word_parts_later : {A E : Type 0} (r : Result A E) (old first second new v rest : List ℕ) (w : List ℕ) → first ≡ old ++ 32 ∷ (w ++ []) → second ≡ first ++ v → OnOk r (new ≡ second ++ rest) → OnOk r (new ≡ old ++ 32 ∷ ((w ++ v) ++ rest))
-word_parts_later (Ok a) old first second new v rest w p q h = word_parts old first second new v rest w p q h
-word_parts_later (Err e) old first second new v rest w p q h = tt
 
 -- three words
 pub three_pushed : {A E : Type 0} (r : Result A E) (old a b new w v u : List ℕ) → a ≡ old ++ spaced (w ∷ []) → b ≡ a ++ spaced (v ∷ []) → OnOk r (new ≡ b ++ spaced (u ∷ [])) → OnOk r (new ≡ old ++ spaced (w ∷ v ∷ u ∷ []))

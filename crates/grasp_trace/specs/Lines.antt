@@ -25,7 +25,7 @@ datagram_words link neighbour = codes "datagram" ∷ decimal link ∷ decimal ne
 -- its message, or how many bytes it has where it is none
 abbrev pub content_words : ℕ → Result Message OneFault → List (List ℕ)
 content_words count (Ok message) = line_of message ∷ []
-content_words count (Err fault) = codes "of" ∷ decimal count ∷ codes "bytes, which are no message" ∷ []
+content_words count (Err fault) = codes "no message in" ∷ decimal count ∷ codes "bytes" ∷ []
 
 -- the line of a datagram of so many bytes that are decoded to this
 abbrev pub datagram_line : List ℕ → ℕ → ℕ → ℕ → Result Message OneFault → List ℕ
@@ -44,7 +44,7 @@ message_line what stream message = line_text what (codes "message" ∷ decimal s
 
 -- the line of bytes that are no message, at this place of a direction of a stream
 abbrev pub fault_line : List ℕ → ℕ → ℕ → List ℕ
-fault_line what stream place = line_text what (codes "bytes" ∷ (decimal stream ++ codes ", which are no message at") ∷ decimal place ∷ [])
+fault_line what stream place = line_text what (codes "stream" ∷ decimal stream ∷ codes "no message at" ∷ decimal place ∷ [])
 
 -- the line of a stream that a peer opened
 abbrev pub opening_line : ℕ → Address → List ℕ

@@ -55,7 +55,7 @@ fn other_datagram(
     neighbour: u8,
     count: u64,
 ) -> Result<String, OutOfMemory>
-    ensures { IfOk result (λ t. string_bytes t ≡ line_text what.now (datagram_words link neighbour ++ codes "of" ∷ decimal count ∷ codes "bytes, which are no message" ∷ [])) }
+    ensures { IfOk result (λ t. string_bytes t ≡ line_text what.now (datagram_words link neighbour ++ codes "no message in" ∷ decimal count ∷ codes "bytes" ∷ [])) }
 {
     let mut text = begun(alloc, what)?;
     push_other(&mut text, link, neighbour, count)?;
@@ -178,7 +178,7 @@ fn push_told(
 /// Appends the words of a datagram of so many bytes that are no message.
 #[tactic(auto, using(crate::proofs::Lining::pushes))]
 fn push_other(out: &mut String, link: u8, neighbour: u8, count: u64) -> Result<(), OutOfMemory>
-    ensures { OnOk result (string_bytes out.new ≡ string_bytes out.old ++ spaced (datagram_words link neighbour ++ codes "of" ∷ decimal count ∷ codes "bytes, which are no message" ∷ [])) }
+    ensures { OnOk result (string_bytes out.new ≡ string_bytes out.old ++ spaced (datagram_words link neighbour ++ codes "no message in" ∷ decimal count ∷ codes "bytes" ∷ [])) }
 {
     push_datagram(out, link, neighbour)?;
     push_count(out, count)
@@ -187,11 +187,11 @@ fn push_other(out: &mut String, link: u8, neighbour: u8, count: u64) -> Result<(
 /// Appends how many bytes there are that are no message.
 #[tactic(auto, using(crate::proofs::Lining::pushes))]
 fn push_count(out: &mut String, count: u64) -> Result<(), OutOfMemory>
-    ensures { OnOk result (string_bytes out.new ≡ string_bytes out.old ++ spaced (codes "of" ∷ decimal count ∷ codes "bytes, which are no message" ∷ [])) }
+    ensures { OnOk result (string_bytes out.new ≡ string_bytes out.old ++ spaced (codes "no message in" ∷ decimal count ∷ codes "bytes" ∷ [])) }
 {
-    push_word(out, "of")?;
+    push_word(out, "no message in")?;
     push_number(out, count)?;
-    push_word(out, "bytes, which are no message")
+    push_word(out, "bytes")
 }
 
 /// Appends the words of a message on a stream.
@@ -212,18 +212,19 @@ fn push_message(
 /// Appends the words of bytes of a stream that are no message.
 #[tactic(auto, using(crate::proofs::Lining::pushes))]
 fn push_fault(out: &mut String, stream: u64, place: u64) -> Result<(), OutOfMemory>
-    ensures { OnOk result (string_bytes out.new ≡ string_bytes out.old ++ spaced (codes "bytes" ∷ (decimal stream ++ codes ", which are no message at") ∷ decimal place ∷ [])) }
+    ensures { OnOk result (string_bytes out.new ≡ string_bytes out.old ++ spaced (codes "stream" ∷ decimal stream ∷ codes "no message at" ∷ decimal place ∷ [])) }
 {
-    push_word(out, "bytes")?;
-    push_place(out, stream, place)
+    push_word(out, "stream")?;
+    push_number(out, stream)?;
+    push_place(out, place)
 }
 
-/// Appends a stream and a place of it.
-fn push_place(out: &mut String, stream: u64, place: u64) -> Result<(), OutOfMemory>
-    ensures { OnOk result (string_bytes out.new ≡ string_bytes out.old ++ spaced ((decimal stream ++ codes ", which are no message at") ∷ decimal place ∷ [])) }
+/// Appends the place of bytes that are no message.
+#[tactic(auto, using(crate::proofs::Lining::pushes))]
+fn push_place(out: &mut String, place: u64) -> Result<(), OutOfMemory>
+    ensures { OnOk result (string_bytes out.new ≡ string_bytes out.old ++ spaced (codes "no message at" ∷ decimal place ∷ [])) }
 {
-    push_number(out, stream)?;
-    out.push_str(", which are no message at")?;
+    push_word(out, "no message at")?;
     push_number(out, place)
 }
 

@@ -27,11 +27,11 @@ const FAILING: &[u64] = &[5, 6, 7, 8];
 /// The lines of all this.
 const LINES: &str = "\
 received datagram 1 2 wait 1 5000
-received datagram 1 2 of 1 bytes, which are no message
+received datagram 1 2 no message in 1 bytes
 received opening 1 7f000001
 received message 1 noop
 received message 1 wait 1 5000
-received bytes 1, which are no message at 8
+received stream 1 no message at 8
 received closing 1
 sent datagram 3 4 noop
 sent dial 0 v4 7f000001 tcp 7017

@@ -3,4 +3,4 @@ use Rattle.grasp_trace.proofs.Lining.{three_pushed}
 use Rattle.grasp_trace.proofs.lines.push_count.Goals as goal
 
 pub returns : goal.returns
-returns c = three_pushed c.push_word-2.result _ _ _ _ (codes "of") (decimal c.args.count) (codes "bytes, which are no message") c.in_ok-push_word.ensures.text c.in_ok-push_number.ensures.text c.push_word-2.ensures.text
+returns c = three_pushed c.push_word-2.result _ _ _ _ (codes "no message in") (decimal c.args.count) (codes "bytes") c.in_ok-push_word.ensures.text c.in_ok-push_number.ensures.text c.push_word-2.ensures.text
