@@ -42,12 +42,6 @@ pub owner_at_place : (r : Registrations) (asa : ℕ) (name : List ℕ) (i : ℕ)
 owner_at_place r asa name i place =
     rw (place.owned (record { owner = 0; name = []; flags = 0; listening = false; offered = None })) refl
 
--- the answer goes by the flags of what stands at the place
-pub wanted_at_place : (r now : Registrations) (asa : ℕ) (name : List ℕ) (i : ℕ) (a : Registered) (wanted : ℕ → Bool) (refused : ApiRefused) → r ≡ now → IsPlaceOf now asa name i → a ≡ slice_index_or r.objectives i a → wanted_answer wanted refused (owned_answer now asa name) ≡ (if wanted a.flags then Ok tt else Err refused)
-wanted_at_place r now asa name i a wanted refused same place at =
-    let here : a ≡ slice_index_or now.objectives i a = subst (λ s. a ≡ slice_index_or s.objectives i a) same at in
-    rw (place.owned a) (ap (λ o. if wanted o.flags then Ok tt else Err refused) (sym here))
-
 if_ok : (b : Bool) (e : ApiRefused) → ◌≡◌ {A = Result (Unit {0}) ApiRefused} (if b then Ok tt else Err e) (Ok tt) → b ≡ true
 if_ok true e h = refl
 if_ok false e h = absurd (cc)

@@ -1,7 +1,6 @@
 -- Roots with which a pool opens, and roots with which it doesn't.
 use Rattle.std.proofs.Common.{◌≡◌, ◌<◌, ◌≤◌, List, length, Err, refl, arith}
-use Rattle.grasp_pool.specs.Answers.{IsOpened, IsRootFault}
-use Rattle.grasp_pool.specs.Holdings.{Holding}
+use Rattle.grasp_pool.specs.Answers.{IsRootFault}
 use Rattle.grasp_pool.specs.declared.fault.PoolFault.{PoolFault}
 use Rattle.grasp_pool.specs.declared.fault.PoolFault.TheVariants.{TooMany, BadRoot, Overlap, OutOfMemory}
 use Rattle.grasp_pool.specs.declared.roots.RootPrefix.{RootPrefix}
@@ -12,9 +11,6 @@ use Rattle.grasp_config.specs.declared.fault.ConfigKey.TheVariants as key
 
 abbrev pub no_root : RootPrefix
 no_root = record { address = 0; length = 0 }
-
-pub opened_roots : (roots : List RootPrefix) (pool : Holding) → IsOpened roots pool → AreRoots roots
-opened_roots roots pool opened = record { few = opened.few; valid = opened.valid; apart = opened.apart }
 
 -- the roots are bad where the fault says so
 pub refused_roots : (roots : List RootPrefix) (fault : PoolFault) → IsRootFault roots fault → IfBadConfig {A = Unit {0}} (Err (fault_of fault)) (λ k. (k ≡ key.Roots) × (¬ AreRoots roots))

@@ -1,5 +1,5 @@
 -- What the loops over cached locators leave.
-use Rattle.std.proofs.Common.{zero, suc, ◌≡◌, ℕ, ◌<◌, ◌≤◌, Bool, true, false, cond, ◌||◌, nat_lt, max, List, [], ◌∷◌, ◌++◌, length, map, get_or, set, Option, None, Some, is_some, refl, sym, ap, ◌∙◌, true≢false, lt-ltb, subst, arith}
+use Rattle.std.proofs.Common.{zero, suc, ◌≡◌, ℕ, ◌<◌, ◌≤◌, Bool, true, false, cond, ◌||◌, nat_lt, max, List, [], ◌∷◌, ◌++◌, length, get_or, set, Option, None, Some, is_some, refl, sym, ap, ◌∙◌, true≢false, lt-ltb, subst, arith}
 use Rattle.std.specs.Prelude.{IsSome, position}
 use Rattle.std.specs.Map.{lookup}
 use Rattle.indexmap.specs.IndexMap.{insert_entry}
@@ -9,7 +9,7 @@ use Rattle.grasp_discovery.specs.declared.topic.Topic.{Topic}
 use Rattle.grasp_types.specs.Same.{same_locator}
 use Rattle.grasp_discovery.specs.Discoveries.{some_of, or_none, locators_of, live, put_locator, keep_locator, keep_locators, has_locator, cached_under, has_topic, has_place, put_entry, after_response}
 use Rattle.grasp_discovery.specs.Topic.{same_topic}
-use Rattle.grasp_discovery.proofs.Lists.{map_append, found, any_found, any_missed, is_some_lookup}
+use Rattle.grasp_discovery.proofs.Lists.{found, any_found, any_missed, is_some_lookup}
 
 abbrev later : Cached → ℕ → Cached
 later old last = record { locator = old.locator; end = max old.end last }
@@ -18,10 +18,6 @@ later old last = record { locator = old.locator; end = max old.end last }
 pub some_more : {X : Type 0} (xs : List X) (x : X) → Some (or_none (some_of xs) ++ x ∷ []) ≡ some_of (xs ++ x ∷ [])
 some_more [] x = refl
 some_more (y ∷ ys) x = refl
-
--- the locators of those before, and of one more
-pub locators_more : (before : List Cached) (one : Cached) → Some (or_none (locators_of before) ++ one.locator ∷ []) ≡ locators_of (before ++ one ∷ [])
-locators_more before one = some_more (map (λ c. c.locator) before) one.locator ∙ ap some_of (sym (map_append (λ c. c.locator) before (one ∷ [])))
 
 -- where one of them ends later, there are some that do
 pub some_live : (now : ℕ) (cs : List Cached) (i : ℕ) (one : Cached) → i < length cs → one ≡ get_or cs i one → now < one.end → IsSome (locators_of (live now cs))

@@ -57,10 +57,6 @@ pub fold_append : {X Y : Type 0} (f : Y → X → Y) (y : Y) (xs : List X) (x : 
 fold_append f y [] x = refl
 fold_append f y (z ∷ zs) x = fold_append f (f y z) zs x
 
--- the fold of one more
-pub fold_more : {X Y : Type 0} (f : Y → X → Y) (y : Y) (xs : List X) (i : ℕ) (x : X) → slice_get xs i ≡ Some x → fold f y (take (i + 1) xs) ≡ f (fold f y (take i xs)) x
-fold_more f y xs i x e = ap (fold f y) (take_one_more xs i x e) ∙ fold_append f y (take i xs) x
-
 -- a look-up finds something exactly where a key passes
 pub is_some_lookup : {K V : Type 0} (test : K → Bool) (es : List (K × V)) → is_some (lookup test es) ≡ list_any (λ e. test e.0) es
 is_some_lookup test [] = refl

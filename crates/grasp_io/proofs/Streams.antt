@@ -1,10 +1,10 @@
 -- What several reads or writes do together to the known bytes.
-use Rattle.std.proofs.Common.{◌≡◌, ◌<◌, ◌≤◌, ◌+◌, ◌-◌, ℕ, List, [], ◌++◌, length, take, drop, Option, None, Some, IfSome, refl, sym, ap, ◌∙◌, subst, arith, append-nil, append_assoc, take-append-drop, length-append}
+use Rattle.std.proofs.Common.{◌≡◌, ◌≤◌, ◌+◌, ◌-◌, ℕ, List, [], ◌++◌, length, take, drop, Option, None, Some, refl, sym, ap, ◌∙◌, subst, arith, append-nil, append_assoc, take-append-drop, length-append}
 use Rattle.std.proofs.Math.Seq.{take-append-add}
 use Rattle.std.proofs.lemmas.List.{take_rest}
 use Rattle.std.specs.Io.KnownBytes.{Appends, Consumes}
 use Rattle.std.proofs.lemmas.Grind.{common_steps}
-use Rattle.grasp_io.specs.Known.{EndsExactly, IsEndOf, AppendsFront, Passes}
+use Rattle.grasp_io.specs.Known.{IsEndOf, AppendsFront, Passes}
 
 take_front : (done rest : List ℕ) (n : ℕ) → n ≡ length done → take n (done ++ rest) ≡ done
 take_front done rest n e = grind (arith, common_steps)
@@ -19,14 +19,6 @@ drop_front done rest n e = grind (arith, common_steps)
 pub goes_on : (all done rest : List ℕ) (n : ℕ) → all ≡ done ++ rest → all ≡ (done ++ take n rest) ++ take (length rest - n) (drop n rest)
 goes_on all done rest n e =
     e ∙ ap (λ l. done ++ l) (sym (take-append-drop n rest)) ∙ sym (append_assoc done (take n rest) (drop n rest)) ∙ ap (λ l. (done ++ take n rest) ++ l) (sym (take_rest rest n))
-
--- what was appended is a front of it and more
-pub Appends-front : (a b : Option (List ℕ)) (done rest : List ℕ) → Appends a b done → AppendsFront a b (done ++ rest)
-Appends-front None b done rest p = tt
-Appends-front (Some x) None done rest p = absurd p
-Appends-front (Some x) (Some y) done rest p =
-    let n : length y - length x ≡ length done = omega (arith, ap length p, length-append x done) in
-    p ∙ ap (λ l. x ++ l) (sym (take_front done rest _ n))
 
 -- after these bytes, a front of more
 pub appends_then_front : (a b c : Option (List ℕ)) (bytes more : List ℕ) → Appends a b bytes → AppendsFront b c more → AppendsFront a c (bytes ++ more)
@@ -46,25 +38,6 @@ Consumes-end (Some x) None bytes p = absurd p
 Consumes-end (Some x) (Some y) bytes p =
     let n : length x - length y ≡ length bytes = omega (arith, ap length p, length-append bytes y) in
     sym (drop_front bytes y _ n) ∙ ap (drop (length x - length y)) (sym p)
-
--- where a read after these bytes gave nothing, they were all
-pub Consumes-all : (a b c : Option (List ℕ)) (bytes block : List ℕ) (n : ℕ) → n ≡ 0
-    → Consumes a b bytes → Consumes b c (take n block) → EndsExactly b n
-    → IfSome a (λ all. (bytes ≡ all) × (c ≡ Some []))
-Consumes-all None b c bytes block n none p q e = tt
-Consumes-all (Some x) None c bytes block n none p q e = absurd p
-Consumes-all (Some x) (Some y) None bytes block n none p q e = absurd q
-Consumes-all (Some x) (Some y) (Some z) bytes block n none p q e =
-    let nothing : y ≡ [] = e.0 none in
-    let same : y ≡ z = q ∙ ap (λ k. take k block ++ z) none in
-    (sym (append-nil bytes) ∙ ap (λ l. bytes ++ l) (sym nothing) ∙ sym p, ap Some (sym same ∙ nothing))
-
--- what was consumed is at most what there was
-pub Consumes-longer : (a b : Option (List ℕ)) (bytes : List ℕ) (limit : ℕ) → Consumes a b bytes → limit < length bytes
-    → IfSome a (λ rest. limit < length rest)
-Consumes-longer None b bytes limit p h = tt
-Consumes-longer (Some x) None bytes limit p h = absurd p
-Consumes-longer (Some x) (Some y) bytes limit p h = omega (arith, ap length p, length-append bytes y)
 
 -- ---- a buffer in front of a sink
 

@@ -124,10 +124,6 @@ buddy_valid p v h =
 pub of_three : (F : ℕ → ℕ → ℕ → Type 0) (h a l h' a' l' : ℕ) → h' ≡ h → a' ≡ a → l' ≡ l → F h a l → F h' a' l'
 of_three F h a l h' a' l' e f g x = subst (λ n. F n a' l') (sym e) (subst (λ n. F h n l') (sym f) (subst (λ n. F h a n) (sym g) x))
 
--- the other half begins within the addresses
-pub buddy_fits : (p : Prefix) → IsValid p → 2 ≤ p.length → (buddy_of p).address < 2 ^ 128
-buddy_fits p v h = (buddy_valid p v h).within
-
 -- the halves, from what their parts were computed of
 pub lower_from : (w p : Prefix) (a l : ℕ) → p ≡ record { address = a; length = l + 1 } → a ≡ w.address → l ≡ w.length → p ≡ lower w
 lower_from w p a l e f g = e ∙ same_prefix (record { address = a; length = l + 1 }) (lower w) f (ap (λ n. n + 1) g)

@@ -149,13 +149,6 @@ taken_index ps new i p table rising index within e is =
     let has : Contains ps p = (i, within, sym e)
     in subst (λ xs. IsIndex (p ∷ xs) table) (sym is) (removed_index ps (without p.address ps) p table (without_members p ps rising has) has index)
 
--- an empty list has none
-pub empty_index : (table : List (Option Prefix)) → length table ≡ 129 → ((n : ℕ) (d : Option Prefix) → n < 129 → slice_index_or table n d ≡ None) → IsIndex [] table
-empty_index table size none = record {
-  size = size;
-  firsts = λ n d lt. subst (IsFirstOf [] n) (sym (none n d lt)) (λ q h. absurd (Rattle.grasp_pool.proofs.Unique.none_in q h));
-}
-
 -- the first entry that is no longer stands after longer ones alone
 pub narrow_first : (ps : List Prefix) (n i : ℕ) (w : Prefix) → IsRising ps → IsFirstOf ps n (Some w) → i < length ps → slice_index_or ps i w ≡ w → IsNarrow ps n i
 narrow_first ps n i w rising first within at k d lt within' = elim (cases_lt n (slice_index_or ps k d).length) [

@@ -315,9 +315,6 @@ live_is t z n st e = e ∙ zip_count t.places z.places st.places
 pub full_same : (t : Table) (z : Sessions) → Stands t z → full_in t ≡ is_full z
 full_same t z st = rw (zip_count t.places z.places st.places, st.made) refl
 
-pub full_is : (t : Table) (z : Sessions) (b : Bool) → Stands t z → b ≡ full_in t → b ≡ is_full z
-full_is t z b st e = e ∙ full_same t z st
-
 pub if_some_map : {A : Type 0} (P Q : A → Type 0) (o : Option A) → ((a : A) → P a → Q a) → IfSome o P → IfSome o Q
 if_some_map P Q None f p = tt
 if_some_map P Q (Some a) f p = f a p

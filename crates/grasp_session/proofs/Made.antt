@@ -180,10 +180,6 @@ abbrev received : Message → Option SessionState → Received
 received m None = Ignored
 received m (Some x) = receive x.view m
 
-abbrev kept_state : Sessions → Handle → ℕ → Message → Option SessionState → Sessions
-kept_state z h now m None = z
-kept_state z h now m (Some x) = changed z h (with_transcript x (after_received x.view now m Kept))
-
 takes_state : (z : Sessions) (now stream : ℕ) (m : Message) (n : ℕ) (h : Handle) (x : SessionState) (r : Received) → on_stream z stream ≡ Some h
     → session_at z h ≡ Some x → receive x.view m ≡ r → Sound z
     → Sound (after_receive z now stream m r) → session_made (after_receive z now stream m r) n

@@ -42,9 +42,6 @@ far_other : (s : Side) → Far ≡ other s → s ≡ Near
 far_other Near e = refl
 far_other Far e = absurd (cc)
 
-own_offer : (side : Side) (x : Said) (c : List Said) → x.side ≡ side → is_side side x.side ≡ true
-own_offer side x c e = rw e (same_side side)
-
 -- where the other side may answer, it hasn't
 unanswered_step : (side : Side) (s : Side) (m : Message) (c : List Said) → MayFollow c (says s m) → turn (says s m ∷ c) ≡ other side → ended (says s m ∷ c) ≡ false
     → (turn c ≡ other side → ended c ≡ false → answered side c ≡ false) → answered side (says s m ∷ c) ≡ false

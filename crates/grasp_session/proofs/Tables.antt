@@ -1,6 +1,6 @@
 -- What a table keeps of its sessions, place by place.
 use Rattle.std.proofs.Common.{◌≡◌, ℕ, zero, suc, ◌+◌, ◌<◌, ◌≤◌, Bool, true, false, cond, ◌&&◌, List, [], ◌∷◌, length, Option, Some, None, Result, Err, is_some, is_none, count_by, slice_index_or, slice_set, nat_lt, nat_le, ◌==◌, bytes_eq, refl, sym, ap, ◌∙◌, subst, arith}
-use Rattle.std.proofs.lemmas.Bool.{cond-true, cond-false, ltb-true, ltb-false}
+use Rattle.std.proofs.lemmas.Bool.{cond-true, cond-false, ltb-false}
 use Rattle.std.proofs.lemmas.List.{set-get_or, length-set, get_or_past}
 use Rattle.std.proofs.lemmas.List.Sums.{sum_by-cons}
 use Rattle.std.specs.List.{AllZip, position, position_or_len}
@@ -160,19 +160,6 @@ find_none t z h st e = none_in (session_at z h) (subst (λ o. StandsAt o (sessio
 pub record Seated (l : List (Option Session)) (h : Handle) (s : Session) : Type 0 where
   pub place : h.place < 64
   pub slot_is : slot l h.place ≡ Some s
-
-number_some : (n : ℕ) (o : Option Session) (s : Session) → if_number (λ s. s.number) n o ≡ Some s → o ≡ Some s
-number_some n None s e = absurd (cc)
-number_some n (Some r) s e = by_test (r.number == n) e where
-  by_test : (b : Bool) → cond b (Some r) None ≡ Some s → Some r ≡ Some s
-  by_test true f = f
-  by_test false f = absurd (cc)
-
-pub seated : (l : List (Option Session)) (h : Handle) (s : Session) → kept_at l h ≡ Some s → Seated l h s
-seated l h s e = by_test (nat_lt h.place 64) refl e where
-  by_test : (b : Bool) → nat_lt h.place 64 ≡ b → cond b (if_number (λ s. s.number) h.number (slot l h.place)) None ≡ Some s → Seated l h s
-  by_test true f g = record { place = ltb-true h.place 64 f; slot_is = number_some h.number (slot l h.place) s g }
-  by_test false f g = absurd (cc)
 
 state_some : (n : ℕ) (o : Option SessionState) (x : SessionState) → if_number (λ x. x.number) n o ≡ Some x → o ≡ Some x
 state_some n None x e = absurd (cc)

@@ -5,9 +5,9 @@ use Rattle.grasp_cbor.specs.ItemReader.{EndsWith}
 use Rattle.grasp_cbor.specs.declared.walker.FaultName.TheVariants as name
 use Rattle.grasp_cbor.specs.declared.read.ItemFault.{ItemFault}
 use Rattle.grasp_cbor.specs.declared.read.ItemFault.TheVariants.{Malformed, NotText, TooDeep, TooLong, OutOfMemory}
-use Rattle.grasp_wire.specs.ReadOn.{AnswersRest, cut_of, taken_at}
+use Rattle.grasp_wire.specs.ReadOn.{AnswersRest, cut_of}
 use Rattle.grasp_wire.specs.Stream.{too_long, faulty}
-use Rattle.grasp_wire.specs.Stands.{AnswersFound, taken_with}
+use Rattle.grasp_wire.specs.Stands.{AnswersFound}
 
 -- the slice from the start on
 pub kept_rest : (view held : List ℕ) (start : ℕ) → view ≡ held → take (length view - start) (drop start view) ≡ drop start held
@@ -30,14 +30,6 @@ fault_tells rest limit before (NotText at) h = (record { kind = faulty name.NotT
 fault_tells rest limit before (TooDeep at) h = (record { kind = faulty name.TooDeep at; kind_is = h; fault_is = refl }, refl)
 fault_tells rest limit before TooLong h = (record { kind = too_long; kind_is = h; fault_is = refl }, refl)
 fault_tells rest limit before OutOfMemory h = absurd h
-
--- how many bytes of the stream were taken then
-pub taken_there : (rest : List ℕ) (limit before : ℕ) (f : ItemFault) → EndsWith rest limit f → taken_with limit (cut_of before f) ≡ before + taken_at limit f
-taken_there rest limit before (Malformed at) h = omega arith
-taken_there rest limit before (NotText at) h = omega arith
-taken_there rest limit before (TooDeep at) h = omega arith
-taken_there rest limit before TooLong h = refl
-taken_there rest limit before OutOfMemory h = absurd h
 
 -- the slice of the first so many
 pub kept_front : (view held : List ℕ) (start used : ℕ) → view ≡ held → take ((start + used) - start) (drop start view) ≡ take used (drop start held)

@@ -73,9 +73,6 @@ pub record AreRead {X : Type 0} (item : X → DataItem) (P : X → Type 0) (xs :
   pub each : All P xs
   pub counted : length xs ≡ count
 
-pub one_read : {X : Type 0} (item : X → DataItem) (P : X → Type 0) (x : X) (bytes rest : List ℕ) → Leads (item x) bytes rest → P x → AreRead item P (x ∷ []) 1 bytes rest
-one_read item P x bytes rest h p = record { leads = (rest, h, refl); each = All-push P [] x (λ k d lt. absurd (omega arith)) p; counted = refl }
-
 -- one more
 pub one_more_read : {X : Type 0} (item : X → DataItem) (P : X → Type 0) (xs : List X) (x : X) (count : ℕ) (bytes middle rest : List ℕ) → AreRead item P xs count bytes middle → Leads (item x) middle rest → P x
     → AreRead item P (xs ++ x ∷ []) (count + 1) bytes rest
