@@ -113,6 +113,9 @@ class Messages:
 
 
 def main():
+    if not sys.argv[1:] or sys.argv[1] in ("-h", "--help"):
+        print(__doc__.strip(), file=sys.stdout if sys.argv[1:] else sys.stderr)
+        sys.exit(0 if sys.argv[1:] else 2)
     limit = int(sys.argv[1])
     messages = Messages(int(sys.argv[2]) if len(sys.argv) > 2 else 1)
     out, size = [], 0

@@ -38,6 +38,9 @@ def run(crate, number):
 
 
 def main():
+    if sys.argv[1:2] in (["-h"], ["--help"]):
+        print(__doc__.strip())
+        sys.exit()
     bad = 0
     for crate in sys.argv[1:] or crates_with_tests():
         number, runs = 1, 0

@@ -77,6 +77,9 @@ def is_well(whole, ended):
 
 
 def main():
+    if sys.argv[1:2] in (["-h"], ["--help"]):
+        print(__doc__.strip())
+        sys.exit()
     program = sys.argv[1] if sys.argv[1:] else str(TOP / "crates" / "grasp_replay" / "out" / "grasp_replay")
     bad = 0
     with tempfile.TemporaryDirectory() as name:
