@@ -2,6 +2,7 @@
 use Rattle.std.proofs.Common.{◌≡◌, ◌⊎◌, inl, inr, ℕ, zero, suc, ◌+◌, ◌-◌, ◌%◌, ◌<◌, ◌≤◌, ◌&&◌, nat_le, nat_lt, Bool, true, false, cond, List, [], ◌∷◌, ◌++◌, Contains, Option, Some, None, MatchOption, refl, sym, ap, subst, ◌∙◌, arith, rules}
 use Rattle.std.proofs.lemmas.Bool.Decides.{nat_tests}
 use Rattle.std.proofs.lemmas.List.Elements.{Contains-append_cases}
+use Rattle.grasp_cbor.proofs.Facts.Lists.{same_first}
 use Rattle.grasp_cbor.specs.DataItem.{DataItem}
 use Rattle.grasp_types.specs.Prefix.{AddressBlock as Prefix}
 use Rattle.grasp_pool.specs.Canonical.{IsLowestFree, HasNoFree}
@@ -70,9 +71,6 @@ pub cons_cases : (x y : ℕ) (xs : List ℕ) → Contains (x ∷ xs) y → (x �
 cons_cases x y xs (zero, lt, is) = inl is
 cons_cases x y xs (suc k, lt, is) = inr (k, omega arith, is)
 
-pub head_same : (x y : ℕ) (xs ys : List ℕ) → x ∷ xs ≡ y ∷ ys → x ≡ y
-head_same x y xs ys e = cc
-
 pub tail_same : (x y : ℕ) (xs ys : List ℕ) → x ∷ xs ≡ y ∷ ys → xs ≡ ys
 tail_same x y xs ys e = cc
 
@@ -102,7 +100,7 @@ taken_first h n ns p low = record { tried = subst (λ (m : ℕ). Contains (n ∷
     before : (front rest : List ℕ) → n ∷ ns ≡ front ++ p.length ∷ rest → ¬ Contains front p.length → (m : ℕ) → Contains front m → HasNoFree h.free m
     before [] rest e unseen m has = absurd (none_in m has)
     before (f ∷ fs) rest e unseen m has =
-        let same : f ≡ p.length = sym (head_same n f ns (fs ++ p.length ∷ rest) e) ∙ sym low.length
+        let same : f ≡ p.length = sym (same_first n f ns (fs ++ p.length ∷ rest) e) ∙ sym low.length
         in absurd (unseen (subst (λ (x : ℕ). Contains (f ∷ fs) x) same (cons_first f fs)))
 
 taken_later : (h : Holding) (n : ℕ) (ns : List ℕ) (p : Prefix) → HasNoFree h.free n → IsFirstFree h ns p → IsFirstFree h (n ∷ ns) p
@@ -111,7 +109,7 @@ taken_later h n ns p none later = record { tried = cons_more n p.length ns later
     before : (front rest : List ℕ) → n ∷ ns ≡ front ++ p.length ∷ rest → ¬ Contains front p.length → (m : ℕ) → Contains front m → HasNoFree h.free m
     before [] rest e unseen m has = absurd (none_in m has)
     before (f ∷ fs) rest e unseen m has = elim (cons_cases f m fs has) [
-      | inl same ↦ subst (λ (x : ℕ). HasNoFree h.free x) (head_same n f ns (fs ++ p.length ∷ rest) e ∙ same) none
+      | inl same ↦ subst (λ (x : ℕ). HasNoFree h.free x) (same_first n f ns (fs ++ p.length ∷ rest) e ∙ same) none
       | inr more ↦ later.before fs rest (tail_same n f ns (fs ++ p.length ∷ rest) e) (λ k. unseen (cons_more f p.length fs k)) m more
     ]
 

@@ -1,5 +1,5 @@
 -- What a decision rests on: a prefix that is offered was given, and one that is accepted is valid and can be gained.
-use Rattle.std.proofs.Common.{◌≡◌, ℕ, zero, suc, ◌+◌, ◌-◌, ◌%◌, ◌^◌, ◌≤◌, List, [], ◌∷◌, ◌++◌, length, slice_get, Bool, true, false, cond, ◌&&◌, nat_lt, nat_le, nat_eq, Option, Some, None, refl, sym, subst, arith, IfSome}
+use Rattle.std.proofs.Common.{◌≡◌, ℕ, zero, suc, ◌+◌, ◌-◌, ◌%◌, ◌^◌, ◌≤◌, List, [], ◌∷◌, ◌++◌, length, slice_get, Bool, true, false, cond, ◌&&◌, nat_lt, nat_le, nat_eq, Option, Some, None, refl, sym, subst, arith, IfSome, ltb-true}
 use Rattle.std.proofs.lemmas.Bool.{leb-true, eqb-true}
 use Rattle.grasp_cbor.specs.DataItem.{DataItem, array, items_in}
 use Rattle.grasp_types.specs.Prefix.{AddressBlock as Prefix, IsPrefix, size_of}
@@ -7,7 +7,6 @@ use Rattle.grasp_types.proofs.Multiples.{multiple_of_mod}
 use Rattle.grasp_pool.specs.Holdings.{Holding}
 use Rattle.grasp_pool.specs.Pools.{IsPool}
 use Rattle.grasp_pool.specs.Functions.{take_reply, can_gain}
-use Rattle.grasp_pool.proofs.Lists.{lt_true}
 use Rattle.grasp_agent.specs.Values.{asked_in, offered_in, length_in, number_in, length_at, address_at, beside, prefix_in}
 use Rattle.grasp_agent.specs.Decisions.{upward, tries, rounded, candidates, given_or, first_given, giver_decision, requester_decision}
 use Rattle.grasp_agent.specs.declared.decision.GiverDecision.{GiverDecision}
@@ -63,7 +62,7 @@ prefix_ok (Some n) None h = tt
 prefix_ok (Some n) (Some a) h = choose (nat_lt a (2 ^ 128)) refl (nat_eq (a % size_of n) 0) refl
   where
     choose : (b : Bool) → nat_lt a (2 ^ 128) ≡ b → (c : Bool) → nat_eq (a % size_of n) 0 ≡ c → IfSome (cond (b && c) (Some (record { address = a; length = n })) None) IsValidBlock
-    choose true e true f = record { least = h.0; most = h.1; within = lt_true a (2 ^ 128) e; aligned = multiple_of_mod (size_of n) a (eqb-true (a % size_of n) 0 f) }
+    choose true e true f = record { least = h.0; most = h.1; within = ltb-true a (2 ^ 128) e; aligned = multiple_of_mod (size_of n) a (eqb-true (a % size_of n) 0 f) }
     choose true e false f = tt
     choose false e c f = tt
 
@@ -146,7 +145,7 @@ rounded_lengths true false m most = tt
 rounded_lengths true true m most = choose (nat_lt 0 m) refl
   where
     choose : (c : Bool) → nat_lt 0 m ≡ c → AreLengths (cond c (m ∷ []) [])
-    choose true e = ((lt_true 0 m e, most), tt)
+    choose true e = ((ltb-true 0 m e, most), tt)
     choose false e = tt
 
 -- two lists of lengths

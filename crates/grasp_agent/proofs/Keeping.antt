@@ -1,5 +1,5 @@
 -- What is true of every agent stays so.
-use Rattle.std.proofs.Common.{◌≡◌, ℕ, ◌+◌, ◌<◌, ◌≤◌, All, List, [], ◌∷◌, ◌++◌, length, slice_get, slice_set, drop, take, Bool, true, false, cond, nat_lt, Option, Some, None, refl, sym, ap, subst, ◌∙◌, arith, IfSome, length-append, length-set, length-take, length-drop, Contains}
+use Rattle.std.proofs.Common.{◌≡◌, ℕ, ◌+◌, ◌<◌, ◌≤◌, All, List, [], ◌∷◌, ◌++◌, length, slice_get, slice_set, drop, take, Bool, true, false, cond, nat_lt, Option, Some, None, refl, sym, ap, subst, ◌∙◌, arith, IfSome, length-append, length-set, length-take, length-drop, Contains, ltb-true}
 use Rattle.std.proofs.lemmas.List.Elements.{All-append, All-set, All-take, All-drop, All-nil, All-cons}
 use Rattle.std.proofs.lemmas.Option.{slice_get_within}
 use Rattle.grasp_types.specs.Prefix.{AddressBlock as Prefix, IsPrefix}
@@ -9,7 +9,6 @@ use Rattle.grasp_types.specs.declared.session.Outcome.{Outcome}
 use Rattle.grasp_pool.specs.Holdings.{Holding}
 use Rattle.grasp_pool.specs.Functions.{can_gain, after_back, after_gain, after_gaining}
 use Rattle.grasp_pool.proofs.Gaining.{can_gain_tells}
-use Rattle.grasp_pool.proofs.Lists.{lt_true}
 use Rattle.grasp_pool.proofs.Meanings.{gain_keeps}
 use Rattle.grasp_agent.specs.Decisions.{giver_decision, after_deciding}
 use Rattle.grasp_agent.specs.Kept.{offer_and, offers, MayAccept, accepts_in_want, MayDecline, declines_in_want, declines_in_giving, ActStands, IsFresh, IsInRange, IsIdle, IsKept}
@@ -48,7 +47,7 @@ kept_of s b few first want idle stands =
 pub opened : (s t : AgentState) → is_open s.stage ≡ true → is_open s.stage ≡ false → IsIdle t
 opened s t serves shut = absurd (cc)
 
--- and one that has an act
+-- an agent that has an act has done its opening calls
 pub acted : (s t : AgentState) (a : Act) → s.act ≡ Some a → IsKept s → is_open s.stage ≡ false → IsIdle t
 acted s t a e k shut = let none : s.act ≡ None = (k.idle shut).2 in absurd (cc)
 
@@ -100,7 +99,7 @@ offer_reserved s place g at k = choose g.offer refl
 abbrev begun : Handle → Giving
 begun h = record { handle = h; offer = None; first = true }
 
--- it offers nothing
+-- a session that offers nothing adds nothing to the offers
 begun_offers : (xs : List Giving) (h : Handle) → offers (xs ++ begun h ∷ []) ≡ offers xs
 begun_offers [] h = refl
 begun_offers (x ∷ xs) h = ap (offer_and x.offer) (begun_offers xs h)
@@ -132,7 +131,7 @@ kept_incoming s None serves k = k
 kept_incoming s (Some h) serves k = choose (nat_lt (length s.giving) 64) refl
   where
     choose : (b : Bool) → nat_lt (length s.giving) 64 ≡ b → IsKept (cond b (record s { giving = s.giving ++ begun h ∷ [] }) s)
-    choose true e = kept_begun s h (lt_true (length s.giving) 64 e) serves k
+    choose true e = kept_begun s h (ltb-true (length s.giving) 64 e) serves k
     choose false e = k
 
 -- ---- acts
@@ -168,9 +167,7 @@ kept_dropped s place h p e k =
 -- an act was refused
 pub kept_dropping : (s : AgentState) (a : Act) → s.act ≡ Some a → IsKept s → IsKept (after_dropping s a)
 kept_dropping s (act.Offer place h p) e k = kept_dropped s place h p e k
-kept_dropping s (act.Counter h n) e k = kept_idle s k
-kept_dropping s (act.Accept h p) e k = kept_idle s k
-kept_dropping s (act.Decline h reason) e k = kept_idle s k
+kept_dropping s _ e k = kept_idle s k
 
 -- an acceptance is done
 pub kept_gaining : (s : AgentState) (p : Prefix) → IsPrefix p.address p.length → IsKept s → IsKept (record s { act = None; pool = after_gaining s.pool p })
@@ -194,10 +191,8 @@ kept_gaining s p valid k = choose (can_gain s.pool p) refl
 
 -- an act is done
 pub kept_doing : (s : AgentState) (a : Act) → s.act ≡ Some a → IsKept s → IsKept (after_doing s a)
-kept_doing s (act.Offer place h p) e k = kept_idle s k
-kept_doing s (act.Counter h n) e k = kept_idle s k
 kept_doing s (act.Accept h p) e k = kept_gaining s p (act_stands s (act.Accept h p) e k).1 k
-kept_doing s (act.Decline h reason) e k = kept_idle s k
+kept_doing s _ e k = kept_idle s k
 
 -- ---- the turn of one that requests
 

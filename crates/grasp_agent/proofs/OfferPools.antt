@@ -1,13 +1,13 @@
 -- What becomes of a pool and of the offers with it.
 use Rattle.std.proofs.Common.{◌≡◌, ℕ, ◌≤◌, inl, List, ◌∷◌, ◌++◌, Contains, Option, Some, None, MatchOption, sym, subst, IfSome}
 use Rattle.grasp_types.specs.Prefix.{AddressBlock as Prefix}
-use Rattle.grasp_types.specs.declared.session.By.TheVariants.{Mine, Theirs}
+use Rattle.grasp_types.specs.declared.session.By.TheVariants.{Theirs}
 use Rattle.grasp_types.specs.declared.session.Outcome.{Outcome}
 use Rattle.grasp_types.specs.declared.session.Outcome.TheVariants as outcome
 use Rattle.grasp_pool.specs.Holdings.{Holding, Reserves}
 use Rattle.grasp_pool.specs.Pools.{IsPool, IsTaken, IsNotTaken}
 use Rattle.grasp_pool.specs.Functions.{take_reply, after_take, after_back, after_confirm, after_doubt}
-use Rattle.grasp_pool.proofs.Apart.{first_in}
+use Rattle.grasp_pool.proofs.Addresses.{first_in}
 use Rattle.grasp_pool.proofs.Meanings.{take_answers, take_keeps, back_means, back_keeps, confirm_means, confirm_keeps, doubt_means, doubt_keeps}
 use Rattle.grasp_agent.specs.Kept.{offer_and}
 use Rattle.grasp_agent.specs.Replies.{giving_back, settled, settling}
@@ -27,29 +27,23 @@ module _ (h : Holding) (front back : List Prefix) (p : Prefix) (b : IsBacked h (
   has : Contains h.reserved p
   has = middle_reserved h front back p b
 
-  -- it goes back
+  -- after this offer goes back to the pool, what is reserved is the other offers
   pub backed_back : IsBacked (after_back h p) (front ++ back)
   backed_back = record { pool = back_keeps h p b.pool has; are = offer_out h.reserved (after_back h p).reserved front back p (back_means h p b.pool has).reserved b.are }
 
-  -- it is confirmed
+  -- after this offer is confirmed, what is reserved is the other offers
   pub backed_confirm : IsBacked (after_confirm h p) (front ++ back)
   backed_confirm = record { pool = confirm_keeps h p b.pool has; are = offer_out h.reserved (after_confirm h p).reserved front back p (confirm_means h p b.pool has).reserved b.are }
 
-  -- it is in doubt
+  -- after this offer is put in doubt, what is reserved is the other offers
   pub backed_doubt : IsBacked (after_doubt h p) (front ++ back)
   backed_doubt = record { pool = doubt_keeps h p b.pool has; are = offer_out h.reserved (after_doubt h p).reserved front back p (doubt_means h p b.pool has).reserved b.are }
 
-  -- its session ended
+  -- after this offer's session ended, what is reserved is the other offers
   pub backed_settled : (e : Outcome) → IsBacked (settled h p e) (front ++ back)
   backed_settled (outcome.Agreed Theirs o) = backed_confirm
-  backed_settled (outcome.Agreed Mine o) = backed_doubt
   backed_settled (outcome.Declined Theirs reason) = backed_back
-  backed_settled (outcome.Declined Mine reason) = backed_doubt
-  backed_settled (outcome.Synchronized o) = backed_doubt
-  backed_settled (outcome.TimedOut deadline now) = backed_doubt
-  backed_settled outcome.Broken = backed_doubt
-  backed_settled outcome.OutOfMemory = backed_doubt
-  backed_settled (outcome.Invalid by) = backed_doubt
+  backed_settled _ = backed_doubt
 
 -- an offer that was made before goes back
 pub backed_giving_back : (h : Holding) (front back : List Prefix) (o : Option Prefix) → IsBacked h (front ++ offer_and o back) → IsBacked (giving_back h o) (front ++ back)
@@ -69,7 +63,7 @@ pub record IsGiven (h : Holding) (p : Prefix) : Type 0 where
   pub pool : IsPool (after_take h p.length (Some p))
   pub reserves : Reserves h (after_take h p.length (Some p)) p
 
--- it was all free, so that it wasn't reserved
+-- a prefix that is given was all free, so that it wasn't reserved
 pub given_new : (h : Holding) (p : Prefix) → IsPool h → IsGiven h p → ¬ Contains h.reserved p
 given_new h p pool g c = pool.held p p.address (inl c) (first_in p) (g.reserves.was p.address (first_in p))
 

@@ -64,7 +64,7 @@ rest_distinct (x ∷ front) back p h = distinct_cons x (front ++ back)
     (λ c. distinct_head x (front ++ p ∷ back) h (middle_rest front back p x c))
     (rest_distinct front back p (distinct_tail x (front ++ p ∷ back) h))
 
--- and isn't among the others
+-- one of some distinct prefixes isn't among the others
 pub rest_without : (front back : List Prefix) (p : Prefix) → Distinct (front ++ p ∷ back) → ¬ Contains (front ++ back) p
 rest_without [] back p h = distinct_head p back h
 rest_without (x ∷ front) back p h = λ c. elim (cons_cases x p (front ++ back) c) [

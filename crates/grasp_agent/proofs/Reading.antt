@@ -1,10 +1,15 @@
 -- A length and a prefix are read exactly from the values that hold them.
-use Rattle.std.proofs.Common.{◌≡◌, ◌⊎◌, inl, inr, ℕ, zero, suc, ◌-◌, ◌%◌, ◌^◌, ◌<◌, ◌≤◌, ◌==◌, ◌&&◌, nat_le, nat_lt, Bool, true, false, cond, List, [], ◌∷◌, length, get_or, Option, Some, None, IfSome, IfNone, refl, sym, ap, subst, ◌∙◌, arith, rules}
-use Rattle.std.proofs.lemmas.Bool.Decides.{nat_tests, eqb_tells}
+use Rattle.std.proofs.Common.{◌≡◌, ◌⊎◌, inl, inr, ℕ, ◌-◌, ◌%◌, ◌^◌, ◌<◌, ◌≤◌, ◌==◌, ◌&&◌, nat_le, nat_lt, false, cond, List, [], ◌∷◌, length, Option, Some, None, IfSome, IfNone, refl, sym, ap, subst, ◌∙◌, arith, lt-ltb}
+use Rattle.std.proofs.lemmas.Bool.{and_right, leb-true, and_from, and_parts, le-leb, eq-eqb, eqb-true}
+use Rattle.std.proofs.lemmas.Bool.Decides.{eqb_tells}
 use Rattle.std.proofs.lemmas.Nat.{pow_pos}
+use Rattle.std.proofs.lemmas.Option.{none-some, same_Some as some_same}
 use Rattle.std.specs.Int.{to_be_bytes, from_be_bytes, w128}
-use Rattle.grasp_cbor.specs.Bytes.{AllBytes}
-use Rattle.grasp_cbor.specs.DataItem.{DataItem, DataItems, unsigned, negative, byte_string, text_string, array, mapping, tagged, simple_value, half_float, single_float, double_float, no_items, item_and, data_items, items_in, array_of}
+use Rattle.grasp_cbor.proofs.Again.{data_items-items_in, items_in-data_items}
+use Rattle.grasp_cbor.proofs.Facts.Numbers.{small_16, back_16}
+use Rattle.grasp_cbor.proofs.HeadBytes.{AllBytes-at}
+use Rattle.grasp_cbor.proofs.Takes.{chosen}
+use Rattle.grasp_cbor.specs.DataItem.{DataItem, unsigned, byte_string, array, data_items, items_in, array_of}
 use Rattle.grasp_cbor.specs.Encodable.{IsEncodable, AreEncodable}
 use Rattle.grasp_types.specs.Objective.{IsValue}
 use Rattle.grasp_types.specs.Prefix.{AddressBlock as Prefix, IsPrefix, size_of}
@@ -13,65 +18,17 @@ use Rattle.grasp_types.proofs.Multiples.{multiple_of_mod, mod_of_multiple}
 use Rattle.grasp_agent.specs.Values.{length_value, prefix_value, array_parts, number_of, bytes_of, length_in, length_at, address_in, address_at, beside, asked_in, prefix_in, offered_in}
 use Rattle.grasp_agent.specs.Laws.{AsksFor, LengthsAreRead, PrefixesAreRead}
 
--- ---- choices
-
-chosen : {A : Type 0} (b : Bool) (x y z : A) → cond b x y ≡ z → ((b ≡ true) × (x ≡ z)) ⊎ ((b ≡ false) × (y ≡ z))
-chosen true x y z h = inl (refl, h)
-chosen false x y z h = inr (refl, h)
-
-some_same : {A : Type 0} (x y : A) → Some x ≡ Some y → x ≡ y
-some_same x y e = cc
-
-none_some : {A : Type 0} (y : A) → None ≡ Some y → ⊥
-none_some y e = cc
-
-test_is : (k n : ℕ) → (k == n) ≡ true → k ≡ n
-test_is k n h = search (rules, nat_tests)
-
-is_test : (k n : ℕ) → k ≡ n → (k == n) ≡ true
-is_test k n h = search (rules, nat_tests)
-
-both_true : (a b : Bool) → (a && b) ≡ true → (a ≡ true) × (b ≡ true)
-both_true true true h = (refl, refl)
-both_true true false h = absurd (cc)
-both_true false b h = absurd (cc)
-
-true_both : (a b : Bool) → a ≡ true → b ≡ true → (a && b) ≡ true
-true_both true true h k = refl
-true_both true false h k = absurd (cc)
-true_both false b h k = absurd (cc)
-
-le_is : (a b : ℕ) → nat_le a b ≡ true → a ≤ b
-le_is a b h = search (rules, nat_tests)
-
-pub is_le : (a b : ℕ) → a ≤ b → nat_le a b ≡ true
-is_le a b h = search (rules, nat_tests)
-
-lt_is : (a b : ℕ) → nat_lt a b ≡ true → a < b
-lt_is a b h = search (rules, nat_tests)
-
-is_lt : (a b : ℕ) → a < b → nat_lt a b ≡ true
-is_lt a b h = search (rules, nat_tests)
-
 -- ---- the parts of an array
 
-items_again : (ts : List DataItem) → items_in (data_items ts) ≡ ts
-items_again [] = refl
-items_again (t ∷ ts) = ap (λ us. t ∷ us) (items_again ts)
-
 pub parts_again : (ts : List DataItem) → array_parts (array_of ts) ≡ Some ts
-parts_again ts = ap Some (items_again ts)
-
-items_found : (ts : DataItems) → data_items (items_in ts) ≡ ts
-items_found no_items = refl
-items_found (item_and t ts) = ap (item_and t) (items_found ts)
+parts_again ts = ap Some (items_in-data_items ts)
 
 -- ---- lengths
 
 in_range : (m n : ℕ) → length_in (Some m) ≡ Some n → (m ≡ n) × (1 ≤ m) × (m ≤ 128)
 in_range m n h = elim (chosen (nat_le 1 m && nat_le m 128) (Some m) None (Some n) h) [
-  | inl p ↦ let b = both_true (nat_le 1 m) (nat_le m 128) p.0 in (some_same m n p.1, le_is 1 m b.0, le_is m 128 b.1)
-  | inr p ↦ absurd (none_some n p.1)
+  | inl p ↦ let b = and_parts (nat_le 1 m) (nat_le m 128) p.0 in (some_same m n p.1, leb-true 1 m b.0, leb-true m 128 b.1)
+  | inr p ↦ absurd (none-some n p.1)
 ]
 
 -- an item that is read as a length
@@ -82,32 +39,12 @@ record IsLength (t : DataItem) (n : ℕ) : Type 0 where
 
 length_found : (t : DataItem) (n : ℕ) → length_in (number_of t) ≡ Some n → IsLength t n
 length_found (unsigned m) n h = let r = in_range m n h in subst (IsLength (unsigned m)) r.0 (record { is = refl; least = r.1; most = r.2 })
-length_found (negative m) n h = absurd (none_some n h)
-length_found (byte_string bs) n h = absurd (none_some n h)
-length_found (text_string bs) n h = absurd (none_some n h)
-length_found (array ts) n h = absurd (none_some n h)
-length_found (mapping es) n h = absurd (none_some n h)
-length_found (tagged m t) n h = absurd (none_some n h)
-length_found (simple_value m) n h = absurd (none_some n h)
-length_found (half_float m) n h = absurd (none_some n h)
-length_found (single_float m) n h = absurd (none_some n h)
-length_found (double_float m) n h = absurd (none_some n h)
+length_found _ n h = absurd (none-some n h)
 
 length_again : (n : ℕ) → 1 ≤ n → n ≤ 128 → length_in (Some n) ≡ Some n
-length_again n a b = ap (λ t. cond t (Some n) None) (true_both (nat_le 1 n) (nat_le n 128) (is_le 1 n a) (is_le n 128 b))
+length_again n a b = ap (λ t. cond t (Some n) None) (and_from (nat_le 1 n) (nat_le n 128) (le-leb 1 n a) (le-leb n 128 b))
 
 -- ---- addresses
-
-bytes_small : (bs : List ℕ) → AllBytes bs → (i : ℕ) → get_or bs i 0 < 256
-bytes_small [] h i = omega arith
-bytes_small (b ∷ bs) h zero = h.0
-bytes_small (b ∷ bs) h (suc i) = bytes_small bs h.1 i
-
-small_16 : (bs : List ℕ) → ((i : ℕ) → get_or bs i 0 < 256) → from_be_bytes w128 bs < 2 ^ 128
-small_16 bs h = omega (arith, h 0, h 1, h 2, h 3, h 4, h 5, h 6, h 7, h 8, h 9, h 10, h 11, h 12, h 13, h 14, h 15)
-
-back_16 : (n : ℕ) → n < 2 ^ 128 → from_be_bytes w128 (to_be_bytes w128 n) ≡ n
-back_16 n h = omega arith
 
 -- an item that is read as an address
 record IsAddressItem (t : DataItem) (a : ℕ) : Type 0 where
@@ -118,26 +55,17 @@ of_bytes : (bs : List ℕ) (a : ℕ) → IsEncodable (byte_string bs) → addres
 of_bytes bs a enc h = elim (chosen (length bs == 16) (Some (from_be_bytes w128 bs)) None (Some a) h) [
   | inl p ↦
       let e = some_same (from_be_bytes w128 bs) a p.1 in
-      let small = bytes_small bs enc.1 in
+      let small = AllBytes-at bs enc.1 in
       record {
-        is = ap byte_string (sym (be_bytes_16 bs a (test_is (length bs) 16 p.0) small (sym e)));
+        is = ap byte_string (sym (be_bytes_16 bs a (eqb-true (length bs) 16 p.0) small (sym e)));
         within = subst (λ (k : ℕ). k < 2 ^ 128) e (small_16 bs small);
       }
-  | inr p ↦ absurd (none_some a p.1)
+  | inr p ↦ absurd (none-some a p.1)
 ]
 
 address_found : (t : DataItem) (a : ℕ) → IsEncodable t → address_in (bytes_of t) ≡ Some a → IsAddressItem t a
-address_found (unsigned m) a enc h = absurd (none_some a h)
-address_found (negative m) a enc h = absurd (none_some a h)
 address_found (byte_string bs) a enc h = of_bytes bs a enc h
-address_found (text_string bs) a enc h = absurd (none_some a h)
-address_found (array ts) a enc h = absurd (none_some a h)
-address_found (mapping es) a enc h = absurd (none_some a h)
-address_found (tagged m t) a enc h = absurd (none_some a h)
-address_found (simple_value m) a enc h = absurd (none_some a h)
-address_found (half_float m) a enc h = absurd (none_some a h)
-address_found (single_float m) a enc h = absurd (none_some a h)
-address_found (double_float m) a enc h = absurd (none_some a h)
+address_found _ a enc h = absurd (none-some a h)
 
 address_again : (a : ℕ) → a < 2 ^ 128 → address_in (Some (to_be_bytes w128 a)) ≡ Some a
 address_again a h = ap Some (back_16 a h)
@@ -151,22 +79,20 @@ one_part (t ∷ u ∷ ts) n is h = absurd (omega arith)
 
 two_parts : (ts : List DataItem) (n a : ℕ) → length ts ≡ 2 → AreEncodable (data_items ts) → length_at ts ≡ Some n → address_at ts ≡ Some a
     → (ts ≡ unsigned n ∷ byte_string (to_be_bytes w128 a) ∷ []) × (a < 2 ^ 128)
-two_parts [] n a is enc h k = absurd (omega arith)
-two_parts (t ∷ []) n a is enc h k = absurd (omega arith)
 two_parts (t ∷ u ∷ []) n a is enc h k =
     let x = (length_found t n h).is in
     let y = address_found u a enc.1.0 k in
     (ap (λ w. w ∷ u ∷ []) x ∙ ap (λ w. unsigned n ∷ w ∷ []) y.is, y.within)
-two_parts (t ∷ u ∷ w ∷ ts) n a is enc h k = absurd (omega arith)
+two_parts _ n a is enc h k = absurd (omega arith)
 
 range_at : (ts : List DataItem) (n : ℕ) → length_at ts ≡ Some n → (1 ≤ n) × (n ≤ 128)
-range_at [] n h = absurd (none_some n h)
+range_at [] n h = absurd (none-some n h)
 range_at (t ∷ ts) n h = let r = length_found t n h in (r.least, r.most)
 
 -- ---- lengths that are asked for
 
 beside_found : (o x : Option ℕ) (n : ℕ) → beside o x ≡ Some n → ((a : ℕ) × (o ≡ Some a)) × (x ≡ Some n)
-beside_found None x n h = absurd (none_some n h)
+beside_found None x n h = absurd (none-some n h)
 beside_found (Some a) x n h = ((a, refl), h)
 
 -- the parts of a value that asks for a length
@@ -176,26 +102,17 @@ record Asking (ts : List DataItem) (n : ℕ) : Type 0 where
 
 asking_parts : (ts : List DataItem) (n : ℕ) → cond (length ts == 1) (length_at ts) (cond (length ts == 2) (beside (address_at ts) (length_at ts)) None) ≡ Some n → Asking ts n
 asking_parts ts n h = elim (chosen (length ts == 1) (length_at ts) _ (Some n) h) [
-  | inl p ↦ record { first = p.1; shape = inl (test_is (length ts) 1 p.0) }
+  | inl p ↦ record { first = p.1; shape = inl (eqb-true (length ts) 1 p.0) }
   | inr p ↦ elim (chosen (length ts == 2) (beside (address_at ts) (length_at ts)) None (Some n) p.1) [
-    | inl q ↦ let b = beside_found (address_at ts) (length_at ts) n q.1 in record { first = b.1; shape = inr (test_is (length ts) 2 q.0, b.0) }
-    | inr q ↦ absurd (none_some n q.1)
+    | inl q ↦ let b = beside_found (address_at ts) (length_at ts) n q.1 in record { first = b.1; shape = inr (eqb-true (length ts) 2 q.0, b.0) }
+    | inr q ↦ absurd (none-some n q.1)
   ]
 ]
 
 asking : (v : DataItem) (n : ℕ) → asked_in (Some v) ≡ Some n → (ts : List DataItem) × (v ≡ array_of ts) × Asking ts n
 unfolding asked_in
-asking (unsigned m) n h = absurd (none_some n h)
-asking (negative m) n h = absurd (none_some n h)
-asking (byte_string bs) n h = absurd (none_some n h)
-asking (text_string bs) n h = absurd (none_some n h)
-asking (array ts) n h = (items_in ts, ap array (sym (items_found ts)), asking_parts (items_in ts) n h)
-asking (mapping es) n h = absurd (none_some n h)
-asking (tagged m t) n h = absurd (none_some n h)
-asking (simple_value m) n h = absurd (none_some n h)
-asking (half_float m) n h = absurd (none_some n h)
-asking (single_float m) n h = absurd (none_some n h)
-asking (double_float m) n h = absurd (none_some n h)
+asking (array ts) n h = (items_in ts, ap array (sym (data_items-items_in ts)), asking_parts (items_in ts) n h)
+asking _ n h = absurd (none-some n h)
 
 pub asked_range : (v : DataItem) (n : ℕ) → asked_in (Some v) ≡ Some n → (1 ≤ n) × (n ≤ 128)
 asked_range v n h = let a = asking v n h in range_at a.0 n a.2.first
@@ -243,32 +160,27 @@ record IsMade (o q : Option ℕ) (p : Prefix) : Type 0 where
   aligned : p.address % size_of p.length ≡ 0
 
 prefix_parts : (o q : Option ℕ) (p : Prefix) → prefix_in o q ≡ Some p → IsMade o q p
-prefix_parts None q p h = absurd (none_some p h)
-prefix_parts (Some n) None p h = absurd (none_some p h)
+prefix_parts None q p h = absurd (none-some p h)
+prefix_parts (Some n) None p h = absurd (none-some p h)
 prefix_parts (Some n) (Some a) p h =
     let made : Prefix = record { address = a; length = n } in
     elim (chosen (nat_lt a (2 ^ 128) && a % size_of n == 0) (Some made) None (Some p) h) [
       | inl w ↦
-          let b = both_true (nat_lt a (2 ^ 128)) (a % size_of n == 0) w.0 in
-          subst (IsMade (Some n) (Some a)) (some_same made p w.1) (record { bits = refl; start = refl; aligned = test_is (a % size_of n) 0 b.1 })
-      | inr w ↦ absurd (none_some p w.1)
+          let b = and_parts (nat_lt a (2 ^ 128)) (a % size_of n == 0) w.0 in
+          subst (IsMade (Some n) (Some a)) (some_same made p w.1) (record { bits = refl; start = refl; aligned = eqb-true (a % size_of n) 0 b.1 })
+      | inr w ↦ absurd (none-some p w.1)
     ]
 
 made_again : (n a : ℕ) → a < 2 ^ 128 → a % size_of n ≡ 0 → prefix_in (Some n) (Some a) ≡ Some (record { address = a; length = n })
 made_again n a within e =
     ap (λ t. cond t (Some (record { address = a; length = n })) None)
-    (true_both (nat_lt a (2 ^ 128)) (a % size_of n == 0) (is_lt a (2 ^ 128) within) (is_test (a % size_of n) 0 e))
-
-not_both : (x y : Bool) → y ≡ false → (x && y) ≡ false
-not_both true true h = absurd (cc)
-not_both true false h = refl
-not_both false y h = refl
+    (and_from (nat_lt a (2 ^ 128)) (a % size_of n == 0) (lt-ltb a (2 ^ 128) within) (eq-eqb (a % size_of n) 0 e))
 
 not_test : (k n : ℕ) → ¬ (k ≡ n) → (k == n) ≡ false
 not_test k n differ = elim (eqb_tells k n) [ inl p ↦ absurd (differ p.1) | inr p ↦ p.0 ]
 
 none_again : (n a : ℕ) → ¬ (a % size_of n ≡ 0) → None ≡ prefix_in (Some n) (Some a)
-none_again n a differ = sym (ap (λ t. cond t (Some (record { address = a; length = n })) None) (not_both (nat_lt a (2 ^ 128)) (a % size_of n == 0) (not_test (a % size_of n) 0 differ)))
+none_again n a differ = sym (ap (λ t. cond t (Some (record { address = a; length = n })) None) (and_right (nat_lt a (2 ^ 128)) (a % size_of n == 0) (not_test (a % size_of n) 0 differ)))
 
 pub prefix_of : (n a : ℕ) (o : Option Prefix) → 1 ≤ n → n ≤ 128 → a < 2 ^ 128 → IfSome o (λ p. p ≡ record { address = a; length = n })
     → IfSome o (λ _. IsPrefix a n) → IfNone o (¬ IsPrefix a n) → o ≡ prefix_in (Some n) (Some a)
@@ -284,23 +196,14 @@ record Offering (ts : List DataItem) (p : Prefix) : Type 0 where
 
 offering_parts : (ts : List DataItem) (p : Prefix) → cond (length ts == 2) (prefix_in (length_at ts) (address_at ts)) None ≡ Some p → Offering ts p
 offering_parts ts p h = elim (chosen (length ts == 2) (prefix_in (length_at ts) (address_at ts)) None (Some p) h) [
-  | inl w ↦ record { two = test_is (length ts) 2 w.0; made = prefix_parts (length_at ts) (address_at ts) p w.1 }
-  | inr w ↦ absurd (none_some p w.1)
+  | inl w ↦ record { two = eqb-true (length ts) 2 w.0; made = prefix_parts (length_at ts) (address_at ts) p w.1 }
+  | inr w ↦ absurd (none-some p w.1)
 ]
 
 offering : (v : DataItem) (p : Prefix) → offered_in (Some v) ≡ Some p → (ts : List DataItem) × (v ≡ array_of ts) × Offering ts p
 unfolding offered_in
-offering (unsigned m) p h = absurd (none_some p h)
-offering (negative m) p h = absurd (none_some p h)
-offering (byte_string bs) p h = absurd (none_some p h)
-offering (text_string bs) p h = absurd (none_some p h)
-offering (array ts) p h = (items_in ts, ap array (sym (items_found ts)), offering_parts (items_in ts) p h)
-offering (mapping es) p h = absurd (none_some p h)
-offering (tagged m t) p h = absurd (none_some p h)
-offering (simple_value m) p h = absurd (none_some p h)
-offering (half_float m) p h = absurd (none_some p h)
-offering (single_float m) p h = absurd (none_some p h)
-offering (double_float m) p h = absurd (none_some p h)
+offering (array ts) p h = (items_in ts, ap array (sym (data_items-items_in ts)), offering_parts (items_in ts) p h)
+offering _ p h = absurd (none-some p h)
 
 prefix_read : (v : DataItem) (p : Prefix) → IsValue v → offered_in (Some v) ≡ Some p → IsPrefix p.address p.length × (v ≡ prefix_value p)
 prefix_read v p value h =

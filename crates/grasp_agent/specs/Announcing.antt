@@ -31,7 +31,7 @@ first_beacon number name value ttl loops = record { number = number; name = name
 unfoldable pub beacon_name : ℕ → List ℕ
 beacon_name number = codes "beacon " ++ decimal number
 
--- it registers itself and its objective, offers its value, floods it once, and offers it again and again
+-- a beacon registers itself and its objective, offers its value, floods it once, and offers it again and again
 unfoldable pub beacon_call : BeaconState → Call
 beacon_call b = by_step b.step where
   by_step : Step → Call
@@ -73,7 +73,7 @@ first_reader number name = record { number = number; name = name; asa = 0; regis
 unfoldable pub reader_name : ℕ → List ℕ
 reader_name number = codes "reader " ++ decimal number
 
--- it registers itself, and reads again and again
+-- a reader registers itself, and reads what floods reported of its objective again and again
 unfoldable pub reader_call : ReaderState → Call
 reader_call r = if r.registered then call.GetFlood r.name else call.RegisterAsa (reader_name r.number)
 

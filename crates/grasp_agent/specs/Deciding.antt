@@ -61,7 +61,7 @@ RequesterDecides h wanted longest v loops (requester.Decline TooSmall) = (p : Pr
 RequesterDecides h wanted longest v loops (requester.Decline NotTaken) =
     (p : Prefix) × (offered_in v ≡ Some p) × (p.length ≤ longest) × (¬ MayCounter wanted loops p) × (¬ FitsPool h p)
 
--- it decides so exactly then
+-- a requester makes a decision exactly when the decision's condition holds
 abbrev pub RequestersDecide : Type 0
 RequestersDecide = (h : Holding) (wanted longest : ℕ) (v : Option DataItem) (loops : ℕ) (d : RequesterDecision)
     → (requester_decision h wanted longest v loops ≡ d) ↔ RequesterDecides h wanted longest v loops d

@@ -54,7 +54,7 @@ IsPossible (replied r) = Unit {0}
 abbrev pub AgentsAreKept : Type 0
 AgentsAreKept = (h : Holding) (events : List AgentEvent) → IsPool h → h.reserved ≡ [] → All (λ e. IsPossible e) events → IsKept (agent_after h events)
 
--- and there is a next duty
+-- an agent always has a next duty, whatever happens to it
 abbrev pub ThereIsADuty : Type 0
 ThereIsADuty = (h : Holding) (events : List AgentEvent) → (agent_after h events).cursor < duties (agent_after h events)
 

@@ -11,7 +11,7 @@ use Rattle.grasp_agent.specs.declared.stage.Stage.TheVariants.{Registering, Decl
 use Rattle.grasp_agent.specs.declared.want.Want.{Want}
 use Rattle.grasp_agent.specs.declared.want.WantEnd.{WantEnd}
 
--- its pool, its number (0 until it is registered), how far its opening calls are, the want that isn't finished, the sessions in which
+-- an agent: its pool, its number (0 until it is registered), how far its opening calls are, the want that isn't finished, the sessions in which
 -- it gives, in the order in which they were taken, the act that was decided and isn't done, the duty that is next, and how the last want ended
 pub record AgentState : Type 0 where
   pub pool : Holding
@@ -44,7 +44,7 @@ abbrev pub want_length : Option Want → Option ℕ
 want_length None = None
 want_length (Some w) = Some w.length
 
--- there is a want, and it wasn't requested
+-- the agent has a want that it hasn't requested yet
 abbrev pub is_asking : Option Want → Bool
 is_asking None = false
 is_asking (Some w) = by_session w.session where

@@ -7,7 +7,7 @@ use grasp_types::Prefix;
 
 /// Why an agent declines.
 #[derive(Clone, Copy, Debug, PartialEq, Eq)]
-pub(crate) enum Reason {
+pub enum Reason {
     /// The value isn't one of PrefixManager.
     BadValue,
     /// There is no loop left for an offer.
@@ -37,7 +37,7 @@ impl Reason {
 
 /// What a giver decides.
 #[derive(Clone, Copy, Debug, PartialEq, Eq)]
-pub(crate) enum GiverDecision {
+pub enum GiverDecision {
     /// It offers this prefix.
     Offer(Prefix),
     /// It declines.
@@ -46,7 +46,7 @@ pub(crate) enum GiverDecision {
 
 /// What one that requests a prefix decides.
 #[derive(Clone, Copy, Debug, PartialEq, Eq)]
-pub(crate) enum RequesterDecision {
+pub enum RequesterDecision {
     /// It accepts this prefix.
     Accept(Prefix),
     /// It asks again for this length.

@@ -9,7 +9,7 @@ use std::alloc::Global;
 
 /// A duty of an agent.
 #[derive(Clone, Copy, Debug, PartialEq, Eq)]
-pub(crate) enum Duty {
+pub enum Duty {
     /// To listen for requests.
     Listen,
     /// To ask how the session of its want stands.

@@ -8,7 +8,6 @@ mod decision;
 mod duty;
 mod giver;
 mod giving;
-mod laws;
 mod names;
 mod prefix_agent;
 mod reader;
@@ -21,11 +20,8 @@ mod want;
 
 pub use agent::Agent;
 pub use beacon::Beacon;
-pub use laws::{
-    agent_moves, agents_are_kept, cursors_turn, gains_are_accepted, givers_decide, givers_offer,
-    offers_stay_listed, openings_go_on, readers_agree, requesters_decide, values_are_read,
-    values_are_values,
-};
+pub use decision::{GiverDecision, Reason, RequesterDecision};
+pub use duty::Duty;
 pub use prefix_agent::PrefixAgent;
 pub use reader::Reader;
 pub use threads::agents_may_cross;

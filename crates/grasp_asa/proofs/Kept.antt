@@ -3,19 +3,20 @@ use Rattle.std.proofs.Common.{◌≡◌, ◌≢◌, ℕ, zero, suc, ◌+◌, ◌
 use Rattle.std.proofs.Math.ListN.{set, length-set}
 use Rattle.std.specs.Prelude.{IsTrue, filter, map}
 use Rattle.std.specs.List.{list_any}
-use Rattle.std.proofs.lemmas.Bool.{false≢true, cases_order}
+use Rattle.std.proofs.lemmas.Bool.{false≢true, cases_order, false_from_ne_true}
 use Rattle.std.proofs.lemmas.Slice.Eq.{bytes_eq-Decides}
 use Rattle.std.proofs.lemmas.List.Elements.{All-push, All-filter, All-set, filter_passes}
 use Rattle.std.proofs.lemmas.List.Folds.{list_any-append}
 use Rattle.std.proofs.lemmas.List.Kept.{AllPairs-filter}
 use Rattle.std.proofs.lemmas.List.Quantifiers.{all_pairs_push}
 use Rattle.std.proofs.lemmas.Map.Views.{any-filter_same}
+use Rattle.grasp_cbor.proofs.Facts.Lists.{length_filter}
 use Rattle.grasp_cbor.specs.DataItem.{DataItem}
 use Rattle.grasp_types.specs.Objective.{has_neg, has_synch}
 use Rattle.grasp_asa.specs.declared.entry.Agent.{Agent}
 use Rattle.grasp_asa.specs.declared.entry.Registered.{Registered}
 use Rattle.grasp_asa.specs.Registrations.{Registrations, IsRegistry, IsObjective, is_numbered, is_agent_named, is_named, is_owned_by, is_registered, is_agent_name, is_taken, is_both_or_neither, is_dry_alone}
-use Rattle.grasp_asa.proofs.Lists.{none_at, length-filter_le, fails, change, map_one}
+use Rattle.grasp_asa.proofs.Lists.{none_at, change, map_one}
 
 -- a name that no agent has differs from each agent's
 pub agent_apart : (xs : List Agent) (name : List ℕ) (k : ℕ) (d : Agent) → list_any (is_agent_named name) xs ≡ false → k < length xs → (get_or xs k d).name ≢ name
@@ -63,7 +64,7 @@ kept_with_objective r o is room apart owner sound = record {
 pub kept_with_fewer : (r : Registrations) (p : Registered → Bool) → IsRegistry r → IsRegistry (record { agents = r.agents; objectives = filter p r.objectives; made = r.made })
 kept_with_fewer r p is = record {
   agents = is.agents;
-  objectives = omega (arith, length-filter_le p r.objectives, is.objectives);
+  objectives = omega (arith, length_filter p r.objectives, is.objectives);
   made = is.made;
   numbers = is.numbers;
   rising = is.rising;
@@ -87,7 +88,7 @@ kept_without_agent r asa is =
     let owned = λ (o : Registered). not (is_owned_by asa o) in
     let fewer = kept_with_fewer r owned is in
     record {
-      agents = omega (arith, length-filter_le (λ a. not (is_numbered asa a)) r.agents, is.agents);
+      agents = omega (arith, length_filter (λ a. not (is_numbered asa a)) r.agents, is.agents);
       objectives = fewer.objectives;
       made = is.made;
       numbers = All-filter (λ a. not (is_numbered asa a)) (λ a. (1 ≤ a.number) × (a.number ≤ r.made)) r.agents is.numbers;
@@ -102,7 +103,7 @@ kept_without_agent r asa is =
 pub named_once : (r : Registrations) (name : List ℕ) (i : ℕ) → IsRegistry r → i < length r.objectives → ((d : Registered) → is_named name (get_or r.objectives i d) ≡ true) → (j : ℕ) (e : Registered) → j < length r.objectives → j ≢ i → is_named name (get_or r.objectives j e) ≡ false
 named_once r name i is h t j e k other =
     let xs = r.objectives in
-    fails (is_named name (get_or xs j e)) (λ s.
+    false_from_ne_true (is_named name (get_or xs j e)) (λ s.
     let here : (get_or xs i e).name ≡ name = (bytes_eq-Decides (get_or xs i e).name name).0 (t e) in
     let there : (get_or xs j e).name ≡ name = (bytes_eq-Decides (get_or xs j e).name name).0 s in
     elim (cases_order i j) as (λ _. ⊥) [
@@ -139,7 +140,7 @@ kept_with_change r i o d is name owner within sound =
       each = All-set IsObjective xs i o sound is.each;
     }
 
--- these objectives in place of the others
+-- the registrations with these objectives in place of their own
 abbrev pub with_objectives : Registrations → List Registered → Registrations
 with_objectives r xs = record { agents = r.agents; objectives = xs; made = r.made }
 

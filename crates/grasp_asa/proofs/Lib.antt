@@ -1,6 +1,4 @@
+pub mod Facts
 pub mod Kept
-pub mod LawKept
-pub mod LawLeast
-pub mod LawOthers
 pub mod Lists
 pub mod Places

@@ -1,7 +1,8 @@
 -- Where a registry keeps an objective.
-use Rattle.std.proofs.Common.{◌≡◌, ℕ, Bool, true, false, ◌&&◌, List, Option, Some, None, Ok, Err, Result, [], refl, sym, ap, ◌∙◌, subst, if◌then◌else◌}
+use Rattle.std.proofs.Common.{◌≡◌, ℕ, Bool, true, false, List, Option, Some, None, Ok, Err, Result, [], refl, sym, ap, ◌∙◌, subst, if◌then◌else◌}
 use Rattle.std.specs.Prelude.{slice_index_or}
 use Rattle.std.specs.List.{position}
+use Rattle.grasp_cbor.proofs.Facts.Bools.{and_second}
 use Rattle.grasp_types.specs.declared.refusal.ApiRefused.{ApiRefused}
 use Rattle.grasp_types.specs.declared.refusal.ApiRefused.TheVariants.{NoAsa, NotYourObjective}
 use Rattle.grasp_asa.specs.declared.entry.Registered.{Registered}
@@ -25,13 +26,9 @@ none_without_agent r asa name none = rw none refl
 pub none_at_place : (r : Registrations) (asa : ℕ) (name : List ℕ) → is_registered r asa ≡ true → position (is_of asa name) r.objectives ≡ None → owned_answer r asa name ≡ Err NotYourObjective
 none_at_place r asa name here none = rw (here, missed (is_of asa name) r.objectives none) refl
 
-second : (a b : Bool) → (a && b) ≡ true → b ≡ true
-second true b h = h
-second false b h = absurd (cc)
-
 -- the objective of an agent's name has that name
 pub is_of-named : (asa : ℕ) (name : List ℕ) (o : Registered) → is_of asa name o ≡ true → is_named name o ≡ true
-is_of-named asa name o h = second (is_owned_by asa o) (is_named name o) h
+is_of-named asa name o h = and_second (is_owned_by asa o) (is_named name o) h
 
 pub named_at_place : (r now : Registrations) (asa : ℕ) (name : List ℕ) (i : ℕ) → r ≡ now → IsPlaceOf now asa name i → IsNamedAt r name i
 named_at_place r now asa name i same place =

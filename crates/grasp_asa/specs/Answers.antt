@@ -61,7 +61,7 @@ owner_answer (Ok _) = Ok tt
 abbrev pub deregister_objective_answer : Registrations → ℕ → List ℕ → Result (Unit {0}) ApiRefused
 deregister_objective_answer r asa name = owner_answer (owned_answer r asa name)
 
--- this objective leaves, with its mark and its value
+-- after a deregistration that isn't refused, the objective is gone, with its mark and its value
 abbrev pub after_deregister_objective : Registrations → ℕ → List ℕ → Result (Unit {0}) ApiRefused → Registrations
 after_deregister_objective r asa name (Ok _) = record r { objectives = filter (λ o. not (is_of asa name o)) r.objectives }
 after_deregister_objective r asa name (Err _) = r

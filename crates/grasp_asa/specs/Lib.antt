@@ -1,5 +1,4 @@
 pub mod Answers
-pub mod Laws
 pub mod Place
 pub mod Registrations
 pub mod RegistrationsCode

@@ -1,4 +1,4 @@
--- Where a registry keeps an objective.
+-- Inside: where a registry keeps an objective.
 use Rattle.std.specs.Prelude.{◌≡◌, ℕ, ◌<◌, true, List, length, Ok, slice_index_or}
 use Rattle.grasp_asa.specs.declared.entry.Registered.{Registered}
 use Rattle.grasp_asa.specs.Registrations.{Registrations, is_of}

@@ -1,4 +1,4 @@
--- What a registry's fields mean, and the room that they keep.
+-- Inside: what a registry's fields mean, and the room that they keep.
 use Rattle.std.specs.Prelude.{◌≤◌}
 use Rattle.std.specs.Vec.{vec_capacity}
 use Rattle.grasp_asa.specs.declared.registry.Registry.TheInside.{Inside}

@@ -3,13 +3,8 @@
 #![tactic(auto)]
 
 mod entry;
-mod law;
 mod registry;
 mod threads;
 
-pub use law::{
-    numbers_are_new, others_leave_an_objective, refusals_are_least, registry_is_kept,
-    taken_stays_taken,
-};
 pub use registry::Registry;
 pub use threads::registry_may_cross;

@@ -27,6 +27,10 @@ pub data_items-items_in : (ts : DataItems) → data_items (items_in ts) ≡ ts
 data_items-items_in no_items = refl
 data_items-items_in (item_and t ts) = ap (item_and t) (data_items-items_in ts)
 
+pub items_in-data_items : (ts : List DataItem) → items_in (data_items ts) ≡ ts
+items_in-data_items [] = refl
+items_in-data_items (t ∷ ts) = ap (λ us. t ∷ us) (items_in-data_items ts)
+
 pub data_pairs-pairs_in : (es : DataPairs) → data_pairs (pairs_in es) ≡ es
 data_pairs-pairs_in no_pairs = refl
 data_pairs-pairs_in (pair_and k v es) = ap (pair_and k v) (data_pairs-pairs_in es)

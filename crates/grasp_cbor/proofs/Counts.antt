@@ -1,5 +1,5 @@
 -- Lists of data items, so far.
-use Rattle.std.proofs.Common.{◌≡◌, ℕ, ◌+◌, List, [], ◌∷◌, ◌++◌, length, refl, sym, ap, ◌∙◌, append_assoc, append-nil, arith}
+use Rattle.std.proofs.Common.{◌≡◌, ◌+◌, List, [], ◌∷◌, ◌++◌, length, refl, sym, ap, ◌∙◌, append_assoc, append-nil, arith}
 use Rattle.grasp_cbor.proofs.Views.{views}
 use Rattle.grasp_cbor.proofs.Places.{take_got, got_below, items_depth_got, pairs_depth_got}
 use Rattle.grasp_cbor.specs.DataItem.{DataItem, data_items, data_pairs, item_count, pair_count}

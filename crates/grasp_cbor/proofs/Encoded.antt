@@ -4,21 +4,15 @@ use Rattle.std.specs.Str.{IsUtf8}
 use Rattle.std.proofs.lemmas.Str.{IsUtf8-append, IsUtf8-nil}
 use Rattle.std.proofs.lemmas.List.{length-append}
 use Rattle.grasp_cbor.specs.Bytes.{AllBytes, joined}
-use Rattle.grasp_cbor.specs.DataItem.{DataItem, DataItems, DataPairs, unsigned, negative, byte_string, text_string, array, mapping, tagged, simple_value, half_float, single_float, double_float, no_items, item_and, no_pairs, pair_and, item_count, pair_count}
+use Rattle.grasp_cbor.specs.DataItem.{DataItem, DataItems, DataPairs, unsigned, negative, byte_string, text_string, array, mapping, tagged, simple_value, no_items, item_and, no_pairs, pair_and, item_count, pair_count}
 use Rattle.grasp_cbor.specs.Encodable.{IsEncodable, AreEncodable, ArePairsEncodable}
 use Rattle.grasp_cbor.specs.Encodes.{IsDefiniteString, IsIndefiniteString, AreChunks, IsEncoding, AreEncodings, ArePairEncodings, Encodes, string_major}
 use Rattle.grasp_cbor.specs.declared.heads.StringKind.{StringKind}
 use Rattle.grasp_cbor.specs.declared.heads.StringKind.TheVariants.{Bytes, Text}
-use Rattle.grasp_cbor.specs.Head.{HeadSize, direct, one_byte, two_bytes, four_bytes, eight_bytes, argument_limit, IsHead}
+use Rattle.grasp_cbor.specs.Head.{IsHead}
+use Rattle.grasp_cbor.proofs.Facts.Numbers.{below_64}
 use Rattle.grasp_cbor.proofs.HeadBytes.{AllBytes-front, AllBytes-back, AllBytes-append}
 use Rattle.grasp_cbor.proofs.Starts.{Starts, encoding_starts}
-
-below_64 : (size : HeadSize) (n : ℕ) → n < argument_limit size → n < 2 ^ 64
-below_64 direct n h = omega (arith, h)
-below_64 one_byte n h = omega (arith, h)
-below_64 two_bytes n h = omega (arith, h)
-below_64 four_bytes n h = omega (arith, h)
-below_64 eight_bytes n h = h
 
 head_below : (major n : ℕ) (s : List ℕ) → IsHead major n s → n < 2 ^ 64
 head_below major n s h = below_64 h.0 n h.1
@@ -104,9 +98,7 @@ mutual
       ((let f = body.few in omega (arith, pairs_counted es h.0 h.1)), ArePairsEncodable-encodings es h.0 body h.1)
   IsEncodable-encoding (tagged n t) s b h = (head_below 6 _ _ h.2, IsEncodable-encoding t h.1 (behind s h.0 h.1 b h.4) h.3)
   IsEncodable-encoding (simple_value n) s b h = (h.0, h.1)
-  IsEncodable-encoding (half_float n) s b h = h.0
-  IsEncodable-encoding (single_float n) s b h = h.0
-  IsEncodable-encoding (double_float n) s b h = h.0
+  IsEncodable-encoding _ s b h = h.0
 
   AreEncodable-encodings : (ts : DataItems) (s : List ℕ) → IsShort s → AreEncodings ts s → AreEncodable ts
   AreEncodable-encodings no_items s b h = tt

@@ -5,11 +5,11 @@ use Rattle.std.proofs.lemmas.Bool.{cases_eq, le-leb}
 use Rattle.std.proofs.lemmas.List.{length-append, length-replicate}
 use Rattle.grasp_cbor.specs.Major.{major_number}
 use Rattle.grasp_cbor.specs.Encodes.{string_major}
-use Rattle.grasp_cbor.specs.Head.{argument_limit, HeadSize, direct, one_byte, two_bytes, four_bytes, eight_bytes, sized_head}
+use Rattle.grasp_cbor.specs.Head.{argument_limit, HeadSize, direct, one_byte, sized_head}
 use Rattle.grasp_cbor.specs.declared.heads.StringKind.{StringKind}
 use Rattle.grasp_cbor.specs.declared.heads.StringKind.TheVariants.{Bytes, Text}
 use Rattle.grasp_cbor.specs.declared.heads.Major.{Major}
-use Rattle.grasp_cbor.specs.declared.heads.Major.TheVariants.{Unsigned, Negative, ByteString, TextString, Array, Map, Tag, Simple}
+use Rattle.grasp_cbor.specs.declared.heads.Major.TheVariants.{ByteString, TextString, Array, Map, Tag, Simple}
 use Rattle.grasp_cbor.specs.declared.walker.Level.{Level}
 use Rattle.grasp_cbor.specs.declared.walker.Level.TheVariants.{Parts, Items, Keys, Values}
 use Rattle.grasp_cbor.specs.Stands.{info_of}
@@ -49,28 +49,16 @@ short_plain n first next [] more e = let q : 248 ≡ first = cc in ap (λ x. x �
 short_plain n first next (g ∷ got) more e = absurd (let k = ap length e in omega (arith, length-append got (next ∷ more)))
 
 fine_size : (size : HeadSize) (n first next : ℕ) (got more s : List ℕ) → s ≡ first ∷ got → s ≢ 248 ∷ [] → sized_head size 7 n ≡ (first ∷ got) ++ next ∷ more → IsSimpleHead size n
-fine_size direct n first next got more s f ne e = tt
 fine_size one_byte n first next got more s f ne e = absurd (ne (f ∙ short_plain n first next got more e))
-fine_size two_bytes n first next got more s f ne e = tt
-fine_size four_bytes n first next got more s f ne e = tt
-fine_size eight_bytes n first next got more s f ne e = tt
+fine_size _ n first next got more s f ne e = tt
 
 fine_cut : (major : Major) (size : HeadSize) (n first next : ℕ) (got more s : List ℕ) → s ≡ first ∷ got → s ≢ 248 ∷ [] → sized_head size (major_number major) n ≡ (first ∷ got) ++ next ∷ more → IsFine major size n
-fine_cut Unsigned size n first next got more s f ne e = tt
-fine_cut Negative size n first next got more s f ne e = tt
-fine_cut ByteString size n first next got more s f ne e = tt
-fine_cut TextString size n first next got more s f ne e = tt
-fine_cut Array size n first next got more s f ne e = tt
-fine_cut Map size n first next got more s f ne e = tt
-fine_cut Tag size n first next got more s f ne e = tt
 fine_cut Simple size n first next got more s f ne e = fine_size size n first next got more s f ne e
+fine_cut _ size n first next got more s f ne e = tt
 
 first_bytes : (size : HeadSize) (major : Major) (n : ℕ) → n < argument_limit size → 32 * major_number major + info_of size n < 256
 first_bytes direct major n h = let k = major_number-below major in omega arith
-first_bytes one_byte major n h = let k = major_number-below major in omega arith
-first_bytes two_bytes major n h = let k = major_number-below major in omega arith
-first_bytes four_bytes major n h = let k = major_number-below major in omega arith
-first_bytes eight_bytes major n h = let k = major_number-below major in omega arith
+first_bytes _ major n h = let k = major_number-below major in omega arith
 
 head_bytes : (size : HeadSize) (major : Major) (n : ℕ) → n < argument_limit size → AllBytes (sized_head size (major_number major) n)
 head_bytes size major n h = subst AllBytes (sym (head_is size (major_number major) n)) (first_bytes size major n h, tail_bytes size n h)
@@ -118,7 +106,7 @@ cut_open string levels d s _ (at_head c ne) = open_head string d s c ne
 cut_open string levels d s _ (at_bytes content left c) = open_bytes string d content left s c
 cut_open string levels d s _ (at_text content left c e) = open_text string d content e.0 left s c e.1 e.2
 
-regrouped : (o c m y : List ℕ) (n : ℕ) → o ++ ((c ++ n ∷ m) ++ y) ≡ (o ++ c) ++ n ∷ (m ++ y)
+pub regrouped : (o c m y : List ℕ) (n : ℕ) → o ++ ((c ++ n ∷ m) ++ y) ≡ (o ++ c) ++ n ∷ (m ++ y)
 regrouped o c m y n = simp append_assoc refl
 
 reopen : (o c m y : List ℕ) (n : ℕ) → (o ++ (c ++ n ∷ m)) ++ y ≡ (o ++ c) ++ n ∷ (m ++ y)
@@ -188,10 +176,8 @@ pub front_of : (d : ℕ) (levels : List Level) (string : Option StringKind) (out
 front_of d levels string outer opened cut spot i b c = (spot, record { depth = d; levels = levels; string = string; outer = outer; opened = opened; cut = cut; inside = i; between = b; begun = c; form = refl })
 
 pub room_of : (d : ℕ) (b : Body) (s : List ℕ) → Fills d b s → HasRoom d b
-room_of d nothing s f = tt
-room_of d (some_bytes n) s f = tt
-room_of d (some_text n) s f = tt
 room_of d (some_parts n) s f = let k = f.room in omega arith
+room_of d _ s f = tt
 
 -- a head that begins with 248 is of a simple value
 simple_may : (string : Option StringKind) (major : Major) (n a next : ℕ) (head more : List ℕ) → MayBegin string major → IsHeadOf major n head → head ≡ (a ∷ []) ++ next ∷ more → a ≡ 248 → MayBegin string Simple
@@ -339,14 +325,12 @@ module _ (d : ℕ) (levels : List Level) (outer : List ℕ) (i : Inside d levels
       ]
 
   in_content : (major : Major) (n next : ℕ) (head content more rest : List ℕ) → IsHeadOf major n head → Fills d (body_of major n) rest → content ++ next ∷ more ≡ rest → Fronts (outer ++ (head ++ content))
-  in_content Unsigned n next head content more rest h f e = absurd (none_left content more next (e ∙ f))
-  in_content Negative n next head content more rest h f e = absurd (none_left content more next (e ∙ f))
   in_content ByteString n next head content more rest h f e = in_octets d levels None outer [] i refl n next head content more rest tt h f e
   in_content TextString n next head content more rest h f e = in_chars d levels None outer [] i refl n next head content more rest tt h f.0 f.1 e
   in_content Array n next head content more rest h f e = in_row (parts n) next head content more rest (record { major = Array; n = n; head = h; counted = refl }) f e
   in_content Map n next head content more rest h f e = in_row (parts (2 * n)) next head content more rest (record { major = Map; n = n; head = h; counted = refl }) f e
   in_content Tag n next head content more rest h f e = in_row (parts 1) next head content more rest (record { major = Tag; n = n; head = h; counted = refl }) f e
-  in_content Simple n next head content more rest h f e = absurd (none_left content more next (e ∙ f))
+  in_content _ n next head content more rest h f e = absurd (none_left content more next (e ∙ f))
 
   in_endless : (e : Endless) (next : ℕ) (content more rest : List ℕ) → Contents d (endless e) rest → content ++ next ∷ more ≡ rest → Fronts (outer ++ (endless_byte e ∷ content))
   in_endless (chunks kind) next content more rest f q = in_chunks kind next content more rest f q

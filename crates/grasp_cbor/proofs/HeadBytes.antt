@@ -15,17 +15,11 @@ tail_of eight_bytes n = to_be_bytes w64 n
 
 pub head_is : (size : HeadSize) (m n : ℕ) → sized_head size m n ≡ (32 * m + info_of size n) ∷ tail_of size n
 head_is direct m n = refl
-head_is one_byte m n = refl
-head_is two_bytes m n = refl
-head_is four_bytes m n = refl
-head_is eight_bytes m n = refl
+head_is _ m n = refl
 
 pub length-tail_of : (size : HeadSize) (n : ℕ) → length (tail_of size n) ≡ argument_width size
 length-tail_of direct n = refl
-length-tail_of one_byte n = refl
-length-tail_of two_bytes n = refl
-length-tail_of four_bytes n = refl
-length-tail_of eight_bytes n = refl
+length-tail_of _ n = refl
 
 -- ---- its number
 
@@ -65,9 +59,7 @@ number_2 (a ∷ b ∷ []) h e =
     let p = h.0 in
     let q = h.1.0 in
     record { fits = omega arith; form = be_bytes_2 (a ∷ b ∷ []) _ refl (AllBytes-at (a ∷ b ∷ []) h) (omega arith) }
-number_2 [] h e = absurd (omega arith)
-number_2 (a ∷ []) h e = absurd (omega arith)
-number_2 (a ∷ b ∷ c ∷ s) h e = absurd (omega arith)
+number_2 _ h e = absurd (omega arith)
 
 number_4 : (s : List ℕ) → AllBytes s → length s ≡ 4 → IsNumber four_bytes (number_from 0 s) s
 number_4 (a ∷ b ∷ c ∷ d ∷ []) h e =
@@ -76,11 +68,7 @@ number_4 (a ∷ b ∷ c ∷ d ∷ []) h e =
     let r = h.1.1.0 in
     let t = h.1.1.1.0 in
     record { fits = omega arith; form = be_bytes_4 (a ∷ b ∷ c ∷ d ∷ []) _ refl (AllBytes-at (a ∷ b ∷ c ∷ d ∷ []) h) (omega arith) }
-number_4 [] h e = absurd (omega arith)
-number_4 (a ∷ []) h e = absurd (omega arith)
-number_4 (a ∷ b ∷ []) h e = absurd (omega arith)
-number_4 (a ∷ b ∷ c ∷ []) h e = absurd (omega arith)
-number_4 (a ∷ b ∷ c ∷ d ∷ f ∷ s) h e = absurd (omega arith)
+number_4 _ h e = absurd (omega arith)
 
 number_8 : (s : List ℕ) → AllBytes s → length s ≡ 8 → IsNumber eight_bytes (number_from 0 s) s
 number_8 (a ∷ b ∷ c ∷ d ∷ f ∷ g ∷ j ∷ k ∷ []) h e =
@@ -93,15 +81,7 @@ number_8 (a ∷ b ∷ c ∷ d ∷ f ∷ g ∷ j ∷ k ∷ []) h e =
     let w = h.1.1.1.1.1.1.0 in
     let x = h.1.1.1.1.1.1.1.0 in
     record { fits = omega arith; form = be_bytes_8 (a ∷ b ∷ c ∷ d ∷ f ∷ g ∷ j ∷ k ∷ []) _ refl (AllBytes-at (a ∷ b ∷ c ∷ d ∷ f ∷ g ∷ j ∷ k ∷ []) h) (omega arith) }
-number_8 [] h e = absurd (omega arith)
-number_8 (a ∷ []) h e = absurd (omega arith)
-number_8 (a ∷ b ∷ []) h e = absurd (omega arith)
-number_8 (a ∷ b ∷ c ∷ []) h e = absurd (omega arith)
-number_8 (a ∷ b ∷ c ∷ d ∷ []) h e = absurd (omega arith)
-number_8 (a ∷ b ∷ c ∷ d ∷ f ∷ []) h e = absurd (omega arith)
-number_8 (a ∷ b ∷ c ∷ d ∷ f ∷ g ∷ []) h e = absurd (omega arith)
-number_8 (a ∷ b ∷ c ∷ d ∷ f ∷ g ∷ j ∷ []) h e = absurd (omega arith)
-number_8 (a ∷ b ∷ c ∷ d ∷ f ∷ g ∷ j ∷ k ∷ l ∷ s) h e = absurd (omega arith)
+number_8 _ h e = absurd (omega arith)
 
 pub number_is : (size : HeadSize) (s : List ℕ) → 0 < argument_width size → AllBytes s → length s ≡ argument_width size → IsNumber size (number_from 0 s) s
 number_is direct s z h e = absurd (omega arith)

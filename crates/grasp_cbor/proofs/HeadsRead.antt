@@ -28,10 +28,7 @@ argument_of eight_bytes n = Eight n
 
 pub value_of-argument_of : (size : HeadSize) (n : ℕ) → value_of (argument_of size n) ≡ n
 value_of-argument_of direct n = refl
-value_of-argument_of one_byte n = refl
-value_of-argument_of two_bytes n = refl
-value_of-argument_of four_bytes n = refl
-value_of-argument_of eight_bytes n = refl
+value_of-argument_of _ n = refl
 
 abbrev head_with : Major → Found Argument → Found Head
 head_with major found = found >>= λ a. Some (record { major = major; argument = a.0 }, a.1)

@@ -233,9 +233,7 @@ level_comes Items levels d k n rest after opening o c (stops q e) = break after 
 level_comes Keys levels d k n rest after opening o c (stops q e) = break after refl e
 level_comes Values levels d k n rest after opening o c (stops q e) = absurd (let a = o.2 in let b = c.1 in omega arith)
 level_comes (Parts left) levels d k n rest after opening o c (beyond a w z i l e) = absurd (omega arith)
-level_comes Items levels d k n rest after opening o c (beyond a w z i l e) = absurd (item_not_break a w after z i e)
-level_comes Keys levels d k n rest after opening o c (beyond a w z i l e) = absurd (item_not_break a w after z i e)
-level_comes Values levels d k n rest after opening o c (beyond a w z i l e) = absurd (item_not_break a w after z i e)
+level_comes _ levels d k n rest after opening o c (beyond a w z i l e) = absurd (item_not_break a w after z i e)
 
 -- an opened row begins with no break
 row_not_break : (sort : Sort) (first x y : List ℕ) → OpensRow sort first → first ++ x ≡ 255 ∷ y → ⊥

@@ -1,16 +1,16 @@
 -- A reader that is fed byte by byte answers as one of all the bytes.
-use Rattle.std.proofs.Common.{◌≡◌, ℕ, List, [], ◌∷◌, ◌++◌, length, take, Option, Some, None, Ok, Err, sym, subst, arith}
+use Rattle.std.proofs.Common.{◌≡◌, ℕ, List, [], ◌∷◌, ◌++◌, length, Option, Some, None, Ok, Err, sym, subst, arith}
 use Rattle.std.proofs.lemmas.List.{length-append, length_push, take_all, take-append-le}
 use Rattle.grasp_cbor.specs.declared.walker.FaultName.{FaultName}
 use Rattle.grasp_cbor.specs.declared.walker.FaultName.TheVariants as name
 use Rattle.grasp_cbor.specs.declared.walker.WalkFault.TheVariants as walk_fault
-use Rattle.grasp_cbor.specs.declared.walker.Taken.TheVariants.{More, Whole}
+use Rattle.grasp_cbor.specs.declared.walker.Taken.TheVariants.{More}
 use Rattle.grasp_cbor.specs.declared.walker.Walk.{Walk}
 use Rattle.grasp_cbor.specs.declared.read.ItemFault.{ItemFault}
 use Rattle.grasp_cbor.specs.declared.read.ItemFault.TheVariants.{Malformed, NotText, TooDeep, TooLong, OutOfMemory}
-use Rattle.grasp_cbor.specs.CanGoOn.{IsItem, CanGoOnWithin}
+use Rattle.grasp_cbor.specs.CanGoOn.{CanGoOnWithin}
 use Rattle.grasp_cbor.specs.Ending.{IsTooLong, IsFaulty, IsPartial}
-use Rattle.grasp_cbor.specs.ItemReader.{EndsWith, Keeps, AnswersTaken, bytes_with}
+use Rattle.grasp_cbor.specs.ItemReader.{EndsWith, Keeps, bytes_with}
 use Rattle.grasp_cbor.specs.Walking.{Took, Answers, limit_of, count_of}
 use Rattle.grasp_cbor.proofs.Ending.{fault_stays}
 
@@ -36,21 +36,6 @@ taken_more old new s byte e h =
     let a = k.taken in
     let b = k.below in
     record { short = omega arith; can_go_on = h.0 }
-
-pub taken_whole : (old new : Walk) (s : List ℕ) (byte : ℕ) → Took old s → Answers old new s byte (Ok Whole) → AnswersTaken (s ++ byte ∷ []) (limit_of old) (Ok Whole)
-taken_whole old new s byte t h =
-    let a = t.taken in
-    let b = t.below in
-    let len = length_push s byte in
-    let i : IsItem 16 (take (length (s ++ byte ∷ [])) (s ++ byte ∷ [])) = subst (λ x. IsItem 16 x) (sym (take_all (length (s ++ byte ∷ [])) (s ++ byte ∷ []) (omega arith))) h.0 in
-    (i.item, record { encodes = record { encoding = i.encoding; within = i.within }; inside = omega arith; within = omega arith })
-
-pub taken_bad : (old new : Walk) (s : List ℕ) (byte : ℕ) (name : FaultName) (at : ℕ) → Took old s → Answers old new s byte (Err (walk_fault.Bad name at)) → IsFaulty (s ++ byte ∷ []) (limit_of old) name at
-taken_bad old new s byte name at t h =
-    let a = t.taken in
-    let b = t.below in
-    let p = h.1 in
-    record { below = omega arith; fault = h.0 }
 
 pub taken_long : (old new : Walk) (s : List ℕ) (byte : ℕ) → Answers old new s byte (Err walk_fault.TooLong) → IsTooLong (s ++ byte ∷ []) (limit_of old)
 taken_long old new s byte h =

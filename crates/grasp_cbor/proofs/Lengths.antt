@@ -1,7 +1,7 @@
 -- The lengths of shortest encodings.
-use Rattle.std.proofs.Common.{◌≡◌, ℕ, zero, suc, ◌+◌, ◌≤◌, ◌<◌, List, [], ◌∷◌, ◌++◌, length, take, Option, Some, None, IfNone, slice_get, refl, ap, ◌∙◌, length-append, arith}
+use Rattle.std.proofs.Common.{◌≡◌, ℕ, zero, suc, ◌+◌, ◌≤◌, List, [], ◌∷◌, ◌++◌, length, take, Option, Some, None, IfNone, slice_get, refl, ap, ◌∙◌, length-append, arith}
 use Rattle.grasp_cbor.specs.DataItem.{DataItem, data_items, data_pairs}
-use Rattle.grasp_cbor.specs.Head.{HeadSize, direct, one_byte, two_bytes, four_bytes, eight_bytes, sized_head, shortest_size, shortest_head}
+use Rattle.grasp_cbor.specs.Head.{HeadSize, direct, sized_head, shortest_size, shortest_head}
 use Rattle.grasp_cbor.specs.Length.{head_length}
 use Rattle.grasp_cbor.specs.Shortest.{shortest, shortest_items, shortest_pairs}
 use Rattle.grasp_cbor.proofs.Views.{views}
@@ -10,10 +10,7 @@ use Rattle.grasp_cbor.proofs.Counts.{shortest_items-push, shortest_pairs-push, i
 
 same_length : (size : HeadSize) (major other n : ℕ) → length (sized_head size major n) ≡ length (sized_head size other n)
 same_length direct major other n = refl
-same_length one_byte major other n = refl
-same_length two_bytes major other n = refl
-same_length four_bytes major other n = refl
-same_length eight_bytes major other n = refl
+same_length _ major other n = refl
 
 pub length-shortest_head : (major n : ℕ) → length (shortest_head major n) ≡ head_length n
 unfolding shortest_head head_length

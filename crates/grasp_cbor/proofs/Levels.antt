@@ -1,5 +1,5 @@
 -- The levels in their places.
-use Rattle.std.proofs.Common.{◌≡◌, ◌≢◌, ℕ, zero, suc, ◌+◌, ◌-◌, ◌<◌, ◌≤◌, false, List, [], ◌∷◌, length, get_or, set, Option, Some, None, is_some, refl, sym, ap, ◌∙◌, arith}
+use Rattle.std.proofs.Common.{◌≡◌, ◌≢◌, ℕ, zero, suc, ◌+◌, ◌-◌, ◌<◌, ◌≤◌, false, List, ◌∷◌, length, get_or, set, Option, Some, None, is_some, refl, sym, ap, ◌∙◌, arith}
 use Rattle.std.proofs.lemmas.List.{get_or-set_other, get_or-set_same}
 use Rattle.grasp_cbor.specs.declared.heads.StringKind.{StringKind}
 use Rattle.grasp_cbor.specs.declared.walker.Level.{Level}
@@ -19,10 +19,6 @@ pub levels_in_top : (d : ℕ) (xs : List Level) → 0 < d → levels_in d xs ≡
 levels_in_top zero xs h = absurd (omega arith)
 levels_in_top (suc d) xs h = let e : suc d - 1 ≡ d = omega arith in rw e refl
 
-pub levels_in_none : (d : ℕ) (xs : List Level) → d ≡ 0 → levels_in d xs ≡ []
-levels_in_none zero xs h = refl
-levels_in_none (suc d) xs h = absurd (omega arith)
-
 pub length-levels_in : (d : ℕ) (xs : List Level) → length (levels_in d xs) ≡ d
 length-levels_in zero xs = refl
 length-levels_in (suc d) xs = ap suc (length-levels_in d xs)
@@ -35,9 +31,6 @@ levels_in_more d xs v h =
     let a : get_or (set xs d v) d (Parts 0) ≡ v = get_or-set_same xs d v (Parts 0) h in
     e ∙ (λ j. a j ∷ levels_in-set d xs d v (omega arith) j)
 
-pub finished_on : (d : ℕ) (xs : List Level) → 0 < d → level_after (get_or xs (d - 1) (Parts 0)) ≡ None → finished (levels_in d xs) ≡ finished (levels_in (d - 1) xs)
-finished_on d xs h e = ap finished (levels_in_top d xs h) ∙ ap (λ r. waits r (levels_in (d - 1) xs) (finished (levels_in (d - 1) xs))) e
-
 pub finished_here : (d : ℕ) (xs : List Level) (v : Level) → 0 < d → d ≤ length xs → level_after (get_or xs (d - 1) (Parts 0)) ≡ Some v → finished (levels_in d xs) ≡ goes (levels_in d (set xs (d - 1) v)) None Beginning
 finished_here d xs v h len e =
     let back : d - 1 + 1 ≡ d = omega arith in
@@ -47,9 +40,6 @@ finished_here d xs v h len e =
 -- a break ends the innermost level
 pub broken_here : (d : ℕ) (xs : List Level) (string : Option StringKind) → string ≡ None → 0 < d → broken (levels_in d xs) string ≡ finished (levels_in (d - 1) xs)
 broken_here d xs string e h = ap (λ z. broken (levels_in d xs) z) e ∙ ap (λ z. broken z None) (levels_in_top d xs h)
-
-pub broken_outside : (d : ℕ) (xs : List Level) (string : Option StringKind) → string ≡ None → d ≡ 0 → broken (levels_in d xs) string ≡ finished (levels_in d xs)
-broken_outside d xs string e h = ap (λ z. broken (levels_in d xs) z) e ∙ ap (λ z. broken z None) (levels_in_none d xs h) ∙ ap finished (sym (levels_in_none d xs h))
 
 pub none_of : (string : Option StringKind) → is_some string ≡ false → string ≡ None
 none_of None e = refl

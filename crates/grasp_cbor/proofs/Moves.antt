@@ -22,6 +22,7 @@ use Rattle.grasp_cbor.specs.Utf8.{ready, owed_after, owed_of, owes_within, can_e
 use Rattle.grasp_cbor.specs.Front.{some_parts, body_of, IsFine, IsHeadOf, OpensParts, Opens, HasParts, Inside, InString, MayBegin, can_break, Spot, first_spot, after_simple, in_text, elsewhere, IsCutString, start_name, chunk_name}
 use Rattle.grasp_cbor.specs.Step.{Move, goes, whole, bad, level_after, waits, finished, ended, broken, opened, after_head, width_of, heads, started, first_name, is_simple, shifted, texts, step, name_of}
 use Rattle.grasp_cbor.specs.Stands.{info_of, argument_width, is_one, number_from, IsHeading, At, StandsAt}
+use Rattle.grasp_cbor.proofs.Facts.Numbers.{none_plus}
 use Rattle.grasp_cbor.proofs.Majors.{major_number-major_of, major_number-below}
 use Rattle.grasp_cbor.proofs.HeadBytes.{head_is, number_is, number_from-push, AllBytes-push, seven}
 use Rattle.grasp_cbor.proofs.Shapes.{Fills, parts, items, pairs, IsPiece, IsChunk, IsChunks, ChunkRow-append, chunk_row, chunk_list, row_item, chunks_item, piece_of}
@@ -52,9 +53,6 @@ some_same a b e = cc
 
 none_same : (a : Level) → None ≡ Some a → ⊥
 none_same a e = cc
-
-plus_zero : (n : ℕ) → n ≡ 0 + n
-plus_zero n = omega arith
 
 -- a string of indefinite length holds strings alone
 pub string_below : (kind : StringKind) → string_major kind < 4
@@ -177,7 +175,7 @@ module _ (string : Option StringKind) (levels : List Level) (d : ℕ) (outer beg
       let none : begun ≡ [] = subst (λ z. InString z begun) q b in
       elim (cases_lt 0 count) [
         | inl l ↦ rw (lt-ltb 0 count l, q) (subst (λ x. Reached (outer ++ (x ++ head)) (goes (Parts count ∷ levels) None Beginning)) (sym none)
-            (between (Parts count ∷ levels) (d - 1) (outer ++ head) (outer, head, subst (λ k. Inside k levels outer) same i, record { opening = head; parts = []; opens = (l, record { major = major; n = n; head = h; counted = e ∙ ap some_parts (plus_zero count) }); each = tt; form = sym (append-nil head) }, refl)))
+            (between (Parts count ∷ levels) (d - 1) (outer ++ head) (outer, head, subst (λ k. Inside k levels outer) same i, record { opening = head; parts = []; opens = (l, record { major = major; n = n; head = h; counted = e ∙ ap some_parts (none_plus count) }); each = tt; form = sym (append-nil head) }, refl)))
         | inr l ↦ rw (le-ltb 0 count l) (bare head major n m h (subst (λ x. Fills d x []) (sym e) (record { below = d - 1; row = []; room = same; each = tt; counts = omega arith; form = refl })))
       ]
 
@@ -312,13 +310,7 @@ is_wide info l h =
 
 direct_fine : (major : Major) (n : ℕ) → IsFine major direct n
 direct_fine Unsigned n = tt
-direct_fine Negative n = tt
-direct_fine ByteString n = tt
-direct_fine TextString n = tt
-direct_fine Array n = tt
-direct_fine Map n = tt
-direct_fine Tag n = tt
-direct_fine Simple n = tt
+direct_fine _ n = tt
 
 module _ (string : Option StringKind) (levels : List Level) (d : ℕ) (outer begun : List ℕ) (i : Inside d levels outer) (b : InString string begun) where
   begins_head : (major : Major) (info byte : ℕ) → byte ≡ 32 * major_number major + info → info < 28 → MayBegin string major → (3 < major_number major → major_number major < 7 → 0 < d) → Reached (outer ++ (begun ++ byte ∷ [])) (heads levels string major info)
@@ -353,21 +345,13 @@ endless_begins Map levels d outer byte i e r h = row_begins Keys levels d outer 
 endless_begins Simple levels d outer byte i e r (inr h) = let q : 255 ≡ byte = omega arith in subst (λ x. Reached (outer ++ x ∷ []) (broken levels None)) q (level_breaks levels d outer h.1 i)
 endless_begins Simple levels d outer byte i e r (inl h) = absurd (omega (arith, h.1))
 endless_begins Unsigned levels d outer byte i e r (inl h) = absurd (omega (arith, h.0))
-endless_begins Unsigned levels d outer byte i e r (inr h) = absurd (omega (arith, h.0))
 endless_begins Negative levels d outer byte i e r (inl h) = absurd (omega (arith, h.0))
-endless_begins Negative levels d outer byte i e r (inr h) = absurd (omega (arith, h.0))
 endless_begins Tag levels d outer byte i e r (inl h) = absurd (omega (arith, h.1))
-endless_begins Tag levels d outer byte i e r (inr h) = absurd (omega (arith, h.0))
+endless_begins _ levels d outer byte i e r (inr h) = absurd (omega (arith, h.0))
 
 chunk_breaks : (kind : StringKind) (levels : List Level) (d : ℕ) (outer begun : List ℕ) (major : Major) → Inside d levels outer → InString (Some kind) begun → major_number major ≡ 7 → Reached (outer ++ (begun ++ 255 ∷ [])) (opened levels (Some kind) major)
 chunk_breaks kind levels d outer begun Simple i b e = string_breaks kind levels d outer begun i b
-chunk_breaks kind levels d outer begun Unsigned i b e = absurd (omega arith)
-chunk_breaks kind levels d outer begun Negative i b e = absurd (omega arith)
-chunk_breaks kind levels d outer begun ByteString i b e = absurd (omega arith)
-chunk_breaks kind levels d outer begun TextString i b e = absurd (omega arith)
-chunk_breaks kind levels d outer begun Array i b e = absurd (omega arith)
-chunk_breaks kind levels d outer begun Map i b e = absurd (omega arith)
-chunk_breaks kind levels d outer begun Tag i b e = absurd (omega arith)
+chunk_breaks kind levels d outer begun _ i b e = absurd (omega arith)
 
 by_clear : (levels : List Level) (d : ℕ) (outer : List ℕ) (major : Major) (info byte : ℕ) → Inside d levels outer → byte ≡ 32 * major_number major + info → IsClear (length levels) (can_break levels) (major_number major) info → Reached (outer ++ byte ∷ []) (heads levels None major info)
 by_clear levels d outer major info byte i e c =
@@ -413,32 +397,12 @@ starting string levels d outer begun s spot byte None i b e q l f =
 
 pub info_wide : (size : HeadSize) (n : ℕ) → 0 < argument_width size → info_of size n ≡ info_of size 0
 info_wide direct n h = absurd (omega arith)
-info_wide one_byte n h = refl
-info_wide two_bytes n h = refl
-info_wide four_bytes n h = refl
-info_wide eight_bytes n h = refl
+info_wide _ n h = refl
 
 -- a simple value of two bytes is 32 at least
 fine_at : (major : Major) (size : HeadSize) (n : ℕ) → ((is_simple major && is_one size) ≡ true → 32 ≤ n) → IsFine major size n
-fine_at Unsigned size n h = tt
-fine_at Negative size n h = tt
-fine_at ByteString size n h = tt
-fine_at TextString size n h = tt
-fine_at Array size n h = tt
-fine_at Map size n h = tt
-fine_at Tag size n h = tt
-fine_at Simple direct n h = tt
 fine_at Simple one_byte n h = h refl
-fine_at Simple two_bytes n h = tt
-fine_at Simple four_bytes n h = tt
-fine_at Simple eight_bytes n h = tt
-
-pub one_width : (size : HeadSize) → is_one size ≡ true → argument_width size ≡ 1
-one_width direct e = absurd cc
-one_width one_byte e = refl
-one_width two_bytes e = absurd cc
-one_width four_bytes e = absurd cc
-one_width eight_bytes e = absurd cc
+fine_at _ _ n h = tt
 
 pub nothing_got : (got : List ℕ) → length got ≡ 0 → got ≡ []
 nothing_got [] e = refl
@@ -446,10 +410,7 @@ nothing_got (g ∷ got) e = absurd (omega arith)
 
 width_max : (size : HeadSize) → argument_width size ≤ 8
 width_max direct = omega arith
-width_max one_byte = omega arith
-width_max two_bytes = omega arith
-width_max four_bytes = omega arith
-width_max eight_bytes = omega arith
+width_max _ = omega arith
 
 record IsShift (string : Option StringKind) (d : ℕ) (major : Major) (short : Bool) (value left byte : ℕ) (s : List ℕ) (h : IsHeading string d major short value left s) : Type 0 where
   number : shifted value byte ≡ number_from 0 (h.got ++ byte ∷ [])

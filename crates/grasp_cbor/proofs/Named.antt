@@ -10,12 +10,13 @@ use Rattle.grasp_cbor.specs.Head.{HeadSize, direct, one_byte, two_bytes, four_by
 use Rattle.grasp_cbor.specs.declared.heads.StringKind.{StringKind}
 use Rattle.grasp_cbor.specs.declared.heads.StringKind.TheVariants.{Bytes, Text}
 use Rattle.grasp_cbor.specs.declared.heads.Major.{Major}
-use Rattle.grasp_cbor.specs.declared.heads.Major.TheVariants.{Unsigned, Negative, ByteString, TextString, Array, Map, Tag, Simple}
+use Rattle.grasp_cbor.specs.declared.heads.Major.TheVariants.{Unsigned, TextString, Array, Map, Tag, Simple}
 use Rattle.grasp_cbor.specs.declared.walker.Level.{Level}
 use Rattle.grasp_cbor.specs.CanGoOn.{IsItem, CanGoOnWithin}
 use Rattle.grasp_cbor.specs.Utf8.{CanEnd}
 use Rattle.grasp_cbor.specs.Front.{some_text, body_of, IsSimpleHead, IsFine, IsHeadOf, HasRoom, MayBegin, can_break, Spot, first_spot, IsCut, at_start, at_simple, at_head, at_bytes, at_text, Front, start_name, chunk_name}
 use Rattle.grasp_cbor.specs.Stands.{info_of}
+use Rattle.grasp_cbor.proofs.Facts.Lists.{same_first}
 use Rattle.grasp_cbor.proofs.HeadBytes.{tail_of, head_is}
 use Rattle.grasp_cbor.proofs.Shapes.{Fills, Endless, chunks, item_row, pair_row, endless_byte, Opening, counted, endless, IsOpening, Contents, headed, headed_chunk, piece_item, kind_major}
 use Rattle.grasp_cbor.proofs.Openings.{head_byte, endless_is, same_openings, opening_not_break}
@@ -65,14 +66,10 @@ chunk_break Bytes = refl
 chunk_break Text = refl
 
 pub room_at : (major : Major) (d n : ℕ) → HasRoom d (body_of major n) → 3 < major_number major → major_number major < 7 → 0 < d
-room_at Unsigned d n h p q = omega arith
-room_at Negative d n h p q = omega arith
-room_at ByteString d n h p q = omega arith
-room_at TextString d n h p q = omega arith
 room_at Array d n h p q = h
 room_at Map d n h p q = h
 room_at Tag d n h p q = h
-room_at Simple d n h p q = omega arith
+room_at _ d n h p q = omega arith
 
 endless_room : (e : Endless) (d : ℕ) (rest : List ℕ) → Contents d (endless e) rest → 3 < (endless_is e).major → 0 < d
 endless_room (chunks Bytes) d rest f l = absurd (omega arith)
@@ -127,43 +124,22 @@ starting_byte (Some kind) levels d byte x sum c = first_of_chunk kind levels d b
 
 -- ---- a byte after 248
 
-same_first : (a b : ℕ) (x y : List ℕ) → a ∷ x ≡ b ∷ y → a ≡ b
-same_first a b x y e = cc
-
 fine_248 : (major : Major) (size : HeadSize) (n : ℕ) → n < argument_limit size → IsFine major size n → 32 * major_number major + info_of size n ≡ 248 → IsSimpleHead size n × (0 < length (tail_of size n))
 fine_248 Unsigned direct n h f e = absurd (omega arith)
-fine_248 Negative direct n h f e = absurd (omega arith)
-fine_248 ByteString direct n h f e = absurd (omega arith)
-fine_248 TextString direct n h f e = absurd (omega arith)
-fine_248 Array direct n h f e = absurd (omega arith)
-fine_248 Map direct n h f e = absurd (omega arith)
-fine_248 Tag direct n h f e = absurd (omega arith)
-fine_248 Simple direct n h f e = absurd (omega arith)
-fine_248 Unsigned one_byte n h f e = absurd (omega arith)
-fine_248 Negative one_byte n h f e = absurd (omega arith)
-fine_248 ByteString one_byte n h f e = absurd (omega arith)
-fine_248 TextString one_byte n h f e = absurd (omega arith)
-fine_248 Array one_byte n h f e = absurd (omega arith)
-fine_248 Map one_byte n h f e = absurd (omega arith)
-fine_248 Tag one_byte n h f e = absurd (omega arith)
+fine_248 _ direct n h f e = absurd (omega arith)
 fine_248 Simple one_byte n h f e = (f, omega arith)
 fine_248 major two_bytes n h f e = (tt, omega arith)
 fine_248 major four_bytes n h f e = (tt, omega arith)
 fine_248 major eight_bytes n h f e = (tt, omega arith)
+fine_248 _ one_byte n h f e = absurd (omega arith)
 
 is_one : (major : Major) (size : HeadSize) (n : ℕ) → n < argument_limit size → 32 * major_number major + info_of size n ≡ 248 → size ≡ one_byte
-is_one major direct n h e = absurd (omega arith)
 is_one major one_byte n h e = refl
-is_one major two_bytes n h e = absurd (omega arith)
-is_one major four_bytes n h e = absurd (omega arith)
-is_one major eight_bytes n h e = absurd (omega arith)
+is_one major _ n h e = absurd (omega arith)
 
 second_is : (size : HeadSize) (n byte : ℕ) (x y : List ℕ) → size ≡ one_byte → IsSimpleHead size n → byte ∷ x ≡ tail_of size n ++ y → 32 ≤ byte
-second_is direct n byte x y s f e = absurd cc
 second_is one_byte n byte x y s f e = let q : byte ≡ n = cc in omega arith
-second_is two_bytes n byte x y s f e = absurd cc
-second_is four_bytes n byte x y s f e = absurd cc
-second_is eight_bytes n byte x y s f e = absurd cc
+second_is _ n byte x y s f e = absurd cc
 
 second_byte : (major : Major) (n byte : ℕ) (head x y : List ℕ) → IsHeadOf major n head → 248 ∷ byte ∷ x ≡ head ++ y → 32 ≤ byte
 second_byte major n byte head x y h e =

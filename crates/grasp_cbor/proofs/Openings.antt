@@ -1,7 +1,7 @@
 -- What begins an item: its first byte, and that no opening begins another.
 use Rattle.std.proofs.Common.{◌≡◌, ℕ, ◌+◌, ◌*◌, ◌<◌, List, ◌∷◌, ◌++◌, refl, sym, ap, ◌∙◌, append_assoc, arith}
 use Rattle.grasp_cbor.specs.Major.{major_number}
-use Rattle.grasp_cbor.specs.Head.{HeadSize, direct, one_byte, two_bytes, four_bytes, eight_bytes, argument_limit}
+use Rattle.grasp_cbor.specs.Head.{HeadSize, direct, argument_limit}
 use Rattle.grasp_cbor.specs.Stands.{info_of}
 use Rattle.grasp_cbor.specs.declared.heads.Major.{Major}
 use Rattle.grasp_cbor.specs.declared.heads.StringKind.TheVariants.{Bytes, Text}
@@ -14,10 +14,7 @@ use Rattle.grasp_cbor.proofs.Shapes.{Endless, chunks, item_row, pair_row, endles
 
 pub info_below : (size : HeadSize) (n : ℕ) → n < argument_limit size → info_of size n < 28
 info_below direct n h = omega arith
-info_below one_byte n h = omega arith
-info_below two_bytes n h = omega arith
-info_below four_bytes n h = omega arith
-info_below eight_bytes n h = omega arith
+info_below _ n h = omega arith
 
 -- the first byte of a head of definite length
 pub record HeadByte (major : Major) (byte : ℕ) : Type 0 where
@@ -45,21 +42,12 @@ endless_is pair_row = record { major = 5; strings = omega arith; lists = omega a
 
 one_endless : (a b : Endless) → endless_byte a ≡ endless_byte b → a ≡ b
 one_endless (chunks Bytes) (chunks Bytes) e = refl
-one_endless (chunks Bytes) (chunks Text) e = absurd (omega arith)
-one_endless (chunks Bytes) item_row e = absurd (omega arith)
-one_endless (chunks Bytes) pair_row e = absurd (omega arith)
-one_endless (chunks Text) (chunks Bytes) e = absurd (omega arith)
 one_endless (chunks Text) (chunks Text) e = refl
-one_endless (chunks Text) item_row e = absurd (omega arith)
-one_endless (chunks Text) pair_row e = absurd (omega arith)
 one_endless item_row (chunks Bytes) e = absurd (omega arith)
-one_endless item_row (chunks Text) e = absurd (omega arith)
 one_endless item_row item_row e = refl
-one_endless item_row pair_row e = absurd (omega arith)
 one_endless pair_row (chunks Bytes) e = absurd (omega arith)
-one_endless pair_row (chunks Text) e = absurd (omega arith)
-one_endless pair_row item_row e = absurd (omega arith)
 one_endless pair_row pair_row e = refl
+one_endless _ _ e = absurd (omega arith)
 
 -- a head and a byte of indefinite length differ
 pub head_not_endless : (major : Major) (n byte : ℕ) (head x y : List ℕ) → EndlessByte byte → IsHeadOf major n head → byte ∷ x ≡ head ++ y → ⊥

@@ -41,10 +41,7 @@ run_stood [] s (goes levels string stage) a h = subst (λ x. Stood x (goes level
 run_stood (b ∷ bs) s (goes levels string stage) a h =
     subst (λ x. Stood x (run (step levels string stage b) bs)) (append_assoc s (b ∷ []) bs)
     (run_stood bs (s ++ b ∷ []) (step levels string stage b) a.1 (one_stood s h.0 b (step levels string stage b) (moves levels string stage s h.0 b h.1 a.0)))
-run_stood [] s whole a h = tt
-run_stood (b ∷ bs) s whole a h = tt
-run_stood [] s (bad name) a h = tt
-run_stood (b ∷ bs) s (bad name) a h = tt
+run_stood _ s _ a h = tt
 
 pub took_passed : (old mid new : Walk) (s bs : List ℕ) → Took old s → AllBytes bs → Passed old mid bs → stand_of mid ≡ stand_of new → new.taken ≡ old.taken + length bs → new.taken < new.limit → Took new (s ++ bs)
 took_passed old mid new s bs t a p e n l =
@@ -134,8 +131,7 @@ number_head levels string first n e g l =
 
 pub run_none : (m : Move) → run m [] ≡ m
 run_none (goes levels string stage) = refl
-run_none whole = refl
-run_none (bad name) = refl
+run_none _ = refl
 
 pub run_number : (bs : List ℕ) (levels : List Level) (short : Bool) (value left : ℕ) → 0 < left → length bs ≡ left → run (goes levels None (Heading Unsigned short value left)) bs ≡ finished levels
 run_number [] levels short value left z h = absurd (omega arith)

@@ -1,13 +1,18 @@
 -- The part of a list at a place.
-use Rattle.std.proofs.Common.{◌≡◌, ℕ, zero, suc, ◌+◌, ◌<◌, ◌≤◌, List, [], ◌∷◌, ◌++◌, length, take, Some, None, slice_get, ap, ◌∙◌, arith}
+use Rattle.std.proofs.Common.{◌≡◌, ℕ, zero, suc, ◌+◌, ◌<◌, ◌≤◌, List, [], ◌∷◌, ◌++◌, length, map, take, get_or, Some, None, slice_get, refl, sym, ap, ◌∙◌, arith}
 use Rattle.std.proofs.lemmas.List.{take_more}
-use Rattle.std.proofs.lemmas.Option.{slice_get_within, get_or_from_slice_get}
+use Rattle.std.specs.Prelude.{option_map}
+use Rattle.std.proofs.lemmas.Option.{slice_get_within, slice_get_read, slice_get-map, get_or_from_slice_get}
 use Rattle.grasp_cbor.specs.DataItem.{DataItem, data_items, data_pairs, depth_of, items_depth, pairs_depth}
 
 -- one more part
 pub take_got : {X : Type 0} (xs : List X) (i : ℕ) (x : X) → slice_get xs i ≡ Some x → take (i + 1) xs ≡ take i xs ++ x ∷ []
 take_got xs i x e =
     take_more xs i x (slice_get_within xs i x e) ∙ ap (λ y. take i xs ++ y ∷ []) (get_or_from_slice_get xs i x x e)
+
+-- the part that a loop over the values is at
+pub turn_got : {X Y : Type 0} (v : X → Y) (xs : List X) (ys : List Y) (i : ℕ) (x : X) → map v xs ≡ ys → i < length xs → x ≡ get_or xs i x → slice_get ys i ≡ Some (v x)
+turn_got v xs ys i x e lt is = ap (λ zs. slice_get zs i) (sym e) ∙ slice_get-map v xs i ∙ ap (option_map v) (slice_get_read xs (length xs) i x refl lt is)
 
 -- a part is there
 pub got_below : {X : Type 0} (xs : List X) (i : ℕ) → i < length xs → slice_get xs i ≡ None → ⊥

@@ -4,7 +4,7 @@ use Rattle.grasp_cbor.specs.Encodes.{string_major}
 use Rattle.grasp_cbor.specs.Major.{major_number, major_of}
 use Rattle.grasp_cbor.specs.declared.heads.StringKind.{StringKind}
 use Rattle.grasp_cbor.specs.declared.heads.Major.{Major}
-use Rattle.grasp_cbor.specs.declared.heads.Major.TheVariants.{Unsigned, Negative, ByteString, TextString, Array, Map, Tag, Simple}
+use Rattle.grasp_cbor.specs.declared.heads.Major.TheVariants.{Array, Map, Tag}
 use Rattle.grasp_cbor.specs.declared.walker.Level.{Level}
 use Rattle.grasp_cbor.specs.Front.{can_break}
 use Rattle.grasp_cbor.specs.Step.{first_name}
@@ -13,14 +13,10 @@ use Rattle.grasp_cbor.proofs.Majors.{major_number-major_of}
 use Rattle.grasp_cbor.proofs.Moves.{is_clear, chunk_clear, string_below}
 
 has_levels : (major : Major) (d : ℕ) → (3 < major_number major → major_number major < 7 → d < 16) → d ≤ 16 → d + levels_of major ≤ 16
-has_levels Unsigned d h l = omega arith
-has_levels Negative d h l = omega arith
-has_levels ByteString d h l = omega arith
-has_levels TextString d h l = omega arith
 has_levels Array d h l = let k : d < 16 = h (omega arith) (omega arith) in omega arith
 has_levels Map d h l = let k : d < 16 = h (omega arith) (omega arith) in omega arith
 has_levels Tag d h l = let k : d < 16 = h (omega arith) (omega arith) in omega arith
-has_levels Simple d h l = omega arith
+has_levels _ d h l = omega arith
 
 no_level : (kind : StringKind) (k d : ℕ) → (k ≡ string_major kind) ⊎ (k ≡ 7) → 3 < k → k < 7 → d < 16
 no_level kind k d (inl e) p q = absurd (let l = string_below kind in omega arith)

@@ -1,6 +1,6 @@
 -- No head begins another.
 use Rattle.std.proofs.Common.{◌≡◌, ℕ, ◌<◌, List, ◌++◌, refl, sym, ap, ◌∙◌}
-use Rattle.grasp_cbor.specs.Head.{HeadSize, direct, one_byte, two_bytes, four_bytes, eight_bytes, argument_limit, sized_head}
+use Rattle.grasp_cbor.specs.Head.{HeadSize, direct, argument_limit, sized_head}
 use Rattle.grasp_cbor.specs.Major.{major_number}
 use Rattle.grasp_cbor.specs.declared.heads.Head.{Head}
 use Rattle.grasp_cbor.specs.declared.heads.Major.{Major}
@@ -16,10 +16,7 @@ pub record IsSame (a b : HeadSize) (k m : Major) (n p : ℕ) (x y : List ℕ) : 
 
 size_in-argument_of : (size : HeadSize) (n : ℕ) → size_in (argument_of size n) ≡ size
 size_in-argument_of direct n = refl
-size_in-argument_of one_byte n = refl
-size_in-argument_of two_bytes n = refl
-size_in-argument_of four_bytes n = refl
-size_in-argument_of eight_bytes n = refl
+size_in-argument_of _ n = refl
 
 pub same_head : (a b : HeadSize) (k m : Major) (n p : ℕ) (x y : List ℕ) → n < argument_limit a → p < argument_limit b → sized_head a (major_number k) n ++ x ≡ sized_head b (major_number m) p ++ y → IsSame a b k m n p x y
 same_head a b k m n p x y l h e =

@@ -1,7 +1,7 @@
 -- The shortest encoding is an encoding.
 use Rattle.std.proofs.Common.{◌≡◌, ℕ, ◌^◌, ◌<◌, ◌≤◌, Bool, true, false, cond, ltb, length, refl, inl}
 use Rattle.std.proofs.lemmas.Bool.{ltb-true, ltb-false}
-use Rattle.grasp_cbor.specs.DataItem.{DataItem, DataItems, DataPairs, unsigned, negative, byte_string, text_string, array, mapping, tagged, simple_value, half_float, single_float, double_float, no_items, item_and, no_pairs, pair_and, depth_of}
+use Rattle.grasp_cbor.specs.DataItem.{DataItem, DataItems, DataPairs, unsigned, negative, byte_string, text_string, array, mapping, tagged, simple_value, no_items, item_and, no_pairs, pair_and, depth_of}
 use Rattle.grasp_cbor.specs.Encodable.{IsEncodable, AreEncodable, ArePairsEncodable}
 use Rattle.grasp_cbor.specs.Encodes.{IsEncoding, AreEncodings, ArePairEncodings, Encodes}
 use Rattle.grasp_cbor.specs.Head.{HeadSize, argument_limit, IsHead, shortest_size, shortest_head}
@@ -43,9 +43,7 @@ mutual
   IsEncoding-shortest (mapping es) h = inl (shortest_head 5 _, shortest_pairs es, IsHead-shortest_head 5 _ h.0, ArePairEncodings-shortest es h.1, refl)
   IsEncoding-shortest (tagged n t) h = (shortest_head 6 n, shortest t, IsHead-shortest_head 6 n h.0, IsEncoding-shortest t h.1, refl)
   IsEncoding-shortest (simple_value n) h = (h.0, h.1, refl)
-  IsEncoding-shortest (half_float n) h = (h, refl)
-  IsEncoding-shortest (single_float n) h = (h, refl)
-  IsEncoding-shortest (double_float n) h = (h, refl)
+  IsEncoding-shortest _ h = (h, refl)
 
   AreEncodings-shortest : (ts : DataItems) → AreEncodable ts → AreEncodings ts (shortest_items ts)
   AreEncodings-shortest no_items h = refl

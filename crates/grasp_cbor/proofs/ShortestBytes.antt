@@ -4,24 +4,18 @@ use Rattle.std.proofs.lemmas.Bool.{ltb-true}
 use Rattle.grasp_cbor.specs.Bytes.{AllBytes}
 use Rattle.grasp_cbor.specs.DataItem.{DataItem, DataItems, DataPairs, unsigned, negative, byte_string, text_string, array, mapping, tagged, simple_value, half_float, single_float, double_float, no_items, item_and, no_pairs, pair_and, item_count, pair_count}
 use Rattle.grasp_cbor.specs.Encodable.{IsEncodable, AreEncodable, ArePairsEncodable}
-use Rattle.grasp_cbor.specs.Head.{HeadSize, direct, one_byte, two_bytes, four_bytes, eight_bytes, argument_limit, shortest_head}
+use Rattle.grasp_cbor.specs.Head.{two_bytes, four_bytes, eight_bytes, shortest_head}
 use Rattle.grasp_cbor.specs.Shortest.{shortest, shortest_items, shortest_pairs}
 use Rattle.grasp_cbor.specs.Stands.{info_of}
 use Rattle.grasp_cbor.proofs.HeadBytes.{tail_of, head_is, tail_bytes, AllBytes-append}
+use Rattle.grasp_cbor.proofs.Openings.{info_below}
 use Rattle.grasp_cbor.proofs.Shortest.{IsHead-shortest_head}
 use Rattle.grasp_cbor.proofs.Text.{utf8_bytes}
-
-low_info : (size : HeadSize) (n : ℕ) → n < argument_limit size → info_of size n < 28
-low_info direct n h = omega arith
-low_info one_byte n h = omega arith
-low_info two_bytes n h = omega arith
-low_info four_bytes n h = omega arith
-low_info eight_bytes n h = omega arith
 
 head_bytes : (major n : ℕ) → major < 8 → n < 2 ^ 64 → AllBytes (shortest_head major n)
 head_bytes major n l h =
     let k = IsHead-shortest_head major n h in
-    let i = low_info k.0 n k.1 in
+    let i = info_below k.0 n k.1 in
     let first : 32 * major + info_of k.0 n < 256 = omega arith in
     let both : AllBytes ((32 * major + info_of k.0 n) ∷ tail_of k.0 n) = (first, tail_bytes k.0 n k.1) in
     subst AllBytes (sym (k.2 ∙ head_is k.0 major n)) both

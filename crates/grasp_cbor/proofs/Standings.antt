@@ -3,13 +3,13 @@ use Rattle.std.proofs.Common.{◌≡◌, ◌≢◌, ℕ, ◌+◌, ◌-◌, ◌*�
 use Rattle.std.proofs.lemmas.Bool.{le-leb, leb-true}
 use Rattle.std.proofs.lemmas.List.{length-append, length-replicate}
 use Rattle.grasp_cbor.specs.Major.{major_number}
-use Rattle.grasp_cbor.specs.Head.{HeadSize, direct, one_byte, two_bytes, four_bytes, eight_bytes, sized_head}
+use Rattle.grasp_cbor.specs.Head.{HeadSize, direct, one_byte, sized_head}
 use Rattle.grasp_cbor.specs.declared.walker.FaultName.{FaultName}
 use Rattle.grasp_cbor.specs.declared.utf8.Owed.{Owed}
 use Rattle.grasp_cbor.specs.declared.heads.StringKind.{StringKind}
 use Rattle.grasp_cbor.specs.declared.walker.Level.{Level}
 use Rattle.grasp_cbor.specs.declared.heads.Major.{Major}
-use Rattle.grasp_cbor.specs.declared.heads.Major.TheVariants.{Unsigned, Negative, ByteString, TextString, Array, Map, Tag, Simple}
+use Rattle.grasp_cbor.specs.declared.heads.Major.TheVariants.{Array, Map, Tag, Simple}
 use Rattle.grasp_cbor.specs.declared.walker.Stage.{Stage}
 use Rattle.grasp_cbor.specs.declared.walker.Stage.TheVariants.{Beginning, Heading, InBytes, InText}
 use Rattle.grasp_cbor.specs.Bytes.{AllBytes}
@@ -28,53 +28,24 @@ use Rattle.grasp_cbor.proofs.Moves.{After, moves, nothing_got, info_wide}
 -- ---- to fronts
 
 room_from : (major : Major) (d n : ℕ) → (3 < major_number major → major_number major < 7 → 0 < d) → HasRoom d (body_of major n)
-room_from Unsigned d n h = tt
-room_from Negative d n h = tt
-room_from ByteString d n h = tt
-room_from TextString d n h = tt
 room_from Array d n h = h (omega arith) (omega arith)
 room_from Map d n h = h (omega arith) (omega arith)
 room_from Tag d n h = h (omega arith) (omega arith)
-room_from Simple d n h = tt
+room_from _ d n h = tt
 
 plain_248 : (major : Major) (size : HeadSize) → 0 < argument_width size → 32 * major_number major + info_of size 0 ≡ 248 → (is_simple major && is_one size) ≡ true
 plain_248 major direct z e = absurd (omega arith)
-plain_248 Unsigned one_byte z e = absurd (omega arith)
-plain_248 Negative one_byte z e = absurd (omega arith)
-plain_248 ByteString one_byte z e = absurd (omega arith)
-plain_248 TextString one_byte z e = absurd (omega arith)
-plain_248 Array one_byte z e = absurd (omega arith)
-plain_248 Map one_byte z e = absurd (omega arith)
-plain_248 Tag one_byte z e = absurd (omega arith)
 plain_248 Simple one_byte z e = refl
-plain_248 major two_bytes z e = absurd (omega arith)
-plain_248 major four_bytes z e = absurd (omega arith)
-plain_248 major eight_bytes z e = absurd (omega arith)
+plain_248 _ _ z e = absurd (omega arith)
 
 first_248 : (major : Major) (size : HeadSize) → (is_simple major && is_one size) ≡ true → (32 * major_number major + info_of size 0 ≡ 248) × (argument_width size ≡ 1)
-first_248 Unsigned size e = absurd cc
-first_248 Negative size e = absurd cc
-first_248 ByteString size e = absurd cc
-first_248 TextString size e = absurd cc
-first_248 Array size e = absurd cc
-first_248 Map size e = absurd cc
-first_248 Tag size e = absurd cc
-first_248 Simple direct e = absurd cc
 first_248 Simple one_byte e = (refl, refl)
-first_248 Simple two_bytes e = absurd cc
-first_248 Simple four_bytes e = absurd cc
-first_248 Simple eight_bytes e = absurd cc
+first_248 _ _ e = absurd cc
 
 -- what is simple begins no chunk
 simple_only : (string : Option StringKind) (major : Major) (b : Bool) → (is_simple major && b) ≡ true → MayBegin string major → MayBegin string Simple
-simple_only string Unsigned b e m = absurd cc
-simple_only string Negative b e m = absurd cc
-simple_only string ByteString b e m = absurd cc
-simple_only string TextString b e m = absurd cc
-simple_only string Array b e m = absurd cc
-simple_only string Map b e m = absurd cc
-simple_only string Tag b e m = absurd cc
 simple_only string Simple b e m = m
+simple_only string _ b e m = absurd cc
 
 at_248 : (a : ℕ) (got : List ℕ) → a ∷ got ≡ 248 ∷ [] → a ≡ 248
 at_248 a got e = cc
@@ -127,10 +98,7 @@ pub record Standing (s : List ℕ) (spot : Spot) : Type 0 where
 
 wide_cut : (size : HeadSize) (m n first next : ℕ) (got more : List ℕ) → sized_head size m n ≡ (first ∷ got) ++ next ∷ more → 0 < argument_width size
 wide_cut direct m n first next got more e = absurd (let k = ap length e in omega (arith, length-append got (next ∷ more)))
-wide_cut one_byte m n first next got more e = omega arith
-wide_cut two_bytes m n first next got more e = omega arith
-wide_cut four_bytes m n first next got more e = omega arith
-wide_cut eight_bytes m n first next got more e = omega arith
+wide_cut _ m n first next got more e = omega arith
 
 not_simple : (major : Major) (size : HeadSize) (got : List ℕ) (first left : ℕ) (s : List ℕ) (b : Bool) → (is_simple major && is_one size) ≡ b → first ≡ 32 * major_number major + info_of size 0 → s ≡ first ∷ got → 0 < left → length got + left ≡ argument_width size → s ≢ 248 ∷ [] → b ≡ false
 not_simple major size got first left s false e f g some all ne = refl

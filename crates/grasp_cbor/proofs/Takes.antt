@@ -6,6 +6,7 @@ use Rattle.std.proofs.lemmas.Str.{IsUtf8-from_is_utf8}
 use Rattle.std.proofs.lemmas.Bool.{cases_lt, ltb-true, ltb-false, eqb-true}
 use Rattle.std.proofs.lemmas.List.{take-append-drop, length-take, get_or-drop, get_or-take, get_or_past}
 use Rattle.std.proofs.lemmas.Nat.{be_bytes_2, be_bytes_4, be_bytes_8}
+use Rattle.std.proofs.lemmas.Option.{cond_some}
 use Rattle.grasp_cbor.specs.Head.{HeadSize, direct, one_byte, two_bytes, four_bytes, eight_bytes, argument_limit, sized_head, IsHead}
 use Rattle.grasp_cbor.specs.Major.{major_number, major_of}
 use Rattle.grasp_cbor.proofs.Majors.{major_number-major_of}
@@ -44,10 +45,6 @@ bind_ok None f y e = absurd cc
 pub guard_ok : {A : Type 0} (b : Bool) (x y : A) → cond b None (Some x) ≡ Some y → (b ≡ false) × (x ≡ y)
 guard_ok true x y e = absurd cc
 guard_ok false x y e = (refl, cc)
-
-pub guard_ended : {A : Type 0} (b : Bool) (x y : A) → cond b (Some x) None ≡ Some y → (b ≡ true) × (x ≡ y)
-guard_ended true x y e = (refl, cc)
-guard_ended false x y e = absurd cc
 
 -- which way a test went
 pub chosen : {A : Type 0} (b : Bool) (x y z : A) → cond b x y ≡ z → ((b ≡ true) × (x ≡ z)) ⊎ ((b ≡ false) × (y ≡ z))
@@ -171,10 +168,7 @@ argument_takes i s x fits e =
 
 pub sized_head_is : (major : ℕ) (a : Argument) → sized_head (size_in a) major (value_of a) ≡ (32 * major + low_of a) ∷ tail_of a
 sized_head_is major (Direct n) = refl
-sized_head_is major (One n) = refl
-sized_head_is major (Two n) = refl
-sized_head_is major (Four n) = refl
-sized_head_is major (Eight n) = refl
+sized_head_is major _ = refl
 
 pub record IsTakenHead (s : List ℕ) (x : Head × List ℕ) : Type 0 where
   pub taken : Takes s (sized_head (size_in x.0.argument) (major_number x.0.major) (value_of x.0.argument)) x.1
@@ -206,7 +200,7 @@ pub text_takes : (n : ℕ) (s : List ℕ) (x : List ℕ × List ℕ) → IsBytes
 unfolding text_at
 text_takes n s x fits e =
     let b = bind_ok (bytes_at n s) (λ found. cond (is_utf8 found.0) (Some found) (None)) x e in
-    let g = guard_ended (is_utf8 b.0.0) b.0 x b.2 in
+    let g = cond_some (is_utf8 b.0.0) b.0 x b.2 in
     let t = bytes_takes n s b.0 fits b.1 in
     subst (λ (y : List ℕ × List ℕ). Takes s y.0 y.1 × (length y.0 ≡ n) × IsUtf8 y.0) g.1 (t.0, t.1, IsUtf8-from_is_utf8 b.0.0 g.0)
 
@@ -248,7 +242,7 @@ open_takes (b ∷ s) x fits e =
 break_takes : (s rest : List ℕ) → IsBytes s → break_at s ≡ Some rest → Takes s (255 ∷ []) rest
 break_takes [] rest fits e = absurd cc
 break_takes (b ∷ s) rest fits e =
-    let g = guard_ended (eqb b 255) s rest e in
+    let g = cond_some (eqb b 255) s rest e in
     subst (λ y. Takes (b ∷ s) (255 ∷ []) y) g.1 (record { parts = ap (λ n. n ∷ s) (eqb-true b 255 g.0); rest_fits = IsBytes-rest b s fits })
 
 -- a break ends it, or there is more

@@ -2,7 +2,7 @@
 use Rattle.std.proofs.Common.{◌≡◌, ℕ, zero, suc, ◌+◌, ◌-◌, ◌*◌, ◌/◌, ◌%◌, ◌<◌, ◌≤◌, Bool, true, false, cond, ltb, eqb, ◌||◌, ◌⊎◌, inl, inr, List, [], ◌∷◌, ◌++◌, length, Option, Some, None, refl, sym, ap, subst, ◌∙◌, arith}
 use lib.Utf8.{scalar, scalars, encode, encodes, scalar_cases, low_scalar}
 use Rattle.std.specs.Str.{IsUtf8}
-use Rattle.std.proofs.lemmas.Str.{IsUtf8-append, IsUtf8-nil, IsUtf8-encode}
+use Rattle.std.proofs.lemmas.Str.{IsUtf8-append, IsUtf8-nil, IsUtf8-encode, encode_ascii}
 use Rattle.std.proofs.lemmas.Bool.{cases_lt, cases_eq, lt-ltb, le-ltb, le-leb, leb-true, eq-eqb, ne_eqb, and_parts}
 use Rattle.grasp_cbor.specs.declared.utf8.Owed.{Owed}
 use Rattle.grasp_cbor.specs.Bytes.{AllBytes}
@@ -87,10 +87,6 @@ run_4 : (a b c d : ℕ) (rest : List ℕ) → 240 ≤ a → a < 245 → low_4 a 
 run_4 a b c d rest l h p q r s t u =
     cell_1 a (b ∷ c ∷ d ∷ rest) _ (lead_4 a l h) ∙ cell 3 (low_4 a) (high_4 a) b (c ∷ d ∷ rest) (omega arith) p q ∙ cell 2 128 191 c (d ∷ rest) (omega arith) r s ∙ cell 1 128 191 d rest (omega arith) t u
 
-encode_1 : (c : ℕ) → c < 128 → encode c ≡ c ∷ []
-unfolding encode
-encode_1 c h = rw (lt-ltb c 128 h) refl
-
 encode_2 : (c : ℕ) → 128 ≤ c → c < 2048 → encode c ≡ (192 + c / 64) ∷ (128 + c % 64) ∷ []
 unfolding encode
 encode_2 c l h = rw (le-ltb c 128 l, lt-ltb c 2048 h) refl
@@ -112,7 +108,7 @@ abbrev Runs : List ℕ → List ℕ → Type 0
 Runs s rest = owed_of (Some ready) (s ++ rest) ≡ owed_of (Some ready) rest
 
 char_1 : (c : ℕ) (rest : List ℕ) → c < 128 → Runs (encode c) rest
-char_1 c rest h = rw (encode_1 c h) (cell_1 c rest _ (lead_1 c h))
+char_1 c rest h = rw (encode_ascii c h) (cell_1 c rest _ (lead_1 c h))
 
 char_2 : (c : ℕ) (rest : List ℕ) → 128 ≤ c → c < 2048 → Runs (encode c) rest
 char_2 c rest l h = rw (encode_2 c l h) (run_2 (192 + c / 64) (128 + c % 64) rest (omega arith) (omega arith) (omega arith) (omega arith))
@@ -159,7 +155,7 @@ spelled : (c : ℕ) (s : List ℕ) → c < 1114112 → (c < 55296) ⊎ (57344 �
 spelled c s h r e = subst IsUtf8 e (IsUtf8-encode c (is_scalar c h r))
 
 utf8_1 : (a : ℕ) → a < 128 → IsUtf8 (a ∷ [])
-utf8_1 a h = spelled a _ (omega arith) (inl (omega arith)) (encode_1 a h)
+utf8_1 a h = spelled a _ (omega arith) (inl (omega arith)) (encode_ascii a h)
 
 utf8_2 : (a b c : ℕ) → c + 12416 ≡ a * 64 + b → 194 ≤ a → a < 224 → 128 ≤ b → b ≤ 191 → IsUtf8 (a ∷ b ∷ [])
 utf8_2 a b c e l h p q =
@@ -395,7 +391,7 @@ can_end-from s left c =
 encode_bytes : (c : ℕ) → c < 1114112 → AllBytes (encode c)
 encode_bytes c h =
     elim (cases_lt c 128) [
-      | inl a ↦ rw (encode_1 c a) (omega arith, tt)
+      | inl a ↦ rw (encode_ascii c a) (omega arith, tt)
       | inr a ↦ elim (cases_lt c 2048) [
         | inl b ↦ rw (encode_2 c a b) (omega arith, (omega arith, tt))
         | inr b ↦ elim (cases_lt c 65536) [

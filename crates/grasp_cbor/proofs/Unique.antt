@@ -4,11 +4,12 @@ use Rattle.std.proofs.lemmas.List.{length-append, append_cancel_left}
 use Rattle.grasp_cbor.specs.Major.{major_number}
 use Rattle.grasp_cbor.specs.Encodes.{string_major}
 use Rattle.grasp_cbor.specs.Head.{sized_head}
+use Rattle.grasp_cbor.proofs.Facts.Lists.{same_first}
 use Rattle.grasp_cbor.proofs.Same.{same_head}
 use Rattle.grasp_cbor.specs.declared.heads.StringKind.{StringKind}
 use Rattle.grasp_cbor.specs.declared.heads.StringKind.TheVariants.{Bytes, Text}
 use Rattle.grasp_cbor.specs.declared.heads.Major.{Major}
-use Rattle.grasp_cbor.specs.declared.heads.Major.TheVariants.{Unsigned, Negative, ByteString, TextString, Array, Map, Tag, Simple}
+use Rattle.grasp_cbor.specs.declared.heads.Major.TheVariants.{ByteString, TextString, Array, Map, Tag}
 use Rattle.grasp_cbor.specs.declared.walker.Level.{Level}
 use Rattle.grasp_cbor.specs.declared.walker.Level.TheVariants.{Parts, Items, Keys, Values}
 use Rattle.grasp_cbor.specs.Bytes.{joined}
@@ -19,7 +20,7 @@ use Rattle.grasp_cbor.proofs.HeadBytes.{AllBytes-append, tail_of, head_is}
 use Rattle.grasp_cbor.proofs.Shapes.{item_row, pair_row, chunks, chunk_row, chunk_items, piece_item}
 use Rattle.grasp_cbor.proofs.Openings.{EndlessByte, endless_is, info_below, head_byte, head_not_endless, same_openings, same_heads}
 use Rattle.grasp_cbor.proofs.Insides.{same_item, sort_of, opens_row, opens_as, close_one}
-use Rattle.grasp_cbor.proofs.Fronts.{cut_open, begun_open}
+use Rattle.grasp_cbor.proofs.Fronts.{cut_open, begun_open, regrouped}
 
 -- ---- outside in
 
@@ -68,9 +69,6 @@ cut_no_item string levels d s spot c = let o = cut_open string levels d s spot c
 is_begun_open : (levels : List Level) (d : ℕ) (s : List ℕ) (spot : Spot) → IsBegun levels d s spot → CanGoOnWithin d s
 is_begun_open levels d s spot b = subst (λ x. CanGoOnWithin d x) (sym b.form) (begun_open b.string levels d b.opened b.cut spot b.between b.begun)
 
-wrap : (own rest m y : List ℕ) (n : ℕ) → own ++ ((rest ++ n ∷ m) ++ y) ≡ (own ++ rest) ++ n ∷ (m ++ y)
-wrap own rest m y n = simp append_assoc refl
-
 nest_open : (d : ℕ) (levels : List Level) (s : List ℕ) (spot : Spot) → Nest d levels s spot → CanGoOnWithin d s
 nest_open zero levels s spot b = is_begun_open levels zero s spot b
 nest_open (suc d) levels s spot (inl b) = is_begun_open levels (suc d) s spot b
@@ -78,7 +76,7 @@ nest_open (suc d) levels s spot (inr p) =
     let w = nest_open d (p.0 ∷ levels) p.2 spot p.4 in
     let c = close_one d p.0 p.1 (p.2 ++ w.0 ∷ w.1) p.3 w.2 in
     let up : d + 1 ≡ suc d = omega arith in
-    (w.0, w.1 ++ c.more, subst (λ k. IsItem k (s ++ w.0 ∷ (w.1 ++ c.more))) up (subst (λ x. IsItem (d + 1) x) (wrap p.1 p.2 w.1 c.more w.0 ∙ ap (λ x. x ++ w.0 ∷ (w.1 ++ c.more)) (sym p.5)) c.item), AllBytes-append (w.0 ∷ w.1) c.more w.3 c.bytes)
+    (w.0, w.1 ++ c.more, subst (λ k. IsItem k (s ++ w.0 ∷ (w.1 ++ c.more))) up (subst (λ x. IsItem (d + 1) x) (regrouped p.1 p.2 w.1 c.more w.0 ∙ ap (λ x. x ++ w.0 ∷ (w.1 ++ c.more)) (sym p.5)) c.item), AllBytes-append (w.0 ∷ w.1) c.more w.3 c.bytes)
 
 nest_no_item : (d : ℕ) (levels : List Level) (s : List ℕ) (spot : Spot) → Nest d levels s spot → NoItem s
 nest_no_item d levels s spot n = open_no_item d s (nest_open d levels s spot n)
@@ -141,25 +139,19 @@ cut_not_endless string levels d s _ byte x b (at_text t l c h) f = head_not_endl
 -- ---- one cut
 
 one_cut : (string : Option StringKind) (levels : List Level) (d : ℕ) (s : List ℕ) (a b : Spot) → IsCut string levels d s a → IsCut string levels d s b → a ≡ b
-one_cut string levels d s _ _ (at_start e) (at_start f) = refl
 one_cut string levels d s _ _ (at_start e) (at_simple f m) = absurd (let k = ap length (sym e ∙ f) in omega arith)
 one_cut string levels d s _ _ (at_start e) (at_head c ne) = absurd (let k = ap length (sym e ∙ c.form) in omega arith)
 one_cut string levels d s _ _ (at_start e) (at_bytes t l c) = absurd (not_empty ByteString _ c.opening t c.head (sym c.form ∙ e))
 one_cut string levels d s _ _ (at_start e) (at_text t l c h) = absurd (not_empty TextString _ c.opening t c.head (sym c.form ∙ e))
 one_cut string levels d s _ _ (at_simple f m) (at_start e) = absurd (let k = ap length (sym e ∙ f) in omega arith)
-one_cut string levels d s _ _ (at_simple f m) (at_simple e n) = refl
 one_cut string levels d s _ _ (at_simple f m) (at_head c ne) = absurd (ne f)
 one_cut string levels d s _ _ (at_simple f m) (at_bytes t l c) = absurd (not_248 ByteString _ c.opening t c.head (omega arith) (sym c.form ∙ f))
 one_cut string levels d s _ _ (at_simple f m) (at_text t l c h) = absurd (not_248 TextString _ c.opening t c.head (omega arith) (sym c.form ∙ f))
 one_cut string levels d s _ _ (at_head c ne) (at_start e) = absurd (let k = ap length (sym e ∙ c.form) in omega arith)
 one_cut string levels d s _ _ (at_head c ne) (at_simple f m) = absurd (ne f)
-one_cut string levels d s _ _ (at_head c ne) (at_head b nf) = refl
-one_cut string levels d s _ _ (at_head c ne) (at_bytes t l b) = refl
 one_cut string levels d s _ _ (at_head c ne) (at_text t l b h) = absurd (not_cut string d TextString _ b.opening t s c b.head b.form)
 one_cut string levels d s _ _ (at_bytes t l c) (at_start e) = absurd (not_empty ByteString _ c.opening t c.head (sym c.form ∙ e))
 one_cut string levels d s _ _ (at_bytes t l c) (at_simple f m) = absurd (not_248 ByteString _ c.opening t c.head (omega arith) (sym c.form ∙ f))
-one_cut string levels d s _ _ (at_bytes t l c) (at_head b nf) = refl
-one_cut string levels d s _ _ (at_bytes t l c) (at_bytes u m b) = refl
 one_cut string levels d s _ _ (at_bytes t l c) (at_text u m b h) = absurd (bytes_text (same_heads ByteString TextString _ _ c.opening b.opening t u c.head b.head (sym c.form ∙ b.form)).major)
 one_cut string levels d s _ _ (at_text t l c g) (at_start e) = absurd (not_empty TextString _ c.opening t c.head (sym c.form ∙ e))
 one_cut string levels d s _ _ (at_text t l c g) (at_simple f m) = absurd (not_248 TextString _ c.opening t c.head (omega arith) (sym c.form ∙ f))
@@ -172,18 +164,15 @@ one_cut string levels d s _ _ (at_text t l c g) (at_text u m b h) =
     let len = ap length content in
     let left : l ≡ m = omega arith in
     λ i. in_text (content i) (left i)
+one_cut string levels d s _ _ _ _ = refl
 
 -- ---- a cut item is no list with parts
 
 parts_code : (major : Major) (n count : ℕ) → body_of major n ≡ some_parts count → (3 < major_number major) × (major_number major < 7)
-parts_code Unsigned n count e = absurd cc
-parts_code Negative n count e = absurd cc
-parts_code ByteString n count e = absurd cc
-parts_code TextString n count e = absurd cc
 parts_code Array n count e = (omega arith, omega arith)
 parts_code Map n count e = (omega arith, omega arith)
 parts_code Tag n count e = (omega arith, omega arith)
-parts_code Simple n count e = absurd cc
+parts_code _ n count e = absurd cc
 
 cut_not_parts : (string : Option StringKind) (levels : List Level) (d : ℕ) (s : List ℕ) (spot : Spot) (major : Major) (n count : ℕ) (opening y : List ℕ) → IsCut string levels d s spot → IsHeadOf major n opening → body_of major n ≡ some_parts count → s ≡ opening ++ y → ⊥
 cut_not_parts string levels d s _ major n count opening y (at_start e) h b f = not_empty major n opening y h (sym f ∙ e)
@@ -254,9 +243,6 @@ are_begun levels d s a b p q = one_begun p.string q.string levels d p.opened q.o
 
 -- ---- one nest
 
-same_first : (a b : ℕ) (x y : List ℕ) → a ∷ x ≡ b ∷ y → a ≡ b
-same_first a b x y e = cc
-
 byte_159 : (x y : List ℕ) → 159 ∷ x ≡ 191 ∷ y → ⊥
 byte_159 x y e = let q = same_first 159 191 x y e in omega arith
 
@@ -273,17 +259,15 @@ same_level (Parts a) Items k first other x y o p e = absurd (head_not_endless o.
 same_level (Parts a) Keys k first other x y o p e = absurd (head_not_endless o.1.major o.1.n 191 first y x (endless_is pair_row) o.1.head (sym (e ∙ ap (λ z. z ++ y) p.0)))
 same_level (Parts a) Values k first other x y o p e = absurd (head_not_endless o.1.major o.1.n 191 first y x (endless_is pair_row) o.1.head (sym (e ∙ ap (λ z. z ++ y) p.0)))
 same_level Items (Parts b) k first other x y o p e = absurd (head_not_endless p.1.major p.1.n 159 other x y (endless_is item_row) p.1.head (ap (λ z. z ++ x) (sym o) ∙ e))
-same_level Items Items k first other x y o p e = refl
 same_level Items Keys k first other x y o p e = absurd (byte_159 x y (ap (λ z. z ++ x) (sym o) ∙ e ∙ ap (λ z. z ++ y) p.0))
 same_level Items Values k first other x y o p e = absurd (byte_159 x y (ap (λ z. z ++ x) (sym o) ∙ e ∙ ap (λ z. z ++ y) p.0))
 same_level Keys (Parts b) k first other x y o p e = absurd (head_not_endless p.1.major p.1.n 191 other x y (endless_is pair_row) p.1.head (ap (λ z. z ++ x) (sym o.0) ∙ e))
 same_level Keys Items k first other x y o p e = absurd (byte_159 y x (sym (ap (λ z. z ++ x) (sym o.0) ∙ e ∙ ap (λ z. z ++ y) p)))
-same_level Keys Keys k first other x y o p e = refl
 same_level Keys Values k first other x y o p e = absurd (let a = o.2 in let b = p.2 in omega arith)
 same_level Values (Parts b) k first other x y o p e = absurd (head_not_endless p.1.major p.1.n 191 other x y (endless_is pair_row) p.1.head (ap (λ z. z ++ x) (sym o.0) ∙ e))
 same_level Values Items k first other x y o p e = absurd (byte_159 y x (sym (ap (λ z. z ++ x) (sym o.0) ∙ e ∙ ap (λ z. z ++ y) p)))
 same_level Values Keys k first other x y o p e = absurd (let a = o.2 in let b = p.2 in omega arith)
-same_level Values Values k first other x y o p e = refl
+same_level _ _ k first other x y o p e = refl
 
 record AreOneLevel (l m : Level) (t u : List ℕ) : Type 0 where
   level : l ≡ m

@@ -1,4 +1,4 @@
--- What follows the front of bytes.
+-- Inside: what follows the front of bytes.
 use Rattle.std.specs.Prelude.{ℕ, ◌∷◌, List, [], Option, Some, None, ◌==◌, if◌then◌else◌}
 
 -- what follows these bytes in others, where those begin with them

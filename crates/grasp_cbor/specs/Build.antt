@@ -1,5 +1,5 @@
--- Inside: making an item of bytes from left to right, as a function: the item and the bytes after it, or none. It stands
--- between the code and its meaning, `IsBuilt`.
+-- Making an item of bytes from left to right, as a function: the item and the bytes after it, or none. It stands between the
+-- code and its meaning, `IsBuilt`.
 use Rattle.std.specs.Prelude.{◌≡◌, ℕ, zero, suc, ◌/◌, ◌%◌, ◌++◌, List, [], ◌∷◌, length, take, drop, Option, Some, None, Result, Ok, Err, nat_lt, ◌==◌, if◌then◌else◌}
 use Rattle.std.specs.Int.{Width, w16, w32, w64, byte_len, from_be_bytes}
 use Rattle.std.specs.Str.{is_utf8}
@@ -29,12 +29,12 @@ None >>= f = None
 abbrev pub Found : Type 0 → Type 0
 Found X = Option (X × List ℕ)
 
--- nothing was found, unless memory ran out
+-- Inside: nothing was found, unless memory ran out
 abbrev pub Fails : {Y : Type 0} → BuildError → Option Y → Type 0
 Fails Memory found = Unit {0}
 Fails NotItem found = found ≡ None
 
--- what a function returned, seen by view, is what was found, unless memory ran out
+-- Inside: what a function returned, seen by view, is what was found, unless memory ran out
 abbrev pub Gives : {X Y : Type 0} → (X → Y) → Result X BuildError → Option Y → Type 0
 Gives view (Ok x) found = found ≡ Some (view x)
 Gives view (Err e) found = Fails e found
@@ -61,7 +61,7 @@ unfoldable pub argument_at : ℕ → List ℕ → Found Argument
 argument_at info rest =
     if nat_lt info 24 then Some (Direct info, rest) else (if info == 24 then sized One (byte_at rest) else (if info == 25 then sized Two (number_at w16 rest) else (if info == 26 then sized Four (number_at w32 rest) else (if info == 27 then sized Eight (number_at w64 rest) else None))))
 
--- its value
+-- Inside: its value
 abbrev pub value_at : ℕ → List ℕ → Found ℕ
 value_at info rest = argument_at info rest >>= λ a. Some (value_of a.0, a.1)
 
@@ -71,7 +71,7 @@ head_at s = do
   a ← argument_at (first.0 % 32) first.1
   Some (record { major = major_of (first.0 / 32); argument = a.0 }, a.1)
 
--- the argument of a head of this major type, and what follows
+-- Inside: the argument of a head of this major type, and what follows
 unfoldable pub argument_in : ℕ → List ℕ → Found ℕ
 argument_in major [] = None
 argument_in major (b ∷ rest) = if b / 32 == major then value_at (b % 32) rest else None
@@ -108,7 +108,7 @@ content_at kinds.Text n rest = text_at n rest
 unfoldable pub chunk_at : StringKind → List ℕ → Found (List ℕ)
 chunk_at kind s = head_at s >>= λ h. if major_number h.0.major == string_major kind then content_at kind (value_of h.0.argument) h.1 else None
 
--- the content of a string of this kind that has a length of its own, and what follows
+-- Inside: the content of a string of this kind that has a length of its own, and what follows
 abbrev pub string_in : StringKind → List ℕ → Found (List ℕ)
 string_in kind s = argument_in (string_major kind) s >>= λ a. content_at kind a.0 a.1
 
@@ -202,6 +202,6 @@ nested_in (suc depth) p rest = nested_with (λ s. item_with (nested_in depth) s)
 unfoldable pub item_at : ℕ → List ℕ → Found DataItem
 item_at depth s = item_with (nested_in depth) s
 
--- this item, and this rest
+-- Inside: this item, and this rest
 abbrev pub found_as : DataItem → List ℕ → Found DataItem
 found_as t rest = Some (t, rest)

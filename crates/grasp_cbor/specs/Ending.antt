@@ -24,7 +24,7 @@ pub record IsPartial (bytes : List ℕ) (limit : ℕ) : Type 0 where
   pub short : length bytes < limit
   pub can_go_on : CanGoOn bytes
 
--- there are at least limit bytes, and the first limit of them can still go on
+-- the item is too long: there are at least limit bytes, and the first limit of them can still go on to an item
 pub record IsTooLong (bytes : List ℕ) (limit : ℕ) : Type 0 where
   pub long : limit ≤ length bytes
   pub can_go_on : CanGoOn (take limit bytes)

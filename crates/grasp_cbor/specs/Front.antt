@@ -97,13 +97,13 @@ MayBegin (Some kind) major = major_number major ≡ string_major kind
 
 -- what the next byte would be
 pub data Spot : Type 0 where
-  -- it starts an item inside so many lists, maps and tags, or is a break where one may stand
+  -- the next byte starts an item inside so many lists, maps and tags, or is a break where one may stand
   starts : ℕ → Bool → Spot
-  -- it starts a chunk of a string of this kind, or is the break that ends the string
+  -- the next byte starts a chunk of a string of this kind, or is the break that ends the string
   starts_chunk : StringKind → Spot
-  -- it is the second byte of a simple value
+  -- the next byte is the second byte of a simple value
   after_simple : Spot
-  -- it stands in a text, or in a chunk of one, after these bytes, with so many left
+  -- the next byte stands in a text, or in a chunk of one, after these bytes, with so many left
   in_text : List ℕ → ℕ → Spot
   elsewhere : Spot
 
@@ -120,7 +120,7 @@ abbrev pub first_spot : Option StringKind → List Level → Spot
 first_spot None levels = starts (length levels) (can_break levels)
 first_spot (Some kind) levels = starts_chunk kind
 
--- there is room for the parts
+-- a body that has parts has room for them: they may be at least one level deep
 abbrev pub HasRoom : ℕ → Body → Type 0
 HasRoom depth nothing = Unit {0}
 HasRoom depth (some_bytes n) = Unit {0}

@@ -35,7 +35,7 @@ WhatCanGoOnIsFront = (bytes : List ℕ) → CanGoOn bytes → (spot : Spot) × F
 abbrev pub FrontsHaveOneSpot : Type 0
 FrontsHaveOneSpot = (bytes : List ℕ) (a b : Spot) → Front bytes a → Front bytes b → a ≡ b
 
--- these bytes, with a byte behind them, are an item or can go on to one
+-- a byte is taken behind these bytes: with it they are an item or can go on to one
 abbrev pub Takes : List ℕ → ℕ → Type 0
 Takes bytes byte = CanGoOn (bytes ++ byte ∷ []) ⊎ IsItem 16 (bytes ++ byte ∷ [])
 
@@ -59,6 +59,6 @@ FaultsAreFirst = (bytes : List ℕ) (place k : ℕ) (name : FaultName) → AllBy
 abbrev pub SomeEnding : Type 0
 SomeEnding = (bytes : List ℕ) (limit : ℕ) → AllBytes bytes → (ending : Ending) × IsEnding bytes limit ending
 
--- and no other
+-- reading bytes within a limit has at most one ending
 abbrev pub OneEnding : Type 0
 OneEnding = (bytes : List ℕ) (limit : ℕ) (a b : Ending) → AllBytes bytes → IsEnding bytes limit a → IsEnding bytes limit b → a ≡ b

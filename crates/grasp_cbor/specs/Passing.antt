@@ -19,7 +19,7 @@ stand_of w = goes (open_levels w) w.string w.stage
 abbrev pub Passed : Walk → Walk → List ℕ → Type 0
 Passed old new bytes = run (stand_of old) bytes ≡ stand_of new
 
--- it made this move, or stands where it stood
+-- the walker made this move, or stands where it stood before
 abbrev pub Moves : Walk → Walk → Bool → Move → Type 0
 Moves old new true move = move ≡ stand_of new
 Moves old new false move = stand_of old ≡ stand_of new

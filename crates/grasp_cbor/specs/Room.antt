@@ -1,4 +1,4 @@
--- How many levels what was begun takes.
+-- Inside: how many levels what was begun takes.
 use Rattle.std.specs.Prelude.{ℕ}
 use Rattle.grasp_cbor.specs.declared.heads.Major.{Major}
 use Rattle.grasp_cbor.specs.declared.heads.Major.TheVariants.{Unsigned, Negative, ByteString, TextString, Array, Map, Tag, Simple}

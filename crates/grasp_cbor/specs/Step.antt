@@ -15,47 +15,49 @@ use Rattle.grasp_cbor.specs.declared.walker.Level.TheVariants.{Parts, Items, Key
 use Rattle.grasp_cbor.specs.declared.walker.Stage.{Stage}
 use Rattle.grasp_cbor.specs.declared.walker.Stage.TheVariants.{Beginning, Heading, InBytes, InText}
 
--- the levels that are open, the string of indefinite length in the innermost, and what the next byte belongs to; or an item
--- is whole; or the byte is bad
+-- Inside: the levels that are open, the string of indefinite length in the innermost, and what the next byte belongs to; or an
+-- item is whole; or the byte is bad
 pub data Move : Type 0 where
   goes : List Level → Option StringKind → Stage → Move
   whole : Move
   bad : FaultName → Move
 
--- what a level waits for after one more part, or none where it has them all
+-- Inside: what a level waits for after one more part, or none where it has them all
 abbrev pub level_after : Level → Option Level
 level_after (Parts left) = if nat_lt 1 left then Some (Parts (left - 1)) else None
 level_after Items = Some Items
 level_after Keys = Some Values
 level_after Values = Some Keys
 
+-- Inside: what comes next inside these levels: the next part of this one where it waits for one, else what is given
 abbrev pub waits : Option Level → List Level → Move → Move
 waits (Some level) levels rest = goes (level ∷ levels) None Beginning
 waits None levels rest = rest
 
--- an item has ended inside these levels
+-- Inside: an item has ended inside these levels
 abbrev pub finished : List Level → Move
 finished [] = whole
 finished (level ∷ levels) = waits (level_after level) levels (finished levels)
 
--- an item, or a chunk of a string of indefinite length, has ended
+-- Inside: an item, or a chunk of a string of indefinite length, has ended
 abbrev pub ended : List Level → Option StringKind → Move
 ended levels None = finished levels
 ended levels (Some kind) = goes levels (Some kind) Beginning
 
--- a break ends the string, or else the innermost level
+-- Inside: a break ends the string, or else the innermost level
 abbrev pub broken : List Level → Option StringKind → Move
 broken levels (Some kind) = finished levels
 broken [] None = whole
 broken (level ∷ levels) None = finished levels
 
+-- Inside: what comes behind a whole head: the bytes of a string, the parts of an item, or what follows where there are none
 abbrev pub after_head : List Level → Option StringKind → Body → Move
 after_head levels string nothing = ended levels string
 after_head levels string (some_bytes n) = if nat_lt 0 n then goes levels string (InBytes n) else ended levels string
 after_head levels string (some_text n) = if nat_lt 0 n then goes levels string (InText ready n) else ended levels string
 after_head levels string (some_parts n) = if nat_lt 0 n then goes (Parts n ∷ levels) string Beginning else ended levels string
 
--- an initial byte of indefinite length, or a break
+-- Inside: an initial byte of indefinite length, or a break
 abbrev pub opened : List Level → Option StringKind → Major → Move
 opened levels string ByteString = goes levels (Some Bytes) Beginning
 opened levels string TextString = goes levels (Some Text) Beginning
@@ -66,19 +68,22 @@ opened levels string Negative = broken levels string
 opened levels string Tag = broken levels string
 opened levels string Simple = broken levels string
 
+-- Inside: how many bytes of a head follow its first one
 abbrev pub width_of : ℕ → ℕ
 width_of info = if info == 24 then 1 else (if info == 25 then 2 else (if info == 26 then 4 else 8))
 
+-- Inside: what an initial byte without a fault begins: a whole head, a longer one, or one of indefinite length
 abbrev pub heads : List Level → Option StringKind → Major → ℕ → Move
 heads levels string major info =
     if nat_lt info 24 then after_head levels string (body_of major info)
     else (if info == 31 then opened levels string major else goes levels string (Heading major (info == 24) 0 (width_of info)))
 
+-- Inside: what an initial byte begins, or its fault
 abbrev pub started : List Level → Option StringKind → Option FaultName → ℕ → ℕ → Move
 started levels string (Some name) major info = bad name
 started levels string None major info = heads levels string (major_of major) info
 
--- the fault of an initial byte there
+-- Inside: the fault of an initial byte there
 abbrev pub first_name : List Level → Option StringKind → ℕ → ℕ → Option FaultName
 first_name levels None major info = start_name (length levels) (can_break levels) major info
 first_name levels (Some kind) major info = chunk_name kind major info
@@ -93,13 +98,16 @@ is_simple Array = 0 == 1
 is_simple Map = 0 == 1
 is_simple Tag = 0 == 1
 
+-- Inside: the number with one more byte, below 2 ^ 64
 abbrev pub shifted : ℕ → ℕ → ℕ
 shifted value byte = (value * 256) % 2 ^ 64 + byte
 
+-- Inside: what comes behind a byte of a text with so many bytes left, by what UTF-8 still owes
 abbrev pub texts : List Level → Option StringKind → Option Owed → ℕ → Move
 texts levels string None left = bad NotText
 texts levels string (Some o) left = if nat_le o.need (left - 1) then (if nat_lt 1 left then goes levels string (InText o (left - 1)) else ended levels string) else bad NotText
 
+-- Inside: where a byte leads
 abbrev pub step : List Level → Option StringKind → Stage → ℕ → Move
 step levels string Beginning byte = started levels string (first_name levels string (byte / 32) (byte % 32)) (byte / 32) (byte % 32)
 step levels string (Heading major short value left) byte =

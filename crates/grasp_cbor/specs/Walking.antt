@@ -33,13 +33,13 @@ pub record Took (w : Walk) (s : List ℕ) : Type 0 where
   pub taken : w.taken ≡ length s
   pub below : w.taken < w.limit
 
--- what a step made of the walker
+-- Inside: what a step made of the walker
 abbrev pub Made : Walk → Result Taken FaultName → Move → Type 0
 Made new (Ok More) move = move ≡ goes (open_levels new) new.string new.stage
 Made new (Ok Whole) move = (move ≡ whole) × (new.depth ≡ 0) × (new.string ≡ None) × (new.stage ≡ Beginning)
 Made new (Err name) move = move ≡ bad name
 
--- what a byte makes of these
+-- Inside: what a byte makes of these
 abbrev pub Answers : Walk → Walk → List ℕ → ℕ → Result Taken WalkFault → Type 0
 Answers old new s byte (Ok More) = CanGoOnWithin 16 (s ++ byte ∷ []) × Took new (s ++ byte ∷ [])
 Answers old new s byte (Ok Whole) = IsItem 16 (s ++ byte ∷ []) × Took new []

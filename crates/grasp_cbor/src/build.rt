@@ -17,6 +17,7 @@ use crate::{Chars, FloatBits, Item, Items, Octets, OutOfMemory, Pairs, SimpleVal
 use std::alloc::Global;
 
 /// Bytes encode at most one item, and no encoding begins another.
+#[tactic(auto, using(crate::proofs::Whole::one_encodes))]
 pub fn encodings_are_apart()
     ensures { EncodingsAreApart }
 {}

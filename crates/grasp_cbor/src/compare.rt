@@ -57,10 +57,7 @@ fn behind_items<'a>(items: &Items, bytes: &'a [u8]) -> Option<&'a [u8]>
     ensures { option_map (λ s. s.now) result ≡ behind (shortest_items (data_items (items_of items.now))) bytes.now }
 {
     let mut rest = bytes;
-    for i in 0..items.len() {
-        let Some(item) = items.at(i) else {
-            unreachable!()
-        };
+    for item in items.slice() {
         rest = behind_item(item, rest)?;
     }
     Some(rest)
@@ -72,12 +69,9 @@ fn behind_pairs<'a>(pairs: &Pairs, bytes: &'a [u8]) -> Option<&'a [u8]>
     ensures { option_map (λ s. s.now) result ≡ behind (shortest_pairs (data_pairs (pairs_of pairs.now))) bytes.now }
 {
     let mut rest = bytes;
-    for i in 0..pairs.len() {
-        let Some(pair) = pairs.at(i) else {
-            unreachable!()
-        };
-        let middle = behind_item(&pair.0, rest)?;
-        rest = behind_item(&pair.1, middle)?;
+    for (key, value) in pairs.slice() {
+        let middle = behind_item(key, rest)?;
+        rest = behind_item(value, middle)?;
     }
     Some(rest)
 }

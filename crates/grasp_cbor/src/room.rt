@@ -37,10 +37,7 @@ fn room_after_items(items: &Items, room: u64) -> Option<u64>
     ensures none { IfNone result (room < length (shortest_items (data_items (items_of items.now)))) }
 {
     let mut left = room;
-    for i in 0..items.len() {
-        let Some(item) = items.at(i) else {
-            unreachable!()
-        };
+    for item in items.slice() {
         left = room_after(item, left)?;
     }
     Some(left)
@@ -53,12 +50,9 @@ fn room_after_pairs(pairs: &Pairs, room: u64) -> Option<u64>
     ensures none { IfNone result (room < length (shortest_pairs (data_pairs (pairs_of pairs.now)))) }
 {
     let mut left = room;
-    for i in 0..pairs.len() {
-        let Some(pair) = pairs.at(i) else {
-            unreachable!()
-        };
-        let middle = room_after(&pair.0, left)?;
-        left = room_after(&pair.1, middle)?;
+    for (key, value) in pairs.slice() {
+        let middle = room_after(key, left)?;
+        left = room_after(value, middle)?;
     }
     Some(left)
 }

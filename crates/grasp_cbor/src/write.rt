@@ -84,10 +84,7 @@ fn write_list(out: &mut Vec<u8>, items: &Items) -> Result<(), OutOfMemory>
     ensures encodable { OnOk result (AreEncodable (data_items (items_of items.now))) }
     ensures err { Extends out.old.items out.new.items }
 {
-    for i in 0..items.len() {
-        let Some(item) = items.at(i) else {
-            unreachable!()
-        };
+    for item in items.slice() {
         write_parts(out, item)?;
     }
     Ok(())
@@ -100,12 +97,9 @@ fn write_map(out: &mut Vec<u8>, pairs: &Pairs) -> Result<(), OutOfMemory>
     ensures encodable { OnOk result (ArePairsEncodable (data_pairs (pairs_of pairs.now))) }
     ensures err { Extends out.old.items out.new.items }
 {
-    for i in 0..pairs.len() {
-        let Some(pair) = pairs.at(i) else {
-            unreachable!()
-        };
-        write_parts(out, &pair.0)?;
-        write_parts(out, &pair.1)?;
+    for (key, value) in pairs.slice() {
+        write_parts(out, key)?;
+        write_parts(out, value)?;
     }
     Ok(())
 }

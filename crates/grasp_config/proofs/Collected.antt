@@ -7,7 +7,7 @@ use Rattle.toml.specs.declared.value.Value.{Value}
 use Rattle.toml.proofs.Views.{items_view-drop}
 use Rattle.grasp_config.specs.Table.{each, onto, ◌>>=◌}
 
--- these before the others
+-- what was found, with the others behind it; or none where the others are none
 abbrev pub behind : {A : Type 0} → List A → Option (List A) → Option (List A)
 behind found None = None
 behind found (Some others) = Some (found ++ others)

@@ -1,5 +1,5 @@
 -- The words of endpoints and of roots.
-use Rattle.std.proofs.Common.{◌≡◌, ℕ, zero, suc, ◌+◌, ◌/◌, ◌%◌, ◌==◌, ◌<◌, ◌≤◌, ◌^◌, Bool, true, false, not, cond, nat_lt, List, [], ◌∷◌, ◌++◌, length, get_or, take, drop, Option, Some, None, refl, sym, ap, subst, ◌∙◌, append_assoc, arith}
+use Rattle.std.proofs.Common.{◌≡◌, ℕ, suc, ◌+◌, ◌/◌, ◌%◌, ◌==◌, ◌<◌, ◌≤◌, ◌^◌, Bool, true, false, not, cond, nat_lt, List, [], ◌∷◌, ◌++◌, length, get_or, take, drop, Option, Some, None, refl, sym, ap, subst, ◌∙◌, append_assoc, arith}
 use Rattle.std.specs.Int.{to_be_bytes, w32, w128}
 use Rattle.std.specs.List.{position_or_len, before_first, after_first}
 use Rattle.std.specs.Prelude.{decimal, slice_index}
@@ -12,8 +12,8 @@ use Rattle.grasp_types.specs.Address.{IsAddress}
 use Rattle.grasp_types.specs.declared.address.Address.{Address}
 use Rattle.grasp_types.specs.declared.address.Address.TheVariants as address
 use Rattle.grasp_types.specs.declared.address.Locator.{Locator}
-use Rattle.grasp_types.specs.declared.address.Locator.TheVariants.{V6, V4, Fqdn, Uri}
-use Rattle.grasp_types.specs.declared.address.Proto.TheVariants.{Tcp, Udp}
+use Rattle.grasp_types.specs.declared.address.Locator.TheVariants.{V6, V4}
+use Rattle.grasp_types.specs.declared.address.Proto.TheVariants.{Tcp}
 use Rattle.grasp_pool.specs.declared.roots.RootPrefix.{RootPrefix}
 use Rattle.grasp_text.specs.Line.{v4_word, v6_word, address_word}
 use Rattle.grasp_text.specs.Reading.{address_of, number_of}
@@ -57,42 +57,12 @@ parted_only byte text x is = parted_at byte text x (nat_lt (position_or_len (λ 
 -- ---- no colon and no slash is a hexadecimal digit
 
 no_colon : (i : ℕ) → i < 16 → (slice_index lower_digits i == 58) ≡ false
-no_colon zero lt = refl
-no_colon (suc zero) lt = refl
-no_colon (suc (suc zero)) lt = refl
-no_colon (suc (suc (suc zero))) lt = refl
-no_colon (suc (suc (suc (suc zero)))) lt = refl
-no_colon (suc (suc (suc (suc (suc zero))))) lt = refl
-no_colon (suc (suc (suc (suc (suc (suc zero)))))) lt = refl
-no_colon (suc (suc (suc (suc (suc (suc (suc zero))))))) lt = refl
-no_colon (suc (suc (suc (suc (suc (suc (suc (suc zero)))))))) lt = refl
-no_colon (suc (suc (suc (suc (suc (suc (suc (suc (suc zero))))))))) lt = refl
-no_colon (suc (suc (suc (suc (suc (suc (suc (suc (suc (suc zero)))))))))) lt = refl
-no_colon (suc (suc (suc (suc (suc (suc (suc (suc (suc (suc (suc zero))))))))))) lt = refl
-no_colon (suc (suc (suc (suc (suc (suc (suc (suc (suc (suc (suc (suc zero)))))))))))) lt = refl
-no_colon (suc (suc (suc (suc (suc (suc (suc (suc (suc (suc (suc (suc (suc zero))))))))))))) lt = refl
-no_colon (suc (suc (suc (suc (suc (suc (suc (suc (suc (suc (suc (suc (suc (suc zero)))))))))))))) lt = refl
-no_colon (suc (suc (suc (suc (suc (suc (suc (suc (suc (suc (suc (suc (suc (suc (suc zero))))))))))))))) lt = refl
 no_colon (suc (suc (suc (suc (suc (suc (suc (suc (suc (suc (suc (suc (suc (suc (suc (suc i)))))))))))))))) lt = absurd (omega arith)
+no_colon _ lt = refl
 
 no_slash : (i : ℕ) → i < 16 → (slice_index lower_digits i == 47) ≡ false
-no_slash zero lt = refl
-no_slash (suc zero) lt = refl
-no_slash (suc (suc zero)) lt = refl
-no_slash (suc (suc (suc zero))) lt = refl
-no_slash (suc (suc (suc (suc zero)))) lt = refl
-no_slash (suc (suc (suc (suc (suc zero))))) lt = refl
-no_slash (suc (suc (suc (suc (suc (suc zero)))))) lt = refl
-no_slash (suc (suc (suc (suc (suc (suc (suc zero))))))) lt = refl
-no_slash (suc (suc (suc (suc (suc (suc (suc (suc zero)))))))) lt = refl
-no_slash (suc (suc (suc (suc (suc (suc (suc (suc (suc zero))))))))) lt = refl
-no_slash (suc (suc (suc (suc (suc (suc (suc (suc (suc (suc zero)))))))))) lt = refl
-no_slash (suc (suc (suc (suc (suc (suc (suc (suc (suc (suc (suc zero))))))))))) lt = refl
-no_slash (suc (suc (suc (suc (suc (suc (suc (suc (suc (suc (suc (suc zero)))))))))))) lt = refl
-no_slash (suc (suc (suc (suc (suc (suc (suc (suc (suc (suc (suc (suc (suc zero))))))))))))) lt = refl
-no_slash (suc (suc (suc (suc (suc (suc (suc (suc (suc (suc (suc (suc (suc (suc zero)))))))))))))) lt = refl
-no_slash (suc (suc (suc (suc (suc (suc (suc (suc (suc (suc (suc (suc (suc (suc (suc zero))))))))))))))) lt = refl
 no_slash (suc (suc (suc (suc (suc (suc (suc (suc (suc (suc (suc (suc (suc (suc (suc (suc i)))))))))))))))) lt = absurd (omega arith)
+no_slash _ lt = refl
 
 -- the byte is first behind hexadecimal digits
 behind_digits : (byte : ℕ) → ((i : ℕ) → i < 16 → (slice_index lower_digits i == byte) ≡ false) → (bytes : List ℕ) → IsBytes bytes → (back : List ℕ)
@@ -124,11 +94,8 @@ endpoint_found_at a port is within =
 
 endpoint_found : (locator : Locator) → IsEndpoint locator → endpoint_of (endpoint_word locator) ≡ Some locator
 endpoint_found (V6 n Tcp port) is = let small : port < 2 ^ 16 = is.1.1 in endpoint_found_at (address.V6 n) port is.1.0 (omega arith)
-endpoint_found (V6 n Udp port) is = absurd (let e : false ≡ true = is.0 in cc)
 endpoint_found (V4 n Tcp port) is = let small : port < 2 ^ 16 = is.1.1 in endpoint_found_at (address.V4 n) port is.1.0 (omega arith)
-endpoint_found (V4 n Udp port) is = absurd (let e : false ≡ true = is.0 in cc)
-endpoint_found (Fqdn name proto port) is = absurd (let e : false ≡ true = is.0 in cc)
-endpoint_found (Uri text proto port) is = absurd (let e : false ≡ true = is.0 in cc)
+endpoint_found _ is = absurd (let e : false ≡ true = is.0 in cc)
 
 made_endpoint : (a : Address) (port : ℕ) (word : List ℕ) → IsAddress a → port ≤ 65535 → word ≡ address_word a ++ 58 ∷ decimal port → (word ≡ endpoint_word (endpoint_at a port)) × IsEndpoint (endpoint_at a port)
 made_endpoint (address.V4 n) port word is within e = (e, (refl, (is, omega arith)))
@@ -171,15 +138,13 @@ root_found root is =
 
 root_only_at : (word : List ℕ) (root : RootPrefix) (x : List ℕ × List ℕ) (a : Option Address) (n : Option ℕ) → word ≡ x.0 ++ 47 ∷ x.1 → address_of x.0 ≡ a → number_of 255 x.1 ≡ n
     → (a >>= v6_number >>= λ address. n >>= λ length. Some (record { address = address; length = length })) ≡ Some root → (word ≡ root_word root) × IsRoot root
-root_only_at word root x None n e f g is = absurd (let z : None ≡ Some root = is in cc)
-root_only_at word root x (Some (address.V4 a)) n e f g is = absurd (let z : None ≡ Some root = is in cc)
-root_only_at word root x (Some (address.V6 a)) None e f g is = absurd (let z : None ≡ Some root = is in cc)
 root_only_at word root x (Some (address.V6 a)) (Some n) e f g is =
     let front = addresses_read.only x.0 (address.V6 a) f in
     let back = (numbers_read 255 (omega arith)).only x.1 n g in
     let most : n ≤ 255 = back.1 in
     let whole : word ≡ v6_word a ++ 47 ∷ decimal n = e ∙ ap (λ (y : List ℕ). y ++ 47 ∷ x.1) front.0 ∙ ap (λ (y : List ℕ). v6_word a ++ 47 ∷ y) back.0 in
     subst (λ (r : RootPrefix). (word ≡ root_word r) × IsRoot r) (same_Some (record { address = a; length = n }) root is) (whole, (front.1, omega arith))
+root_only_at word root x _ _ e f g is = absurd (let z : None ≡ Some root = is in cc)
 
 root_only_by : (word : List ℕ) (root : RootPrefix) (p : Option (List ℕ × List ℕ)) → parted 47 word ≡ p
     → (p >>= λ parts. address_of parts.0 >>= v6_number >>= λ address. number_of 255 parts.1 >>= λ length. Some (record { address = address; length = length })) ≡ Some root → (word ≡ root_word root) × IsRoot root

@@ -41,7 +41,7 @@ good_roots found roots is good = subst (λ (o : Option (List RootPrefix)). ¬ Ar
 pub basics_good : (table : Members) (basics : Basics) → AreBasics table basics → AreGood table basic_keys
 basics_good table basics is = (is_read _ basics.address is.address, (is_read _ basics.listen is.listen, (is_read _ basics.turns is.turns, (is_read _ basics.wait is.wait, (is_read _ basics.size is.size, tt)))))
 
--- there is one first bad key
+-- of some keys at most one is the first bad key
 pub one_first : (table : Members) (keys : List ConfigKey) (a b : ConfigKey) → FirstBadOf table keys a → FirstBadOf table keys b → a ≡ b
 one_first table [] a b x y = absurd x
 one_first table (first ∷ others) a b (inl x) (inl y) = x.1 ∙ sym y.1

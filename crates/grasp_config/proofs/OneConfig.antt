@@ -1,6 +1,7 @@
 -- A text has one configuration, or one first bad key, and not both.
-use Rattle.std.proofs.Common.{◌≡◌, ℕ, ◌⊎◌, inl, inr, true, false, List, [], ◌∷◌, Option, Some, Result, Ok, Err, refl, sym, subst, ◌∙◌}
+use Rattle.std.proofs.Common.{◌≡◌, ℕ, ◌⊎◌, inl, inr, true, false, List, [], ◌∷◌, Result, Ok, Err, refl, sym, subst, ◌∙◌}
 use Rattle.std.proofs.lemmas.Option.{same_Some}
+use Rattle.grasp_cbor.proofs.Facts.Options.{same_some}
 use Rattle.toml.specs.Data.{Members}
 use Rattle.grasp_config.specs.Config.{IsConfigOf, IsBadKey, FirstBadOf, IsFirstBad, key_order, IsTomlOf, HasConfig, HasFirstBad, IsBadText}
 use Rattle.grasp_config.specs.Faults.{IfBadConfig}
@@ -12,22 +13,19 @@ use Rattle.grasp_config.specs.declared.fault.ConfigFault.{ConfigFault}
 use Rattle.grasp_config.specs.declared.fault.ConfigFault.TheVariants.{BadConfig, OutOfMemory}
 use Rattle.grasp_config.proofs.FirstBad.{is_read, good_roots, one_first}
 
-same_part : {A : Type 0} (found : Option A) (a b : A) → found ≡ Some a → found ≡ Some b → a ≡ b
-same_part found a b x y = same_Some a b (sym x ∙ y)
-
 -- a table is one configuration
 pub one_config_of : (table : Members) (a b : NodeConfig) → IsConfigOf table a → IsConfigOf table b → a ≡ b
 one_config_of table a b x y = λ i. record {
-  address = same_part _ a.address b.address x.address y.address i;
-  listen = same_part _ a.listen b.listen x.listen y.listen i;
-  turns = same_part _ a.turns b.turns x.turns y.turns i;
-  wait = same_part _ a.wait b.wait x.wait y.wait i;
-  size = same_part _ a.size b.size x.size y.size i;
-  roots = same_part _ a.roots b.roots x.roots y.roots i;
-  links = same_part _ a.links b.links x.links y.links i;
-  wants = same_part _ a.wants b.wants x.wants y.wants i;
-  beacons = same_part _ a.beacons b.beacons x.beacons y.beacons i;
-  readers = same_part _ a.readers b.readers x.readers y.readers i;
+  address = same_some _ a.address b.address x.address y.address i;
+  listen = same_some _ a.listen b.listen x.listen y.listen i;
+  turns = same_some _ a.turns b.turns x.turns y.turns i;
+  wait = same_some _ a.wait b.wait x.wait y.wait i;
+  size = same_some _ a.size b.size x.size y.size i;
+  roots = same_some _ a.roots b.roots x.roots y.roots i;
+  links = same_some _ a.links b.links x.links y.links i;
+  wants = same_some _ a.wants b.wants x.wants y.wants i;
+  beacons = same_some _ a.beacons b.beacons x.beacons y.beacons i;
+  readers = same_some _ a.readers b.readers x.readers y.readers i;
 }
 
 -- a text is TOML for one table
@@ -68,32 +66,12 @@ first_is_bad table (first ∷ others) key (inr more) = first_is_bad table others
 -- the first bad key of the text's table is that of the text
 pub bad_text : (text : List ℕ) (table : Members) (key : ConfigKey) → IsTomlOf text table → IsFirstBad table key → IsBadText text key
 bad_text text table Toml toml first = absurd (first_is_bad table key_order Toml first)
-bad_text text table Address toml first = record { table = table; toml = toml; first = first }
-bad_text text table Listen toml first = record { table = table; toml = toml; first = first }
-bad_text text table Turns toml first = record { table = table; toml = toml; first = first }
-bad_text text table Wait toml first = record { table = table; toml = toml; first = first }
-bad_text text table Size toml first = record { table = table; toml = toml; first = first }
-bad_text text table Roots toml first = record { table = table; toml = toml; first = first }
-bad_text text table Link toml first = record { table = table; toml = toml; first = first }
-bad_text text table Want toml first = record { table = table; toml = toml; first = first }
-bad_text text table Beacon toml first = record { table = table; toml = toml; first = first }
-bad_text text table Reader toml first = record { table = table; toml = toml; first = first }
-bad_text text table Unknown toml first = record { table = table; toml = toml; first = first }
+bad_text text table _ toml first = record { table = table; toml = toml; first = first }
 
 -- either the text is TOML for no table, or the key is the first bad one of its table
 bad_cases : (text : List ℕ) (key : ConfigKey) → IsBadText text key → ((key ≡ Toml) × ((table : Members) → ¬ IsTomlOf text table)) ⊎ HasFirstBad text key
 bad_cases text Toml bad = inl (refl, bad)
-bad_cases text Address bad = inr bad
-bad_cases text Listen bad = inr bad
-bad_cases text Turns bad = inr bad
-bad_cases text Wait bad = inr bad
-bad_cases text Size bad = inr bad
-bad_cases text Roots bad = inr bad
-bad_cases text Link bad = inr bad
-bad_cases text Want bad = inr bad
-bad_cases text Beacon bad = inr bad
-bad_cases text Reader bad = inr bad
-bad_cases text Unknown bad = inr bad
+bad_cases text _ bad = inr bad
 
 same_first : (text : List ℕ) (a b : ConfigKey) → HasFirstBad text a → HasFirstBad text b → a ≡ b
 same_first text a b x y = one_first y.table key_order a b (subst (λ t. IsFirstBad t a) (same_table text x.table y.table x.toml y.toml) x.first) y.first

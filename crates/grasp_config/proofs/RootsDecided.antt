@@ -1,5 +1,5 @@
 -- A pool opens with roots, or it doesn't.
-use Rattle.std.proofs.Common.{◌≡◌, ℕ, zero, suc, ◌+◌, ◌-◌, ◌%◌, ◌<◌, ◌≤◌, ◌^◌, ◌⊎◌, inl, inr, List, length, slice_index_or, subst, arith}
+use Rattle.std.proofs.Common.{ℕ, zero, suc, ◌+◌, ◌-◌, ◌%◌, ◌<◌, ◌≤◌, ◌^◌, ◌⊎◌, inl, inr, List, length, slice_index_or, subst, arith, add-one}
 use Rattle.std.proofs.lemmas.Bool.{cases_eq, cases_lt}
 use Rattle.std.proofs.lemmas.Nat.{pow_pos}
 use Rattle.grasp_types.specs.Prefix.{AddressBlock as Prefix, size_of, Overlap}
@@ -44,9 +44,6 @@ overlap_decided q p =
       ]
     ]
 
-one_more : (n : ℕ) → n + 1 ≡ suc n
-one_more n = omega arith
-
 valid_decided : (roots : List RootPrefix) (n : ℕ) → Decided (AllValid roots n)
 valid_decided roots zero = inl (λ k d lt within. absurd (omega arith))
 valid_decided roots (suc n) = elim (valid_decided roots n) [
@@ -54,7 +51,7 @@ valid_decided roots (suc n) = elim (valid_decided roots n) [
   | inl good ↦ elim (cases_lt n (length roots)) [
     | inr over ↦ inl (λ k d lt within. good k d (omega arith) within)
     | inl within ↦ elim (prefix_decided (block_of (slice_index_or roots n no_root))) [
-      | inl v ↦ inl (subst (AllValid roots) (one_more n) (valid_more roots n no_root good within v))
+      | inl v ↦ inl (subst (AllValid roots) (add-one n) (valid_more roots n no_root good within v))
       | inr bad ↦ inr (λ all. bad (all n no_root (omega arith) within))
     ]
   ]
@@ -67,7 +64,7 @@ apart_decided roots p (suc n) = elim (apart_decided roots p n) [
   | inl good ↦ elim (cases_lt n (length roots)) [
     | inr over ↦ inl (λ k d lt within. good k d (omega arith) within)
     | inl within ↦ elim (overlap_decided (block_of (slice_index_or roots n no_root)) p) [
-      | inr miss ↦ inl (subst (RootsApart roots p) (one_more n) (root_apart roots p n no_root good within miss))
+      | inr miss ↦ inl (subst (RootsApart roots p) (add-one n) (root_apart roots p n no_root good within miss))
       | inl hit ↦ inr (λ all. all n no_root (omega arith) within hit.0 hit.1.0 hit.1.1)
     ]
   ]
@@ -80,7 +77,7 @@ all_apart_decided roots (suc n) = elim (all_apart_decided roots n) [
   | inl good ↦ elim (cases_lt n (length roots)) [
     | inr over ↦ inl (λ j d lt within. good j d (omega arith) within)
     | inl within ↦ elim (apart_decided roots (block_of (slice_index_or roots n no_root)) n) [
-      | inl here ↦ inl (subst (AllApart roots) (one_more n) (apart_more roots n no_root good within here))
+      | inl here ↦ inl (subst (AllApart roots) (add-one n) (apart_more roots n no_root good within here))
       | inr bad ↦ inr (λ all. bad (all n no_root (omega arith) within))
     ]
   ]

@@ -14,15 +14,15 @@ use Rattle.grasp_config.specs.declared.fault.ConfigKey.{ConfigKey}
 abbrev pub TextsHaveOneConfig : Type 0
 TextsHaveOneConfig = (text : List ℕ) (a b : NodeConfig) → HasConfig text a → HasConfig text b → a ≡ b
 
--- and at most one first bad key
+-- a text has at most one first bad key
 abbrev pub TextsHaveOneBadKey : Type 0
 TextsHaveOneBadKey = (text : List ℕ) (a b : ConfigKey) → IsBadText text a → IsBadText text b → a ≡ b
 
--- and not both
+-- a text that has a configuration has no first bad key
 abbrev pub ConfigsHaveNoBadKey : Type 0
 ConfigsHaveNoBadKey = (text : List ℕ) (config : NodeConfig) (key : ConfigKey) → HasConfig text config → ¬ IsBadText text key
 
--- and one of them
+-- a text has a configuration or a first bad key
 abbrev pub TextsAreConfigsOrBad : Type 0
 TextsAreConfigsOrBad = (text : List ℕ) → ((config : NodeConfig) × HasConfig text config) ⊎ ((key : ConfigKey) × IsBadText text key)
 

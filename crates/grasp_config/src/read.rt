@@ -89,7 +89,8 @@ fn config_of(alloc: Global, table: &Table) -> Result<NodeConfig, ConfigFault>
 
 /// The whole of these parts.
 fn joined(basics: Basics, places: Places, agents: Agents) -> NodeConfig
-    ensures { (table : Members) → AreBasics table basics → ArePlaces table places → AreAgents table agents → is_known table ≡ true → IsConfigOf table result }
+    ensures { (table : Members) → AreBasics table basics → ArePlaces table places → AreAgents table agents
+        → is_known table ≡ true → IsConfigOf table result }
 {
     NodeConfig {
         address: basics.address,

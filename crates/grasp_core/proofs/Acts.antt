@@ -11,7 +11,7 @@ use Rattle.grasp_session.specs.Sessions.{Sessions, session_reply, last_reply, sa
 use Rattle.grasp_session.specs.Stands.{Stands}
 use Rattle.grasp_session.specs.Transcript.{SayStep}
 use Rattle.grasp_session.specs.declared.table.Table.{Table}
-use Rattle.grasp_core.specs.Queue.{encoding, fits}
+use Rattle.grasp_model_node.specs.Queue.{encoding, fits}
 
 -- an answer that says whether so many bytes are within the limit
 pub fits_as : (limit : ℕ) (m k : Message) (b : Bool) → IsTrue b ↔ (length (encoding k) ≤ limit) → m ≡ k → b ≡ fits limit m

@@ -5,10 +5,10 @@ use Rattle.grasp_types.specs.declared.address.Address.{Address}
 use Rattle.grasp_types.specs.declared.address.Locator.{Locator}
 use Rattle.grasp_types.specs.declared.refusal.ApiRefused.{ApiRefused}
 use Rattle.grasp_types.specs.declared.refusal.ApiRefused.TheVariants as api
-use Rattle.grasp_core.specs.Node.{NodeState}
-use Rattle.grasp_core.specs.Outgoing.{dial_tests, search_tests}
-use Rattle.grasp_core.specs.Refusals.{early}
-use Rattle.grasp_core.specs.Tests.{agent_tests, expire_flood_tests, discover_tests, no_flood, no_asa, not_yours, not_negotiable, not_synchronizable, not_dry, owned_flags, negotiation_tests, synchronization_tests, request_tests, synchronize_tests}
+use Rattle.grasp_model_node.specs.Node.{NodeState}
+use Rattle.grasp_core.specs.Outgoing.{dial_tests}
+use Rattle.grasp_model_node.specs.Refusals.{early}
+use Rattle.grasp_model_node.specs.Tests.{agent_tests, expire_flood_tests, no_flood, no_asa, not_yours, not_negotiable, not_synchronizable, not_dry, owned_flags, negotiation_tests, synchronization_tests, request_tests, synchronize_tests}
 
 abbrev Gate : Type 0
 Gate = Result (Unit {0}) ApiRefused
@@ -24,16 +24,12 @@ abbrev three : Bool → Bool → Bool → ApiRefused → ApiRefused → ApiRefus
 three a b c x y z rest = cond a (fail x) (cond b (fail y) (cond c (fail z) rest))
 
 three_refused : (a b c : Bool) (x y z r : ApiRefused) (rest : Gate) → fail r ≡ three a b c x y z pass → fail r ≡ three a b c x y z rest
-three_refused true b c x y z r rest e = e
-three_refused false true c x y z r rest e = e
-three_refused false false true x y z r rest e = e
 three_refused false false false x y z r rest e = absurd (cc)
+three_refused _ _ _ x y z r rest e = e
 
 three_passed : (a b c : Bool) (x y z : ApiRefused) (rest : Gate) → pass ≡ three a b c x y z pass → three a b c x y z rest ≡ rest
-three_passed true b c x y z rest e = absurd (cc)
-three_passed false true c x y z rest e = absurd (cc)
-three_passed false false true x y z rest e = absurd (cc)
 three_passed false false false x y z rest e = refl
+three_passed _ _ _ x y z rest e = absurd (cc)
 
 one_passed : (a : Bool) (x : ApiRefused) (rest : Gate) → pass ≡ cond a (fail x) pass → cond a (fail x) rest ≡ rest
 one_passed true x rest e = absurd (cc)
@@ -54,7 +50,7 @@ request_on n asa name dry peer e =
 pub request_dry : (n : NodeState) (asa : ℕ) (name : List ℕ) (dry : Bool) (peer : Locator) (flags : ℕ) → pass ≡ early (negotiation_tests n asa name) → owned_flags n asa name ≡ Some flags → dry ≡ true → has_dry flags ≡ false → fail api.NotDry ≡ early (request_tests n asa name dry peer)
 request_dry n asa name dry peer flags e f d g = sym (request_on n asa name dry peer e ∙ (rw (d, f, g) refl))
 
--- and then there are the tests of the dial
+-- once a request has passed the tests of its objective and its dry flag, the tests of the dial are left
 pub request_dials : (n : NodeState) (asa : ℕ) (name : List ℕ) (dry : Bool) (peer : Locator) (flags : ℕ) → pass ≡ early (negotiation_tests n asa name) → owned_flags n asa name ≡ Some flags → (dry && not (has_dry flags)) ≡ false → early (dial_tests n peer) ≡ early (request_tests n asa name dry peer)
 request_dials n asa name dry peer flags e f d = sym (request_on n asa name dry peer e ∙ (rw (f, d) refl))
 
@@ -71,11 +67,3 @@ synchronize_dials n asa name peer e =
 -- where the agent is registered there is the test of the flood
 pub forgets_none : (n : NodeState) (asa : ℕ) (name : List ℕ) (initiator : Address) → pass ≡ early (agent_tests n asa) → no_flood n name initiator ≡ true → early (expire_flood_tests n asa name initiator) ≡ fail api.NoFlood
 forgets_none n asa name initiator e f = one_passed (no_asa n asa) api.NoAsa (cond (no_flood n name initiator) (fail api.NoFlood) pass) e ∙ (rw f refl)
-
--- or those of a search that begins
-pub search_on : (n : NodeState) (asa : ℕ) → pass ≡ early (agent_tests n asa) → early (discover_tests n asa true) ≡ early (search_tests n)
-search_on n asa e = one_passed (no_asa n asa) api.NoAsa (early (search_tests n)) e
-
--- and where none begins there is no other test
-pub known_on : (n : NodeState) (asa : ℕ) → pass ≡ early (agent_tests n asa) → early (discover_tests n asa false) ≡ pass
-known_on n asa e = one_passed (no_asa n asa) api.NoAsa pass e

@@ -24,11 +24,11 @@ use Rattle.grasp_wire.specs.declared.fault.CutFault.TheVariants as cut
 use Rattle.grasp_wire.specs.declared.fault.OneFault.{OneFault}
 use Rattle.grasp_wire.specs.declared.fault.OneFault.TheVariants.{Cut}
 use Rattle.grasp_core.specs.Carried.{where_new, flood_sent, known_at, relayed_kept, passed_kept}
-use Rattle.grasp_core.specs.Datagrams.{Carries, serves, lowered, own_response, discovery_kept, discovery_answered, discovery_heard, flood_kept, flood_heard, loops_of, datagram_by, after_datagram}
-use Rattle.grasp_core.specs.Hear.{neighbour_at}
-use Rattle.grasp_core.specs.Moves.{with_discoveries, with_floods, dial_with, relay, queue_up, may_queue}
-use Rattle.grasp_core.specs.Node.{NodeState}
-use Rattle.grasp_core.specs.Queue.{along, other_ways}
+use Rattle.grasp_model_node.specs.Datagrams.{Carries, serves, lowered, own_response, discovery_kept, discovery_answered, discovery_heard, flood_kept, flood_heard, loops_of, datagram_by, after_datagram}
+use Rattle.grasp_model_node.specs.Hear.{neighbour_at}
+use Rattle.grasp_model_node.specs.Moves.{with_discoveries, with_floods, dial_with, relay, may_queue}
+use Rattle.grasp_model_node.specs.Node.{NodeState}
+use Rattle.grasp_model_node.specs.Queue.{other_ways}
 use Rattle.grasp_core.specs.Ready.{MayRelay, others}
 use Rattle.grasp_core.specs.Stands.{NodeStands}
 use Rattle.grasp_core.specs.declared.node_core.NodeCore.{NodeCore}
@@ -109,12 +109,6 @@ sent_kept core n link session initiator ttl parts m flooded.Known e f h = h
 sent_kept core n link session initiator ttl parts m flooded.NoPlace e f h = h
 sent_kept core n link session initiator ttl parts m flooded.New e f h = rw e (rw f at h)
 
-pub flood_new : (core : NodeCore) (n : NodeState) (link session : ℕ) (initiator : Address) (ttl : ℕ) (parts : List FloodPart) (m : Message) (reply : told.Heard) → flooded.New ≡ reply
-    → NodeStands core (relay (flood_kept n session initiator ttl parts flooded.New) m (other_ways link (flood_kept n session initiator ttl parts flooded.New).plan.links))
-    → NodeStands core (flood_sent n link session initiator ttl parts m reply)
-unfolding with_floods
-flood_new core n link session initiator ttl parts m reply e h = subst (λ (x : told.Heard). NodeStands core (flood_sent n link session initiator ttl parts m x)) e h
-
 pub flood_known : (core : NodeCore) (n : NodeState) (link session : ℕ) (initiator : Address) (ttl : ℕ) (parts : List FloodPart) (m : Message) (reply : told.Heard) → flooded.Known ≡ reply
     → NodeStands core (flood_kept n session initiator ttl parts flooded.Known)
     → NodeStands core (flood_sent n link session initiator ttl parts m reply)
@@ -130,14 +124,6 @@ flood_lost core n link session initiator ttl parts m reply e h = subst (λ (x : 
 pub relays : (core : NodeCore) (n : NodeState) (link : ℕ) (m : Message) (may : Bool) → MayRelay core.queue core.streams.limit (length (others link core.ways.items)) m may → NodeStands core n
     → may_queue n m (length (other_ways link n.plan.links)) ≡ may
 relays core n link m may can h = rw (h.limit, h.ways) at (can n.queue h.queue)
-
-pub not_relayed : (core : NodeCore) (n : NodeState) (link : ℕ) (m : Message) → MayRelay core.queue core.streams.limit (length (others link core.ways.items)) m false → NodeStands core n
-    → NodeStands core (relay n m (other_ways link n.plan.links))
-not_relayed core n link m can h = rw (relays core n link m false can h) h
-
-pub is_relayed : (core new : NodeCore) (n : NodeState) (link : ℕ) (m : Message) → MayRelay core.queue core.streams.limit (length (others link core.ways.items)) m true → NodeStands core n
-    → NodeStands new (queue_up n (along m (other_ways link n.plan.links))) → NodeStands new (relay n m (other_ways link n.plan.links))
-is_relayed core new n link m can h a = rw (relays core n link m true can h) a
 
 -- a discovery whose loop count allows it to be sent on
 pub relayed : (core : NodeCore) (n : NodeState) (cause : Cause) (session : ℕ) (initiator : Address) (o : Objective) (m : Message) (reply : answered.Heard) → nat_le 2 o.loops ≡ true → m ≡ message.Discovery session initiator (lowered o)

@@ -12,7 +12,7 @@ use Rattle.grasp_session.proofs.Crosses.{Table-send}
 use Rattle.grasp_types.proofs.Crosses.{List-send, Option-send, Value-send, Locator-send, Neighbour-send, Output-send}
 use Rattle.grasp_core.specs.contracts.draws.Draws as Draws
 use Rattle.grasp_core.specs.contracts.node_core.NodeCore as NodeCore
-use Rattle.grasp_core.specs.contracts.plan.NodePlan as NodePlan
+use Rattle.grasp_model_node.specs.contracts.plan.NodePlan as NodePlan
 use Rattle.grasp_core.specs.contracts.queue.Queue as Queue
 use Rattle.grasp_core.specs.contracts.queue.Queue.TheInside as QueueInside
 use Rattle.grasp_core.specs.contracts.streams.Stream as Stream

@@ -12,14 +12,14 @@ use Rattle.grasp_types.specs.declared.session.Handle.{Handle}
 use Rattle.grasp_types.specs.declared.session.Kind.{Kind}
 use Rattle.grasp_types.specs.declared.session.Kind.TheVariants.{Negotiation, Synchronization}
 use Rattle.grasp_wire.specs.Cutter.{no_past}
-use Rattle.grasp_core.specs.Draws.{next_session}
-use Rattle.grasp_core.specs.Moves.{with_sessions, with_draw, dial_record, queue_up}
-use Rattle.grasp_core.specs.Node.{NodeState}
+use Rattle.grasp_model_node.specs.Draws.{next_session}
+use Rattle.grasp_model_node.specs.Moves.{with_sessions, with_draw, dial_record, queue_up}
+use Rattle.grasp_model_node.specs.Node.{NodeState}
 use Rattle.grasp_core.specs.Outgoing.{asked, dialled}
-use Rattle.grasp_core.specs.Queue.{send, dial}
-use Rattle.grasp_core.specs.SessionCalls.{request_of, requested}
+use Rattle.grasp_model_node.specs.Queue.{send, dial}
+use Rattle.grasp_model_node.specs.SessionCalls.{request_of, requested}
 use Rattle.grasp_core.specs.Stands.{NodeStands, StreamsStand, QueueStands, DrawsStand}
-use Rattle.grasp_core.specs.Streams.{next_stream, with_dialled}
+use Rattle.grasp_model_node.specs.Streams.{next_stream, with_dialled}
 use Rattle.grasp_core.specs.declared.draws.Draws.{Draws}
 use Rattle.grasp_core.specs.declared.node_core.NodeCore.{NodeCore}
 use Rattle.grasp_core.specs.declared.queue.Queue.{Queue}
@@ -29,7 +29,7 @@ use Rattle.grasp_core.specs.declared.streams.Streams.{Streams}
 abbrev pub core_with : NodeCore → Table → Streams → Queue → Draws → NodeCore
 core_with core table streams queue draws = record core { table = table; streams = streams; queue = queue; draws = draws }
 
--- it stands for the node that has dialled
+-- the code that has dialled stands for the node that has dialled
 pub dialled_stands : (core : NodeCore) (n : NodeState) (asa timeout stream : ℕ) (peer : Locator) (m : Message) (begin : Begin) (r : Result Handle SessionRefused) (table : Table) (streams : Streams) (queue : Queue) (draws : Draws)
     → NodeStands core n
     → stream ≡ next_stream n.streams

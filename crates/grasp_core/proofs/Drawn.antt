@@ -1,6 +1,6 @@
 -- The first number that isn't used.
 use Rattle.std.proofs.Common.{◌≡◌, ℕ, zero, suc, ◌+◌, ◌%◌, ◌^◌, ◌<◌, ◌≤◌, Bool, true, false, refl, sym, ap, ◌∙◌, add-one, arith}
-use Rattle.grasp_core.specs.Draws.{first_unused}
+use Rattle.grasp_model_node.specs.Draws.{first_unused}
 
 pub unused_none : (used : ℕ → Bool) (left n : ℕ) → left ≤ 0 → first_unused used left n ≡ n
 unfolding first_unused

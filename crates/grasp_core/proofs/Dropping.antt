@@ -1,9 +1,9 @@
 -- How far a plan of declines has come, and how many sessions of an agent have left.
 use Rattle.std.proofs.lemmas.List.{map-append}
 use Rattle.std.proofs.Common.{◌≡◌, ℕ, ◌+◌, List, [], ◌∷◌, ◌++◌, map, refl, add-one}
-use Rattle.grasp_core.specs.Node.{NodeState}
-use Rattle.grasp_core.specs.Declines.{Declining, after_decline, after_declines}
-use Rattle.grasp_core.specs.RegistryCalls.{without_session, without_sessions}
+use Rattle.grasp_model_node.specs.Node.{NodeState}
+use Rattle.grasp_model_node.specs.Declines.{Declining, after_decline, after_declines}
+use Rattle.grasp_model_node.specs.RegistryCalls.{without_session, without_sessions}
 use Rattle.grasp_core.specs.Planned.{planned_as}
 use Rattle.grasp_core.specs.declared.declining.Planned.{Planned}
 use Rattle.grasp_core.specs.declared.node_core.NodeCore.{NodeCore}

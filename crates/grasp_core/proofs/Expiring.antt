@@ -2,9 +2,9 @@
 use Rattle.std.proofs.Common.{◌≡◌, ◌≤◌, ℕ, zero, suc, ◌+◌, ◌-◌, false, Option, Some, None, is_some, refl, sym, ap, ◌∙◌, subst, add-one, arith}
 use Rattle.grasp_session.specs.Sessions.{expire_reply}
 use Rattle.grasp_core.specs.declared.node_core.NodeCore.{NodeCore}
-use Rattle.grasp_core.specs.Node.{NodeState}
+use Rattle.grasp_model_node.specs.Node.{NodeState}
 use Rattle.grasp_core.specs.Stands.{NodeStands}
-use Rattle.grasp_core.specs.Begin.{expired, expire_next}
+use Rattle.grasp_model_node.specs.Begin.{expired, expire_next}
 
 pub expired_none : (core : NodeCore) (n : NodeState) → NodeStands core n → NodeStands core (expired 0 n)
 unfolding expired

@@ -4,8 +4,8 @@ use Rattle.grasp_wire.specs.Cutter.{Past, after_feed}
 use Rattle.grasp_wire.specs.Stands.{cut_limit, fed_count}
 use Rattle.grasp_wire.specs.Stands as cutter
 use Rattle.grasp_wire.specs.declared.cutter.Cutter.{Cutter}
-use Rattle.grasp_core.specs.Bytes.{hear_all, most_bytes}
-use Rattle.grasp_core.specs.Feeding.{Feeding, Feeds, Hears, StaysOpen, IsShut, HeardSome, LeftOpen, LeftShut, LeftStarved, HasRoom, with_piece}
+use Rattle.grasp_model_node.specs.Bytes.{hear_all, most_bytes}
+use Rattle.grasp_core.specs.Feeding.{Feeding, Feeds, Hears, StaysOpen, IsShut, LeftOpen, LeftShut, LeftStarved, HasRoom, with_piece}
 use Rattle.grasp_core.specs.declared.node_core.NodeCore.{NodeCore}
 
 pub fed_hears : (core : NodeCore) (c new : Cutter) (piece : List ℕ) (f : Feeding) → Feeds core c piece f → ((p : Past) → cutter.Stands c p → cutter.Stands new (after_feed p piece)) → cut_limit new ≡ cut_limit c → Hears core new (with_piece piece f)
@@ -19,9 +19,6 @@ left_open stream core later c last piece f x r o = record { room = room_in core 
 
 pub left_shut : (stream : ℕ) (core later : NodeCore) (c : Cutter) (piece : List ℕ) (f : Feeding) → Feeds core c piece f → fed_count c + length piece ≤ most_bytes → IsShut stream (with_piece piece f) later → LeftShut stream piece f later
 left_shut stream core later c piece f x r o = record { room = room_in core c piece f x r; then = o }
-
-pub left_starved : (stream : ℕ) (core later : NodeCore) (c : Cutter) (piece : List ℕ) (f : Feeding) → Feeds core c piece f → fed_count c + length piece ≤ most_bytes → HeardSome stream (with_piece piece f) later → LeftStarved stream piece f later
-left_starved stream core later c piece f x r o = record { room = room_in core c piece f x r; then = o }
 
 pub unfed : (stream : ℕ) (core : NodeCore) (c : Cutter) (piece : List ℕ) (f : Feeding) → Feeds core c piece f → fed_count c + length piece ≤ most_bytes → LeftStarved stream piece f core
 unfolding hear_all

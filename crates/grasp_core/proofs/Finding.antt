@@ -10,7 +10,7 @@ use Rattle.grasp_flood.specs.Flood.{same_key}
 use Rattle.grasp_flood.specs.Floods.{Floods, has_key, after_drop}
 use Rattle.grasp_flood.specs.declared.keys.FloodKey.{FloodKey}
 use Rattle.grasp_flood.specs.declared.kept.FloodKept.{FloodKept}
-use Rattle.grasp_core.specs.FloodCalls.{is_fresh}
+use Rattle.grasp_model_node.specs.FloodCalls.{is_fresh}
 
 -- an entry has a locator
 some_cached : (topic : Topic) (entries : List (Topic × List Cached)) → All (λ entry. IsEntry entry.1) entries → has_topic topic entries ≡ true → 1 ≤ length (cached_under topic entries)

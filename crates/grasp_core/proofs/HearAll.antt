@@ -9,14 +9,14 @@ use Rattle.grasp_wire.specs.Cutter.{Past, after_next, AnswersNext, Finds, HasFau
 use Rattle.grasp_wire.specs.Reads.{fault_of}
 use Rattle.grasp_wire.specs.Stands.{cut_limit}
 use Rattle.grasp_wire.specs.Stands as cutter
-use Rattle.grasp_wire.specs.Stream.{IsRest, Splits, Divides, RestKind, waiting, too_long, not_message, faulty}
+use Rattle.grasp_wire.specs.Stream.{IsRest, Splits, Divides, RestKind, waiting}
 use Rattle.grasp_wire.specs.declared.cutter.Cutter.{Cutter}
 use Rattle.grasp_wire.specs.declared.fault.CutFault.{CutFault}
-use Rattle.grasp_wire.specs.declared.fault.CutFault.TheVariants.{Malformed, NotText, TooDeep, TooLong, NotMessage, OutOfMemory}
-use Rattle.grasp_core.specs.Bytes.{hear_on, hear_all, hear_fault, hear_rest}
+use Rattle.grasp_wire.specs.declared.fault.CutFault.TheVariants.{OutOfMemory}
+use Rattle.grasp_model_node.specs.Bytes.{hear_on, hear_all, hear_fault, hear_rest}
 use Rattle.grasp_core.specs.Feeding.{Feeding, Hears, HasHeard, StaysOpen, IsShut, HeardSome, after_some, after_all, having_given}
-use Rattle.grasp_core.specs.Hear.{Heard, stays, shuts, hear, after_refusal}
-use Rattle.grasp_core.specs.Node.{NodeState}
+use Rattle.grasp_model_node.specs.Hear.{Heard, stays, shuts, hear, after_refusal}
+use Rattle.grasp_model_node.specs.Node.{NodeState}
 use Rattle.grasp_core.specs.Stands.{CutsOpen, NodeStands}
 use Rattle.grasp_core.specs.declared.node_core.NodeCore.{NodeCore}
 
@@ -50,15 +50,11 @@ fault-open stream x e = rw e refl
 
 rest-shut : (stream : ℕ) (k : RestKind) (x : Heard) → x.is_open ≡ false → hear_rest stream k x ≡ x
 rest-shut stream waiting x e = refl
-rest-shut stream too_long x e = fault-shut stream x e
-rest-shut stream not_message x e = fault-shut stream x e
-rest-shut stream (faulty name place) x e = fault-shut stream x e
+rest-shut stream _ x e = fault-shut stream x e
 
 rest-fault : (stream : ℕ) (k : RestKind) (x : Heard) → k ≢ waiting → hear_rest stream k x ≡ hear_fault stream x
 rest-fault stream waiting x n = absurd (n refl)
-rest-fault stream too_long x n = refl
-rest-fault stream not_message x n = refl
-rest-fault stream (faulty name place) x n = refl
+rest-fault stream _ x n = refl
 
 -- ---- before the first
 
@@ -100,7 +96,7 @@ next_is stream core c new f m x after same =
     let both : x.some ++ x.others ≡ x.some ++ (m ∷ come.0) = sym x.parts ∙ append_cancel_left f.past.given _ _ all ∙ append_assoc x.some (m ∷ []) come.0 in
     record { left = come.0; others_are = append_cancel_left x.some x.others (m ∷ come.0) both; cuts = record { stands = stands; limit_is = same ∙ x.cuts.limit_is; no_fault = x.cuts.no_fault } }
 
--- it was heard, and the stream is open
+-- the next message was heard, and the stream is still open
 pub one_more : (stream : ℕ) (core later : NodeCore) (c new : Cutter) (f : Feeding) (m : Message)
     → ((p : Past) → cutter.Stands c p → cutter.Stands new (after_next p (Ok (Some m)))) → cut_limit new ≡ cut_limit c
     → ((n : NodeState) → NodeStands core n → (true ≡ (hear n stream m).is_open) × NodeStands later (hear n stream m).node)
@@ -133,7 +129,7 @@ shut_at stream f some left m parts opens closes =
     ∙ (ap (hear_all stream left) (hear_on-open stream x m opens) ∙ hear_all-shut stream left y closes)) in
     ap (hear_rest stream f.added.kind) all ∙ rest-shut stream f.added.kind y closes
 
--- it was heard, and the stream is closing
+-- the next message was heard, and the stream is closing
 pub shut : (stream : ℕ) (core later : NodeCore) (c new : Cutter) (f : Feeding) (m : Message)
     → ((p : Past) → cutter.Stands c p → cutter.Stands new (after_next p (Ok (Some m)))) → cut_limit new ≡ cut_limit c
     → ((n : NodeState) → NodeStands core n → (false ≡ (hear n stream m).is_open) × NodeStands later (hear n stream m).node)
@@ -172,12 +168,8 @@ waits stream core c new f answers after same x =
     }
 
 lasting_fault : (limit : ℕ) (past : Past) (fault : CutFault) → fault ≢ OutOfMemory → Finds limit past (Err fault) → HasFault limit past fault
-lasting_fault limit past (Malformed at) other h = h
-lasting_fault limit past (NotText at) other h = h
-lasting_fault limit past (TooDeep at) other h = h
-lasting_fault limit past (TooLong at) other h = h
-lasting_fault limit past (NotMessage at) other h = h
 lasting_fault limit past OutOfMemory other h = absurd (other refl)
+lasting_fault limit past _ other h = h
 
 not_waiting : (k : RestKind) (before : ℕ) (fault : CutFault) → fault_of before k ≡ Some fault → k ≢ waiting
 not_waiting k before fault e w = absurd (cc (ap (fault_of before) w))

@@ -4,7 +4,7 @@ use Rattle.grasp_asa.specs.Answers.{value_offered}
 use Rattle.grasp_asa.specs.Registrations.{Registrations}
 use Rattle.grasp_types.specs.Objective.{has_synch}
 use Rattle.grasp_types.specs.declared.objective.Objective.{Objective}
-use Rattle.grasp_core.specs.Declines.{declined_for, unlistened}
+use Rattle.grasp_model_node.specs.Declines.{declined_for, unlistened}
 use Rattle.grasp_discovery.specs.Discoveries.{Discoveries, asker_of, answered_reply, after_answered, end_of}
 use Rattle.grasp_discovery.specs.declared.answers.Answered.{Answered}
 use Rattle.grasp_discovery.specs.declared.answers.Answered.TheVariants.{Mine, Relay, Stranger}
@@ -21,10 +21,10 @@ use Rattle.grasp_session.specs.Sessions.{Sessions, state_reply, receive_reply, a
 use Rattle.grasp_session.specs.Stands as table
 use Rattle.grasp_session.specs.Transcript.{Faulty}
 use Rattle.grasp_core.specs.First.{with_response}
-use Rattle.grasp_core.specs.Hear.{hear_request, hear_synchronization, is_listened, synched, declines, hear_later, hear_later_by, hear_response, answered_with, sent_on, neighbour_at, dial_neighbour, goes_on, after_refusal}
-use Rattle.grasp_core.specs.Moves.{answer, may_queue, with_discoveries, with_sessions, queue_up}
-use Rattle.grasp_core.specs.Node.{NodeState}
-use Rattle.grasp_core.specs.Queue.{send}
+use Rattle.grasp_model_node.specs.Hear.{hear_request, hear_synchronization, is_listened, synched, declines, hear_later, hear_later_by, hear_response, answered_with, sent_on, neighbour_at, dial_neighbour, goes_on, after_refusal}
+use Rattle.grasp_model_node.specs.Moves.{answer, may_queue, with_discoveries, with_sessions, queue_up}
+use Rattle.grasp_model_node.specs.Node.{NodeState}
+use Rattle.grasp_model_node.specs.Queue.{send}
 use Rattle.grasp_core.specs.Stands.{NodeStands}
 use Rattle.grasp_core.specs.declared.node_core.NodeCore.{NodeCore}
 
@@ -74,8 +74,7 @@ sent_as : (n : NodeState) (d : Discoveries) (m : Message) (asker : Option (Answe
 unfolding with_discoveries
 sent_as n d m None = refl
 sent_as n d m (Some (Mine, topic)) = refl
-sent_as n d m (Some (Stranger, topic)) = refl
-sent_as n d m (Some (Relay cause, topic)) = refl
+sent_as n d m (Some (_, topic)) = refl
 
 pub responds : (core : NodeCore) (n : NodeState) (session : ℕ) (initiator : Address) (ttl : ℕ) (told : Answer) (m : Message) (answered : Answered)
     → answered ≡ answered_reply (asker_of n.discoveries n.plan.address (origin_of session initiator))

@@ -3,8 +3,8 @@ use Rattle.std.proofs.Common.{◌≡◌, ℕ, true, List, Option, Some, None, Ok
 use Rattle.grasp_types.specs.declared.refusal.ApiRefused.{ApiRefused}
 use Rattle.grasp_asa.specs.Registrations.{is_registered}
 use Rattle.grasp_asa.specs.Answers.{owned_answer}
-use Rattle.grasp_core.specs.Node.{NodeState}
-use Rattle.grasp_core.specs.Tests.{owned_flags}
+use Rattle.grasp_model_node.specs.Node.{NodeState}
+use Rattle.grasp_model_node.specs.Tests.{owned_flags}
 
 pub owned_found : (n : NodeState) (asa : ℕ) (name : List ℕ) (flags : ℕ) → is_registered n.registrations asa ≡ true → Ok flags ≡ owned_answer n.registrations asa name → owned_flags n asa name ≡ Some flags
 owned_found n asa name flags g e = by_found (owned_flags n asa name) refl where

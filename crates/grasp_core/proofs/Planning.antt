@@ -2,12 +2,12 @@
 use Rattle.std.proofs.lemmas.List.{map-append}
 use Rattle.std.specs.List.{slice_get}
 use Rattle.std.proofs.Common.{◌≡◌, ◌<◌, ◌≤◌, ◌+◌, ℕ, zero, suc, List, [], ◌∷◌, ◌++◌, map, drop, Option, Some, None, refl, sym, ap, ◌∙◌, add-one, append-nil, append_assoc, arith}
+use Rattle.grasp_cbor.proofs.Behind.{drop_got}
 use Rattle.grasp_types.specs.declared.session.Handle.{Handle}
 use Rattle.grasp_session.specs.Sessions.{Sessions, SessionState, session_at, untaken_above_reply}
-use Rattle.grasp_wire.proofs.Runs.{drop_at}
-use Rattle.grasp_core.specs.Declines.{Declining, decline_at, declines_above, declines_of}
+use Rattle.grasp_model_node.specs.Declines.{Declining, decline_at, declines_above, declines_of}
 use Rattle.grasp_core.specs.Planned.{planned_as}
-use Rattle.grasp_core.specs.RegistryCalls.{declines_for}
+use Rattle.grasp_model_node.specs.RegistryCalls.{declines_for}
 use Rattle.grasp_core.specs.declared.declining.Planned.{Planned}
 
 -- no further decline is planned
@@ -47,7 +47,7 @@ past (x ∷ xs) (suc i) e = past xs i e
 pub next_name : (z : Sessions) (names : List (List ℕ)) (i : ℕ) (name : List ℕ) (before after all : List Declining) → slice_get names i ≡ Some name → after ≡ before ++ declines_of z name → before ++ declines_for z (drop i names) ≡ all
     → after ++ declines_for z (drop (i + 1) names) ≡ all
 next_name z names i name before after all s e h =
-    rw (e, append_assoc before (declines_of z name) (declines_for z (drop (i + 1) names))) (ap (λ (l : List (List ℕ)). before ++ declines_for z l) (sym (drop_at names i name s)) ∙ h)
+    rw (e, append_assoc before (declines_of z name) (declines_for z (drop (i + 1) names))) (ap (λ (l : List (List ℕ)). before ++ declines_for z l) (sym (drop_got names i name s)) ∙ h)
 
 -- the declines of all objectives are planned
 pub last_name : (z : Sessions) (names : List (List ℕ)) (i : ℕ) (before all : List Declining) → slice_get names i ≡ None → before ++ declines_for z (drop i names) ≡ all → before ≡ all

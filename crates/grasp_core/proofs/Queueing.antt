@@ -4,9 +4,9 @@ use Rattle.std.proofs.lemmas.List.{map-append, length-map, take-map, drop-map}
 use Rattle.grasp_types.specs.declared.message.Message.{Message}
 use Rattle.grasp_types.specs.declared.traffic.Output.{Output}
 use Rattle.grasp_types.specs.declared.traffic.Output.TheVariants as output
-use Rattle.grasp_core.specs.Queue.{Queued, output_of, encoding, along}
+use Rattle.grasp_model_node.specs.Queue.{Queued, output_of, encoding, along}
 use Rattle.grasp_core.specs.Stands.{QueueStands}
-use Rattle.grasp_core.specs.declared.ways.Way.{Way}
+use Rattle.grasp_model_node.specs.declared.way.Way.{Way}
 
 pub queued_length : (outputs : List Output) (queue : List Queued) → QueueStands outputs queue → length outputs ≡ length queue
 queued_length outputs queue h = ap length h.outputs_are ∙ length-map queue output_of

@@ -2,7 +2,7 @@
 use Rattle.std.proofs.Common.{◌≡◌, ℕ, ◌+◌, ◌*◌, [], ◌∷◌, ◌++◌, None, refl, ap}
 use Rattle.std.proofs.lemmas.Slice.Zip.{all_zipped_more}
 use Rattle.grasp_core.specs.Stands.{StreamStands, StreamsStand}
-use Rattle.grasp_core.specs.Streams.{StreamsState, with_dialled}
+use Rattle.grasp_model_node.specs.Streams.{StreamsState, with_dialled}
 use Rattle.grasp_core.specs.declared.streams.Stream.{Stream}
 use Rattle.grasp_core.specs.declared.streams.Streams.{Streams}
 

@@ -4,7 +4,7 @@ use Rattle.grasp_asa.specs.Answers.{value_offered}
 use Rattle.grasp_cbor.specs.DataItem.{DataItem}
 use Rattle.grasp_discovery.specs.Discoveries.{asker_of, after_answered, end_of}
 use Rattle.grasp_discovery.specs.declared.answers.Answered.{Answered}
-use Rattle.grasp_discovery.specs.declared.answers.Answered.TheVariants.{Mine, Relay, Stranger}
+use Rattle.grasp_discovery.specs.declared.answers.Answered.TheVariants.{Relay}
 use Rattle.grasp_discovery.specs.declared.topic.Topic.{Topic}
 use Rattle.grasp_session.specs.Sessions.{state_reply, receive_reply, start_reply}
 use Rattle.grasp_session.specs.declared.answer.Received.{Received}
@@ -19,14 +19,14 @@ use Rattle.grasp_types.specs.declared.message.Message.{Message}
 use Rattle.grasp_types.specs.declared.message.Message.TheVariants.{Noop, Discovery, Response, ReqNeg, ReqSyn, Negotiate, End, Wait, Synch, Flood, Invalid}
 use Rattle.grasp_types.specs.declared.objective.Objective.{Objective}
 use Rattle.grasp_types.specs.declared.session.Handle.{Handle}
-use Rattle.grasp_wire.specs.Stream.{RestKind, waiting, too_long, not_message, faulty}
-use Rattle.grasp_core.specs.Bytes.{Added, hear_on, hear_all, hear_fault, hear_rest, heard}
-use Rattle.grasp_core.specs.Declines.{declined_for, unlistened, busy}
-use Rattle.grasp_core.specs.Hear.{Heard, stays, hear, hear_by, hear_first, hear_later_by, hear_request, hear_synchronization, listened, synched, is_listened, refused_by, after_refusal, sent_on, dial_neighbour, neighbour_at, answered_with}
-use Rattle.grasp_core.specs.Moves.{with_sessions, with_discoveries, queue_up, dial_record, answer, dial_with, may_queue}
-use Rattle.grasp_core.specs.Node.{NodeState}
-use Rattle.grasp_core.specs.Streams.{is_dialled_out}
-use Rattle.grasp_core.specs.declared.plan.NodePlan.{NodePlan}
+use Rattle.grasp_wire.specs.Stream.{RestKind, waiting}
+use Rattle.grasp_model_node.specs.Bytes.{Added, hear_on, hear_all, hear_fault, hear_rest, heard}
+use Rattle.grasp_model_node.specs.Declines.{declined_for, unlistened, busy}
+use Rattle.grasp_model_node.specs.Hear.{Heard, stays, hear, hear_by, hear_first, hear_later_by, hear_request, hear_synchronization, listened, synched, is_listened, refused_by, after_refusal, sent_on, dial_neighbour, neighbour_at, answered_with}
+use Rattle.grasp_model_node.specs.Moves.{with_sessions, with_discoveries, queue_up, dial_record, answer, dial_with, may_queue}
+use Rattle.grasp_model_node.specs.Node.{NodeState}
+use Rattle.grasp_model_node.specs.Streams.{is_dialled_out}
+use Rattle.grasp_model_node.specs.declared.plan.NodePlan.{NodePlan}
 
 if-plan : (b : Bool) (x y : NodeState) (p : NodePlan) → x.plan ≡ p → y.plan ≡ p → (if b then x else y).plan ≡ p
 if-plan true x y p e f = e
@@ -78,10 +78,8 @@ neighbour-plan n None m = refl
 neighbour-plan n (Some neighbour) m = dial_with-plan n neighbour.locator m
 
 sent_on-plan : (n : NodeState) (m : Message) (asker : Option (Answered × Topic)) → (sent_on n m asker).plan ≡ n.plan
-sent_on-plan n m None = refl
-sent_on-plan n m (Some (Mine, topic)) = refl
-sent_on-plan n m (Some (Stranger, topic)) = refl
 sent_on-plan n m (Some (Relay cause, topic)) = neighbour-plan n (neighbour_at n cause.link cause.from) m
+sent_on-plan n m _ = refl
 
 response-plan : (n : NodeState) (ttl : ℕ) (told : Answer) (m : Message) (asker : Option (Answered × Topic)) → (sent_on (with_discoveries n (after_answered n.discoveries (end_of n.reading ttl) (answered_with told) asker)) m asker).plan ≡ n.plan
 unfolding with_discoveries
@@ -122,9 +120,7 @@ fault-plan stream x = if_heard-plan x.is_open _ x x.node.plan (after_refusal-pla
 
 rest-plan : (stream : ℕ) (k : RestKind) (x : Heard) → (hear_rest stream k x).node.plan ≡ x.node.plan
 rest-plan stream waiting x = refl
-rest-plan stream too_long x = fault-plan stream x
-rest-plan stream not_message x = fault-plan stream x
-rest-plan stream (faulty name place) x = fault-plan stream x
+rest-plan stream _ x = fault-plan stream x
 
 -- all messages of a piece, and its rest
 pub heard-plan : (n : NodeState) (stream : ℕ) (a : Added) → (heard n stream a).node.plan ≡ n.plan

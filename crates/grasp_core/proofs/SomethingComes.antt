@@ -1,37 +1,37 @@
 -- What a piece adds to its stream.
-use Rattle.std.proofs.Common.{◌≡◌, ℕ, ◌<◌, ◌^◌, List, [], ◌++◌, Option, Some, None, refl, sym, ap, ◌∙◌, subst, append_assoc}
+use Rattle.std.proofs.Common.{◌≡◌, ℕ, ◌<◌, ◌^◌, List, [], ◌++◌, Option, Some, None, refl, sym, ◌∙◌, subst, append_assoc}
 use Rattle.std.specs.Prelude.{IsSome, IsSomeAnd, MatchOption, slice_get}
 use Rattle.std.specs.List.{AllZip}
-use Rattle.std.proofs.lemmas.List.{append_cancel_left}
 use Rattle.std.proofs.lemmas.Slice.Zip.{AllZip-right}
-use Rattle.grasp_cbor.proofs.HeadBytes.{AllBytes-append, AllBytes-back}
+use Rattle.grasp_cbor.proofs.HeadBytes.{AllBytes-append}
 use Rattle.grasp_cbor.specs.Bytes.{AllBytes}
 use Rattle.grasp_types.specs.declared.message.Message.{Message}
-use Rattle.grasp_wire.proofs.Dividing.{given_come, grows, one_division, one_kind}
+use Rattle.grasp_wire.proofs.Dividing.{given_come, grows}
 use Rattle.grasp_wire.proofs.SomeDivision.{some_division}
 use Rattle.grasp_wire.specs.Cutter.{Past}
-use Rattle.grasp_wire.specs.Stream.{Divides, Splits, IsRest, RestKind, waiting}
+use Rattle.grasp_wire.specs.Stream.{Divides, Splits, waiting}
 use Rattle.grasp_wire.specs.declared.cutter.Cutter.{Cutter}
-use Rattle.grasp_core.specs.Adding.{SomethingComes, SameMessagesCome, OneComes}
-use Rattle.grasp_core.specs.Bytes.{Added, Adds, AddsOn}
-use Rattle.grasp_core.specs.Node.{NodeState}
+use Rattle.grasp_model_node.proofs.OneAddition.{agree}
+use Rattle.grasp_core.specs.Adding.{SomethingComes, OneComes}
+use Rattle.grasp_model_node.specs.Bytes.{Added, Adds, AddsOn}
+use Rattle.grasp_model_node.specs.Node.{NodeState}
 use Rattle.grasp_core.specs.Stands.{CutsAs, CutsOpen, NodeStands, StreamStands}
-use Rattle.grasp_core.specs.Streams.{StreamState, at_place, past_in, past_of, place_of}
+use Rattle.grasp_model_node.specs.Streams.{StreamRecord, at_place, past_in, past_of, place_of}
 use Rattle.grasp_core.specs.declared.node_core.NodeCore.{NodeCore}
 use Rattle.grasp_core.specs.declared.streams.Stream.{Stream}
 
 -- an open stream has its cutter
-open_at : (limit : ℕ) (held : List Stream) (xs : List StreamState) (place : Option ℕ) (past : Past) → AllZip (StreamStands limit) held xs → past_in (at_place xs place) ≡ Some past → (c : Cutter) × CutsOpen limit c past
+open_at : (limit : ℕ) (held : List Stream) (xs : List StreamRecord) (place : Option ℕ) (past : Past) → AllZip (StreamStands limit) held xs → past_in (at_place xs place) ≡ Some past → (c : Cutter) × CutsOpen limit c past
 open_at limit held xs place past h e = by_place place e where
   by_cutter : (o : Option Cutter) → CutsAs limit o (Some past) → (c : Cutter) × CutsOpen limit c past
   by_cutter None k = absurd k
   by_cutter (Some c) k = (c, k)
 
-  by_stream : (o : Option Stream) (x : StreamState) → IsSomeAnd o (λ s. StreamStands limit s x) → x.past ≡ Some past → (c : Cutter) × CutsOpen limit c past
+  by_stream : (o : Option Stream) (x : StreamRecord) → IsSomeAnd o (λ s. StreamStands limit s x) → x.past ≡ Some past → (c : Cutter) × CutsOpen limit c past
   by_stream None x k f = absurd k
   by_stream (Some s) x k f = by_cutter s.cutter (subst (CutsAs limit s.cutter) f k.cuts)
 
-  by_record : (i : ℕ) (o : Option StreamState) → MatchOption o (Unit {0}) (λ x. IsSomeAnd (slice_get held i) (λ s. StreamStands limit s x)) → past_in o ≡ Some past → (c : Cutter) × CutsOpen limit c past
+  by_record : (i : ℕ) (o : Option StreamRecord) → MatchOption o (Unit {0}) (λ x. IsSomeAnd (slice_get held i) (λ s. StreamStands limit s x)) → past_in o ≡ Some past → (c : Cutter) × CutsOpen limit c past
   by_record i None k f = absurd (cc)
   by_record i (Some x) k f = by_stream (slice_get held i) x k f
 
@@ -58,29 +58,6 @@ something_comes core n stream piece few h bytes = by_past (past_of n.streams str
   by_past : (o : Option Past) → past_of n.streams stream ≡ o → (a : Added) × AddsOn n.plan.limit piece a o
   by_past None e = (record { messages = []; rest = []; kind = waiting }, tt)
   by_past (Some past) e = let k = open_of core n stream past h e in adds_some n.plan.limit k.0 past piece few k.1 bytes
-
-messages_agree : (limit : ℕ) (past : Past) (piece : List ℕ) (a b : Added) → Adds limit past piece a → Adds limit past piece b → (a.messages ≡ b.messages) × (a.rest ≡ b.rest)
-messages_agree limit past piece a b x y =
-    let same = one_division (past.fed ++ piece) limit (past.given ++ a.messages) (past.given ++ b.messages) a.rest b.rest x.splits y.splits in
-    (append_cancel_left past.given a.messages b.messages same.0, same.1)
-
-pub same_messages_come : SameMessagesCome
-same_messages_come n stream piece a b some x y = by_past (past_of n.streams stream) some x y where
-  by_past : (o : Option Past) → IsSome o → AddsOn n.plan.limit piece a o → AddsOn n.plan.limit piece b o → a.messages ≡ b.messages
-  by_past None s x y = absurd (cc)
-  by_past (Some past) s x y = (messages_agree n.plan.limit past piece a b x y).0
-
-added_is : (a b : Added) → a.messages ≡ b.messages → a.rest ≡ b.rest → a.kind ≡ b.kind → a ≡ b
-added_is a b e f g =
-    ap (λ (ms : List Message). let t : Added = record a { messages = ms } in t) e
-    ∙ (ap (λ (r : List ℕ). let t : Added = record a { messages = b.messages; rest = r } in t) f
-    ∙ ap (λ (k : RestKind). let t : Added = record b { kind = k } in t) g)
-
-pub agree : (limit : ℕ) (past : Past) (piece : List ℕ) (a b : Added) → AllBytes past.fed → AllBytes piece → Adds limit past piece a → Adds limit past piece b → a ≡ b
-agree limit past piece a b fed bytes x y =
-    let same = messages_agree limit past piece a b x y in
-    let rest : AllBytes a.rest = AllBytes-back x.splits.front a.rest (subst AllBytes x.splits.parts (AllBytes-append past.fed piece fed bytes)) in
-    added_is a b same.0 same.1 (one_kind a.rest limit a.kind b.kind rest x.kind_is (subst (λ (r : List ℕ). IsRest r limit b.kind) (sym same.1) y.kind_is))
 
 pub one_comes : OneComes
 one_comes core n stream piece a b h bytes some x y = by_past (past_of n.streams stream) refl some x y where

@@ -3,11 +3,11 @@ use Rattle.std.proofs.Common.{◌≡◌, ℕ, suc, ◌-◌, ◌<◌, ◌≤◌, 
 use Rattle.std.proofs.lemmas.List.{length-map}
 use Rattle.grasp_types.specs.declared.traffic.Output.{Output}
 use Rattle.grasp_types.specs.declared.traffic.Output.TheVariants.{Close}
-use Rattle.grasp_core.specs.Draining.{closes_behind, closes, drained}
-use Rattle.grasp_core.specs.Node.{NodeState}
-use Rattle.grasp_core.specs.Queue.{Queued, output_of}
+use Rattle.grasp_model_node.specs.Draining.{closes_behind, closes, drained}
+use Rattle.grasp_model_node.specs.Node.{NodeState}
+use Rattle.grasp_model_node.specs.Queue.{Queued, output_of}
 use Rattle.grasp_core.specs.Stands.{QueueStands}
-use Rattle.grasp_core.specs.Streams.{closing_numbers}
+use Rattle.grasp_model_node.specs.Streams.{closing_numbers}
 use Rattle.grasp_core.proofs.Queueing.{queued_first}
 
 closes_behind_some : (n : NodeState) (max : ℕ) (qs : List Queued) → qs ≡ drop max n.queue → length n.queue < max → 1 ≤ length (closing_numbers n.streams) → 1 ≤ length (closes_behind n max qs)

@@ -6,15 +6,15 @@ use Rattle.grasp_types.specs.declared.message.Message.{Message}
 use Rattle.grasp_types.specs.declared.session.Kind.{Kind}
 use Rattle.grasp_types.specs.declared.traffic.Output.{Output}
 use Rattle.grasp_types.specs.declared.traffic.Output.TheVariants as output
-use Rattle.grasp_core.specs.FloodCalls.{to_all, discovery_message, begun, flood_message}
-use Rattle.grasp_core.specs.Moves.{with_discoveries, with_draw, queue_up}
-use Rattle.grasp_core.specs.Node.{NodeState}
+use Rattle.grasp_model_node.specs.FloodCalls.{to_all, discovery_message, begun, flood_message}
+use Rattle.grasp_model_node.specs.Moves.{with_discoveries, with_draw, queue_up}
+use Rattle.grasp_model_node.specs.Node.{NodeState}
 use Rattle.grasp_core.specs.Outgoing.{searched, flood_of}
-use Rattle.grasp_core.specs.Queue.{Queued, encoding, output_of, along, all_ways}
+use Rattle.grasp_model_node.specs.Queue.{Queued, encoding, output_of, along, all_ways}
 use Rattle.grasp_core.specs.Stands.{NodeStands}
-use Rattle.grasp_core.specs.Tests.{owned_flags}
+use Rattle.grasp_model_node.specs.Tests.{owned_flags}
 use Rattle.grasp_core.specs.declared.node_core.NodeCore.{NodeCore}
-use Rattle.grasp_core.specs.declared.ways.Way.{Way}
+use Rattle.grasp_model_node.specs.declared.way.Way.{Way}
 
 one_each : (m : Message) (ways : List Way) → map (λ (way : Way). output.Datagram way.link way.to (encoding m)) ways ≡ map output_of (along m ways)
 one_each m [] = refl
@@ -38,7 +38,7 @@ pub flood_is : (n : NodeState) (asa : ℕ) (name : List ℕ) (value : DataItem) 
     → flood_of n ttl (record { objective = record { name = name; flags = flags; loops = loops; value = Some value }; locator = None }) ≡ flood_message n asa name value ttl loops
 flood_is n asa name value ttl loops flags f = rw f refl
 
--- and what it changes
+-- what a flood changes: one more word is drawn, and its message is queued along every way
 pub flooded_is : (n : NodeState) (m : Message) → queue_up (with_draw n) (along m (all_ways n.plan.links)) ≡ to_all (with_draw n) m
 unfolding with_draw
 flooded_is n m = refl

@@ -1,12 +1,12 @@
 -- The numbers of the streams that are closing.
-use Rattle.std.proofs.Common.{◌≡◌, ℕ, zero, suc, ◌+◌, ◌<◌, ◌≤◌, Bool, true, false, not, cond, List, [], ◌∷◌, Option, Some, None, length, map, drop, refl, sym, ap, ◌∙◌, subst, arith, add-one, drop-cons}
+use Rattle.std.proofs.Common.{◌≡◌, ℕ, zero, suc, ◌+◌, ◌<◌, ◌≤◌, Bool, true, false, not, cond, List, [], ◌∷◌, Option, Some, None, length, map, refl, sym, ap, ◌∙◌, subst, arith}
 use Rattle.std.specs.Prelude.{nat_le, nat_lt, is_none, is_some, position, filter, slice_index_or}
 use Rattle.std.specs.List.{AllZip, insert, position_or_len}
 use Rattle.std.proofs.lemmas.Bool.{ltb-false, true≢false}
 use Rattle.grasp_wire.specs.Cutter.{Past}
 use Rattle.grasp_wire.specs.declared.cutter.Cutter.{Cutter}
 use Rattle.grasp_core.specs.Stands.{StreamStands, StreamsStand, CutsAs}
-use Rattle.grasp_core.specs.Streams.{StreamState, StreamsState, put_number, rising, closing_numbers}
+use Rattle.grasp_model_node.specs.Streams.{StreamRecord, StreamsState, put_number, rising, closing_numbers}
 use Rattle.grasp_core.specs.declared.streams.Stream.{Stream}
 use Rattle.grasp_core.specs.declared.streams.Streams.{Streams}
 
@@ -14,7 +14,7 @@ use Rattle.grasp_core.specs.declared.streams.Streams.{Streams}
 abbrev pub held_numbers : List Stream → List ℕ
 held_numbers l = rising (map (λ s. s.number) (filter (λ s. is_none s.cutter) l))
 
-kept_numbers : List StreamState → List ℕ
+kept_numbers : List StreamRecord → List ℕ
 kept_numbers xs = map (λ x. x.number) (filter (λ x. is_none x.past) xs)
 
 both_none : (limit : ℕ) (c : Option Cutter) (p : Option Past) → CutsAs limit c p → is_none c ≡ is_none p
@@ -23,7 +23,7 @@ both_none limit None (Some past) h = absurd h
 both_none limit (Some c) None h = absurd h
 both_none limit (Some c) (Some past) h = refl
 
-numbers_both : (limit : ℕ) (l : List Stream) (xs : List StreamState) → AllZip (StreamStands limit) l xs → map (λ s. s.number) (filter (λ s. is_none s.cutter) l) ≡ map (λ x. x.number) (filter (λ x. is_none x.past) xs)
+numbers_both : (limit : ℕ) (l : List Stream) (xs : List StreamRecord) → AllZip (StreamStands limit) l xs → map (λ s. s.number) (filter (λ s. is_none s.cutter) l) ≡ map (λ x. x.number) (filter (λ x. is_none x.past) xs)
 numbers_both limit [] [] h = refl
 numbers_both limit [] (b ∷ bs) h = absurd h
 numbers_both limit (a ∷ l) [] h = absurd h
@@ -33,21 +33,14 @@ numbers_both limit (a ∷ l) (b ∷ bs) h = rw (both_none limit a.cutter b.past 
   by_test true e = rw (h.0.number, e) refl
   by_test false e = e
 
--- they are those of the definition
+-- in the code the numbers of the closing streams are those of the definition
 pub all_numbers : (streams : Streams) (s : StreamsState) → StreamsStand streams s → held_numbers streams.held.items ≡ closing_numbers s
 all_numbers streams s h = ap rising (numbers_both streams.limit streams.held.items s.records h.held)
-
--- one more, the first
-pub numbers_on : (l : List Stream) (n k : ℕ) (a : Stream) → n < length l → k ≡ n + 1 → a ≡ slice_index_or l n a → drop n l ≡ a ∷ drop k l
-numbers_on l n k a h e at = rw (e, add-one) (drop-cons l n a h ∙ ap (λ (x : Stream). x ∷ drop (suc n) l) (sym at))
 
 pub closing_first : (a : Stream) (l : List Stream) → is_none a.cutter ≡ true → held_numbers (a ∷ l) ≡ put_number a.number (held_numbers l)
 closing_first a l e = rw e refl
 
-pub open_first : (a : Stream) (l : List Stream) → is_none a.cutter ≡ false → held_numbers (a ∷ l) ≡ held_numbers l
-open_first a l e = rw e refl
-
--- there is a number where one of them has no cutter
+-- a list into which a number was put isn't empty
 put_some : (n : ℕ) (xs : List ℕ) → 1 ≤ length (put_number n xs)
 put_some n [] = omega arith
 put_some n (m ∷ ms) = by_test (nat_le n m) where

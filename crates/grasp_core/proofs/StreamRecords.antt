@@ -1,5 +1,5 @@
 -- The records of streams, place by place.
-use Rattle.std.proofs.Common.{◌≡◌, ℕ, zero, suc, ◌<◌, List, [], ◌∷◌, ◌++◌, Option, Some, None, Result, Ok, Err, OnOk, length, ◌==◌, Bool, refl, sym, ap, ◌∙◌, subst, arith}
+use Rattle.std.proofs.Common.{◌≡◌, ℕ, zero, suc, ◌<◌, List, [], ◌∷◌, ◌++◌, Option, Some, None, length, ◌==◌, Bool, refl, sym, ap, ◌∙◌, subst, arith}
 use Rattle.std.specs.Prelude.{slice_get, slice_set, slice_index_or, position}
 use Rattle.std.specs.List.{AllZip, remove, position_or_len}
 use Rattle.std.proofs.lemmas.Slice.Zip.{all_zipped_more}
@@ -9,7 +9,7 @@ use Rattle.std.specs.Vec.{with_item}
 use Rattle.grasp_wire.specs.Cutter.{Past}
 use Rattle.grasp_wire.specs.declared.cutter.Cutter.{Cutter}
 use Rattle.grasp_core.specs.Stands.{StreamStands, StreamsStand, CutsAs, CutsOpen, after_take}
-use Rattle.grasp_core.specs.Streams.{StreamState, StreamsState, is_stream, place_of, past_of, opener_of, with_past, without}
+use Rattle.grasp_model_node.specs.Streams.{StreamRecord, StreamsState, is_stream, place_of, past_of, opener_of, with_past, without}
 use Rattle.grasp_core.specs.declared.streams.Stream.{Stream}
 use Rattle.grasp_core.specs.declared.streams.Streams.{Streams}
 
@@ -19,29 +19,29 @@ is_held stream s = s.number == stream
 
 -- ---- both lists, place by place
 
-pub zip_length : (limit : ℕ) (l : List Stream) (xs : List StreamState) → AllZip (StreamStands limit) l xs → length l ≡ length xs
+pub zip_length : (limit : ℕ) (l : List Stream) (xs : List StreamRecord) → AllZip (StreamStands limit) l xs → length l ≡ length xs
 zip_length limit [] [] h = refl
 zip_length limit [] (b ∷ bs) h = absurd h
 zip_length limit (a ∷ l) [] h = absurd h
 zip_length limit (a ∷ l) (b ∷ bs) h = ap suc (zip_length limit l bs h.1)
 
-pub zip_first : (stream limit : ℕ) (l : List Stream) (xs : List StreamState) → AllZip (StreamStands limit) l xs → position_or_len (is_held stream) l ≡ position_or_len (is_stream stream) xs
+pub zip_first : (stream limit : ℕ) (l : List Stream) (xs : List StreamRecord) → AllZip (StreamStands limit) l xs → position_or_len (is_held stream) l ≡ position_or_len (is_stream stream) xs
 zip_first stream limit [] [] h = refl
 zip_first stream limit [] (b ∷ bs) h = absurd h
 zip_first stream limit (a ∷ l) [] h = absurd h
 zip_first stream limit (a ∷ l) (b ∷ bs) h = let i = zip_first stream limit l bs h.1 in rw (h.0.number, i) refl
 
-pub zip_place : (stream limit : ℕ) (l : List Stream) (xs : List StreamState) → AllZip (StreamStands limit) l xs → position (is_held stream) l ≡ place_of stream xs
+pub zip_place : (stream limit : ℕ) (l : List Stream) (xs : List StreamRecord) → AllZip (StreamStands limit) l xs → position (is_held stream) l ≡ place_of stream xs
 zip_place stream limit l xs h = rw (zip_first stream limit l xs h, zip_length limit l xs h) refl
 
-pub zip_set : (limit : ℕ) (l : List Stream) (xs : List StreamState) → AllZip (StreamStands limit) l xs → (i : ℕ) (s : Stream) (x : StreamState) → StreamStands limit s x → AllZip (StreamStands limit) (slice_set l i s) (slice_set xs i x)
+pub zip_set : (limit : ℕ) (l : List Stream) (xs : List StreamRecord) → AllZip (StreamStands limit) l xs → (i : ℕ) (s : Stream) (x : StreamRecord) → StreamStands limit s x → AllZip (StreamStands limit) (slice_set l i s) (slice_set xs i x)
 zip_set limit [] [] h i s x e = tt
 zip_set limit [] (b ∷ bs) h i s x e = absurd h
 zip_set limit (a ∷ l) [] h i s x e = absurd h
 zip_set limit (a ∷ l) (b ∷ bs) h zero s x e = (e, h.1)
 zip_set limit (a ∷ l) (b ∷ bs) h (suc i) s x e = (h.0, zip_set limit l bs h.1 i s x e)
 
-pub zip_remove : (limit : ℕ) (l : List Stream) (xs : List StreamState) → AllZip (StreamStands limit) l xs → (i : ℕ) → AllZip (StreamStands limit) (remove l i) (remove xs i)
+pub zip_remove : (limit : ℕ) (l : List Stream) (xs : List StreamRecord) → AllZip (StreamStands limit) l xs → (i : ℕ) → AllZip (StreamStands limit) (remove l i) (remove xs i)
 zip_remove limit [] [] h zero = tt
 zip_remove limit [] [] h (suc i) = tt
 zip_remove limit [] (b ∷ bs) h i = absurd h
@@ -50,12 +50,12 @@ zip_remove limit (a ∷ l) (b ∷ bs) h zero = h.1
 zip_remove limit (a ∷ l) (b ∷ bs) h (suc i) = (h.0, zip_remove limit l bs h.1 i)
 
 -- the record at a place
-pub record StandsAt (limit : ℕ) (s : Stream) (xs : List StreamState) (i : ℕ) : Type 0 where
-  pub x : StreamState
+pub record StandsAt (limit : ℕ) (s : Stream) (xs : List StreamRecord) (i : ℕ) : Type 0 where
+  pub x : StreamRecord
   pub got : slice_get xs i ≡ Some x
   pub stands : StreamStands limit s x
 
-pub zip_at : (limit : ℕ) (l : List Stream) (xs : List StreamState) → AllZip (StreamStands limit) l xs → (i : ℕ) → i < length l → (d : Stream) → StandsAt limit (slice_index_or l i d) xs i
+pub zip_at : (limit : ℕ) (l : List Stream) (xs : List StreamRecord) → AllZip (StreamStands limit) l xs → (i : ℕ) → i < length l → (d : Stream) → StandsAt limit (slice_index_or l i d) xs i
 zip_at limit [] xs h i k d = absurd (omega arith)
 zip_at limit (a ∷ l) [] h i k d = absurd h
 zip_at limit (a ∷ l) (b ∷ bs) h zero k d = record { x = b; got = refl; stands = h.0 }
@@ -155,7 +155,7 @@ shut_at stream streams s i a b h e at g =
 -- ---- one more
 
 -- what a new record stands for
-pub one_more : (streams new : Streams) (s : StreamsState) (a : Stream) (x : StreamState) (dialled : ℕ) → StreamsStand streams s → new.held.items ≡ streams.held.items ++ a ∷ [] → new.limit ≡ streams.limit → new.dialled ≡ dialled → StreamStands streams.limit a x
+pub one_more : (streams new : Streams) (s : StreamsState) (a : Stream) (x : StreamRecord) (dialled : ℕ) → StreamsStand streams s → new.held.items ≡ streams.held.items ++ a ∷ [] → new.limit ≡ streams.limit → new.dialled ≡ dialled → StreamStands streams.limit a x
     → StreamsStand new (record { records = s.records ++ x ∷ []; dialled = dialled })
 one_more streams new s a x dialled h items limit count stands =
     record {
@@ -166,7 +166,3 @@ one_more streams new s a x dialled h items limit count stands =
 -- nothing changed
 pub same_streams : (streams new : Streams) (s : StreamsState) → StreamsStand streams s → new.held.items ≡ streams.held.items → new.limit ≡ streams.limit → new.dialled ≡ streams.dialled → StreamsStand new s
 same_streams streams new s h items limit dialled = record { held = rw (limit, items) h.held; dialled = dialled ∙ h.dialled }
-
-pub where_ok : {A E P Q : Type 0} (r : Result A E) → (P → Q) → OnOk r P → OnOk r Q
-where_ok (Ok x) f h = f h
-where_ok (Err e) f h = tt

@@ -3,16 +3,16 @@ use Rattle.std.proofs.Common.{◌≡◌, ◌<◌, ◌+◌, ℕ, Bool, true, fals
 use Rattle.std.proofs.lemmas.Bool.{true≢false, le-leb, leb-true}
 use Rattle.grasp_wire.specs.Cutter.{Past}
 use Rattle.grasp_wire.specs.declared.cutter.Cutter.{Cutter}
-use Rattle.grasp_core.proofs.ClosingThenGone.{broken-closing}
+use Rattle.grasp_model_node.proofs.ClosingThenGone.{broken-closing}
 use Rattle.grasp_core.proofs.SamePlan.{heard-plan}
-use Rattle.grasp_core.specs.Bytes.{AddsOn, past_after, bytes_on, after_bytes, broken, starved, most_bytes}
+use Rattle.grasp_model_node.specs.Bytes.{AddsOn, past_after, bytes_on, after_bytes, broken, starved, most_bytes}
 use Rattle.grasp_core.specs.Contract.{Meeting, MeetsBytes, StarvedAt}
 use Rattle.grasp_core.specs.Feeding.{Feeding, Feeds, Keeping, LeftOpen, LeftShut, LeftFull, LeftStarved, after_all, after_some, taken, with_piece}
-use Rattle.grasp_core.specs.Hear.{Heard}
-use Rattle.grasp_core.specs.Moves.{begin_closing, keep_past}
-use Rattle.grasp_core.specs.Node.{NodeState}
+use Rattle.grasp_model_node.specs.Hear.{Heard}
+use Rattle.grasp_model_node.specs.Moves.{begin_closing, keep_past}
+use Rattle.grasp_model_node.specs.Node.{NodeState}
 use Rattle.grasp_core.specs.Stands.{CutsAs, CutsOpen, NodeStands, StreamsStand, Putting, after_take}
-use Rattle.grasp_core.specs.Streams.{StreamsState, past_of, with_past}
+use Rattle.grasp_model_node.specs.Streams.{StreamsState, past_of, with_past}
 use Rattle.grasp_core.specs.declared.node_core.NodeCore.{NodeCore}
 use Rattle.grasp_core.specs.declared.streams.Streams.{Streams}
 
@@ -84,11 +84,6 @@ when_false false core x y e h = h
 bytes_stand : (core later : NodeCore) (stream : ℕ) (piece : List ℕ) (x : Meeting) (c : Cutter) → (w : WasOpen core stream piece x c) → NodeStands later (bytes_on x.node stream piece x.coming.added (Some w.past)) → NodeStands later (after_bytes x.node stream piece x.coming.added)
 unfolding after_bytes
 bytes_stand core later stream piece x c w h = subst (λ (o : Option Past). NodeStands later (bytes_on x.node stream piece x.coming.added o)) (sym w.past_is) h
-
--- the plan of a node on which a stream begins closing
-closing-plan : (n : NodeState) (stream : ℕ) → (begin_closing n stream).plan ≡ n.plan
-unfolding begin_closing
-closing-plan n stream = refl
 
 pub still_open : (core heard_core later : NodeCore) (stream : ℕ) (piece : List ℕ) (x : Meeting) (c last : Cutter) → (w : WasOpen core stream piece x c)
     → LeftOpen stream piece (feeding stream x w.past) heard_core last

@@ -4,9 +4,10 @@ use Rattle.std.specs.List.{AllZip, fold, sum_by, sum}
 use Rattle.grasp_wire.specs.Cutter.{Past}
 use Rattle.grasp_wire.specs.Stands.{KeepsUp, rest_of}
 use Rattle.grasp_wire.specs.declared.cutter.Cutter.{Cutter}
-use Rattle.grasp_core.specs.Kept.{HasWaiting, kept_by, kept_on}
+use Rattle.grasp_core.specs.Kept.{kept_by, kept_on}
+use Rattle.grasp_model_node.specs.Waiting.{HasWaiting}
 use Rattle.grasp_core.specs.Stands.{StreamStands, CutsAs}
-use Rattle.grasp_core.specs.Streams.{StreamState}
+use Rattle.grasp_model_node.specs.Streams.{StreamRecord}
 use Rattle.grasp_core.specs.declared.streams.Stream.{Stream}
 
 waits : (limit : ℕ) (c : Option Cutter) (past : Option Past) → CutsAs limit c past → HasWaiting limit past (kept_by c)
@@ -18,7 +19,7 @@ waits limit (Some c) (Some past) h =
     subst (λ m. HasWaiting m (Some past) (kept_by (Some c))) h.limit_is (record { front = k.front; rest = rest_of c; forms = k.forms; parts = k.parts; count_is = refl })
 
 -- each stream keeps what waits on it
-pub all_wait : (limit : ℕ) (xs : List Stream) (ys : List StreamState) → AllZip (StreamStands limit) xs ys → AllZip (λ y count. HasWaiting limit y.past count) ys (map kept_on xs)
+pub all_wait : (limit : ℕ) (xs : List Stream) (ys : List StreamRecord) → AllZip (StreamStands limit) xs ys → AllZip (λ y count. HasWaiting limit y.past count) ys (map kept_on xs)
 all_wait limit [] [] h = tt
 all_wait limit [] (y ∷ ys) h = absurd h
 all_wait limit (x ∷ xs) [] h = absurd h

@@ -6,10 +6,10 @@ use Rattle.std.proofs.lemmas.Bool.{ltb-false}
 use Rattle.grasp_asa.proofs.Lists.{none_at}
 use Rattle.grasp_types.specs.Address.{is_dialable}
 use Rattle.grasp_types.specs.declared.links.Neighbour.{Neighbour}
-use Rattle.grasp_core.specs.Plan.{is_bad_plan, is_bad_link}
-use Rattle.grasp_core.specs.Queue.{ways_on, ways_from}
-use Rattle.grasp_core.specs.declared.plan.NodePlan.{NodePlan}
-use Rattle.grasp_core.specs.declared.ways.Way.{Way}
+use Rattle.grasp_model_node.specs.Plan.{is_bad_plan, is_bad_link}
+use Rattle.grasp_model_node.specs.Queue.{ways_on, ways_from}
+use Rattle.grasp_model_node.specs.declared.plan.NodePlan.{NodePlan}
+use Rattle.grasp_model_node.specs.declared.way.Way.{Way}
 
 -- ---- one more neighbour
 

@@ -1,4 +1,4 @@
--- What a datagram carries, and what becomes of it in parts.
+-- Inside: what a datagram carries, and what becomes of it in parts.
 use Rattle.std.specs.Prelude.{ℕ, nat_le, List, Option, None, Some, if◌then◌else◌}
 use Rattle.grasp_discovery.specs.Discoveries as discovery
 use Rattle.grasp_discovery.specs.declared.answers.Cause.{Cause}
@@ -15,10 +15,10 @@ use Rattle.grasp_types.specs.declared.links.Neighbour.{Neighbour}
 use Rattle.grasp_types.specs.declared.message.Answer.TheVariants.{Divert}
 use Rattle.grasp_types.specs.declared.message.Message.TheVariants as message
 use Rattle.grasp_types.specs.declared.objective.Objective.{Objective}
-use Rattle.grasp_core.specs.Datagrams.{lowered, discovery_kept, flood_kept, after_discovery, after_flood}
-use Rattle.grasp_core.specs.Moves.{relay, dial_with}
-use Rattle.grasp_core.specs.Node.{NodeState}
-use Rattle.grasp_core.specs.Queue.{other_ways}
+use Rattle.grasp_model_node.specs.Datagrams.{lowered, discovery_kept, flood_kept, after_discovery, after_flood}
+use Rattle.grasp_model_node.specs.Moves.{relay, dial_with}
+use Rattle.grasp_model_node.specs.Node.{NodeState}
+use Rattle.grasp_model_node.specs.Queue.{other_ways}
 use Rattle.grasp_core.specs.declared.carried.Carried.{Carried}
 use Rattle.grasp_core.specs.declared.carried.Carried.TheVariants.{Discovery, Flood, Other}
 

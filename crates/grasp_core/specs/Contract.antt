@@ -5,14 +5,14 @@ use Rattle.grasp_types.specs.declared.call.Call.{Call}
 use Rattle.grasp_types.specs.declared.reply.Reply.{Reply}
 use Rattle.grasp_types.specs.declared.reply.Reply.TheVariants.{Api, Refused, Outputs, Taken, OutOfMemory}
 use Rattle.grasp_types.specs.declared.traffic.Input.{Input}
-use Rattle.grasp_core.specs.Begin.{begin}
-use Rattle.grasp_core.specs.Bytes.{AddsOn, after_bytes, StarvesAt}
-use Rattle.grasp_core.specs.Datagrams.{Carries, after_datagram}
-use Rattle.grasp_core.specs.Draining.{drained, after_drain}
-use Rattle.grasp_core.specs.Node.{NodeState}
+use Rattle.grasp_model_node.specs.Begin.{begin}
+use Rattle.grasp_model_node.specs.Bytes.{AddsOn, after_bytes, StarvesAt}
+use Rattle.grasp_model_node.specs.Datagrams.{Carries, after_datagram}
+use Rattle.grasp_model_node.specs.Draining.{drained, after_drain}
+use Rattle.grasp_model_node.specs.Node.{NodeState}
 use Rattle.grasp_core.specs.Stands.{NodeStands}
-use Rattle.grasp_core.specs.Step.{Coming, IsComing, Acts, NodeStep, MayCall, after_call}
-use Rattle.grasp_core.specs.Streams.{past_of}
+use Rattle.grasp_model_node.specs.Step.{Coming, IsComing, Acts, NodeStep, MayCall, after_call}
+use Rattle.grasp_model_node.specs.Streams.{past_of}
 use Rattle.grasp_core.specs.declared.node_core.NodeCore.{NodeCore}
 
 -- a node, and what comes with an input
@@ -33,6 +33,7 @@ pub record StarvedAt (core : NodeCore) (stream : ℕ) (piece : List ℕ) (x : Me
   pub starves : StarvesAt x.node stream piece x.coming.added after
   pub stands : NodeStands core after
 
+-- Inside: what a piece of a stream is answered with, and the node for which the code stands then
 abbrev pub GivesBytes : NodeCore → ℕ → List ℕ → Meeting → Reply → Type 0
 GivesBytes core stream piece x Taken = NodeStands core (after_bytes x.node stream piece x.coming.added)
 GivesBytes core stream piece x OutOfMemory = StarvedAt core stream piece x
@@ -40,10 +41,12 @@ GivesBytes core stream piece x _ = ⊥
 
 -- ---- a datagram
 
+-- Inside: the code stands for the node, and the datagram carries this
 pub record MeetsDatagram (core : NodeCore) (bytes : List ℕ) (x : Meeting) : Type 0 where
   pub stands : NodeStands core x.node
   pub carries : Carries x.node.plan.limit bytes x.coming.carried
 
+-- Inside: what a datagram is answered with, and the node for which the code stands then
 abbrev pub GivesDatagram : NodeCore → ℕ → ℕ → Meeting → Reply → Type 0
 GivesDatagram core link from x Taken = NodeStands core (after_datagram x.node link from x.coming.carried)
 GivesDatagram core link from x OutOfMemory = NodeStands core x.node
@@ -51,6 +54,7 @@ GivesDatagram core link from x _ = ⊥
 
 -- ---- a drain
 
+-- Inside: what a drain is answered with, and the node for which the code stands then
 abbrev pub GivesDrain : NodeCore → ℕ → NodeState → Reply → Type 0
 GivesDrain core max n (Outputs outputs) = (outputs ≡ drained n max) × NodeStands core (after_drain n max)
 GivesDrain core max n OutOfMemory = (1 ≤ length (drained n max)) × NodeStands core n
@@ -58,6 +62,7 @@ GivesDrain core max n _ = ⊥
 
 -- ---- a call
 
+-- Inside: what an agent's call is answered with, and the node for which the code stands then
 abbrev pub GivesCall : NodeCore → NodeState → ℕ → Call → Reply → Type 0
 GivesCall core n asa call (Api answer) = MayCall n asa call (Ok answer) × NodeStands core (after_call n asa call (Ok answer))
 GivesCall core n asa call (Refused refused) = MayCall n asa call (Err refused) × NodeStands core (after_call n asa call (Err refused))
@@ -70,7 +75,7 @@ pub record MeetsInput (core : NodeCore) (i : Input) (x : Meeting) : Type 0 where
   pub stands : NodeStands core x.node
   pub comes : IsComing x.node i x.coming
 
--- the code stands for a node that the input leads to
+-- Inside: the code stands for a node that the input leads to
 pub record Acted (core : NodeCore) (i : Input) (x : Meeting) (r : Reply) : Type 0 where
   pub after : NodeState
   pub acts : Acts x.node i x.coming r after

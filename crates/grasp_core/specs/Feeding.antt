@@ -1,13 +1,13 @@
--- How the messages of a piece are heard one after the other, and how that leaves the stream.
+-- Inside: how the messages of a piece are heard one after the other, and how that leaves the stream.
 use Rattle.std.specs.Prelude.{◌≡◌, ◌+◌, ◌≤◌, ◌<◌, ℕ, true, false, List, ◌++◌, length, Option, Some, None}
 use Rattle.grasp_types.specs.declared.message.Message.{Message}
 use Rattle.grasp_wire.specs.Cutter.{Past, after_feed}
 use Rattle.grasp_wire.specs.Stream.{Divides}
 use Rattle.grasp_wire.specs.declared.cutter.Cutter.{Cutter}
-use Rattle.grasp_core.specs.Bytes.{Added, hear_all, heard, most_bytes}
-use Rattle.grasp_core.specs.Hear.{Heard, stays}
-use Rattle.grasp_core.specs.Moves.{begin_closing}
-use Rattle.grasp_core.specs.Node.{NodeState}
+use Rattle.grasp_model_node.specs.Bytes.{Added, hear_all, heard, most_bytes}
+use Rattle.grasp_model_node.specs.Hear.{Heard, stays}
+use Rattle.grasp_model_node.specs.Moves.{begin_closing}
+use Rattle.grasp_model_node.specs.Node.{NodeState}
 use Rattle.grasp_core.specs.Stands.{CutsOpen, NodeStands}
 use Rattle.grasp_core.specs.declared.feeding.Ending.{Ending}
 use Rattle.grasp_core.specs.declared.feeding.Ending.TheVariants as ending

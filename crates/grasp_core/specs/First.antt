@@ -1,4 +1,4 @@
--- What the first message of a stream asks for.
+-- Inside: what the first message of a stream asks for.
 use Rattle.std.specs.Prelude.{ℕ}
 use Rattle.grasp_discovery.specs.Discoveries.{asker_of, after_answered, end_of}
 use Rattle.grasp_types.specs.Origin.{origin_of}
@@ -6,9 +6,9 @@ use Rattle.grasp_types.specs.declared.address.Address.{Address}
 use Rattle.grasp_types.specs.declared.message.Answer.{Answer}
 use Rattle.grasp_types.specs.declared.message.Message.{Message}
 use Rattle.grasp_types.specs.declared.message.Message.TheVariants as message
-use Rattle.grasp_core.specs.Hear.{Heard, stays, shuts, answered_with, hear_request, hear_synchronization, hear_response, hear_strange}
-use Rattle.grasp_core.specs.Moves.{with_discoveries}
-use Rattle.grasp_core.specs.Node.{NodeState}
+use Rattle.grasp_model_node.specs.Hear.{Heard, stays, shuts, answered_with, hear_request, hear_synchronization, hear_response, hear_strange}
+use Rattle.grasp_model_node.specs.Moves.{with_discoveries}
+use Rattle.grasp_model_node.specs.Node.{NodeState}
 use Rattle.grasp_core.specs.declared.first.First.{First}
 use Rattle.grasp_core.specs.declared.first.First.TheVariants.{Nothing, Request, Synchronization, Response, Over, Strange}
 

@@ -1,4 +1,4 @@
--- What a call is to send: whether it may be, and what has changed once it is.
+-- Inside: what a call is to send: whether it may be, and what has changed once it is.
 use Rattle.std.specs.Prelude.{◌≡◌, ◌⊎◌, ℕ, Bool, true, false, not, List, [], ◌∷◌, Some, Result, Ok, Err}
 use Rattle.grasp_cbor.specs.declared.memory.OutOfMemory.{OutOfMemory}
 use Rattle.grasp_discovery.specs.Discoveries.{search_from, with_search, after_find}
@@ -24,20 +24,20 @@ use Rattle.grasp_types.specs.declared.reply.ApiAnswer.TheVariants.{Searching}
 use Rattle.grasp_types.specs.declared.session.Kind.{Kind}
 use Rattle.grasp_types.specs.declared.session.Kind.TheVariants.{Negotiation, Synchronization}
 use Rattle.grasp_wire.specs.Cutter.{no_past}
-use Rattle.grasp_core.specs.Draws.{next_session}
-use Rattle.grasp_core.specs.Moves.{with_sessions, with_discoveries, with_draw, dial_record, queue_up}
-use Rattle.grasp_core.specs.Node.{NodeState}
-use Rattle.grasp_core.specs.Queue.{send, dial, along, all_ways}
-use Rattle.grasp_core.specs.Refusals.{Sending, late}
-use Rattle.grasp_core.specs.SessionCalls.{started}
-use Rattle.grasp_core.specs.Streams.{next_stream, is_dialled_out}
+use Rattle.grasp_model_node.specs.Draws.{next_session}
+use Rattle.grasp_model_node.specs.Moves.{with_sessions, with_discoveries, with_draw, dial_record, queue_up}
+use Rattle.grasp_model_node.specs.Node.{NodeState}
+use Rattle.grasp_model_node.specs.Queue.{send, dial, along, all_ways}
+use Rattle.grasp_model_node.specs.Refusals.{Sending, late}
+use Rattle.grasp_model_node.specs.SessionCalls.{started}
+use Rattle.grasp_model_node.specs.Streams.{next_stream, is_dialled_out}
 
--- it can be sent and there was memory for it, or the first refusal that holds
+-- what a call sends can be sent and there was memory for it, or the result is the first refusal that holds
 abbrev pub IsReady : {A : Type 0} → Sending → Result A ApiRefused → Type 0
 IsReady s (Ok a) = late s ≡ Ok tt
 IsReady s (Err r) = (late s ≡ Err r) ⊎ ((late s ≡ Ok tt) × (r ≡ api.OutOfMemory))
 
--- it was sent and this was answered, or the first refusal that holds
+-- what a call sends was sent and the call has this answer, or the result is the first refusal that holds
 abbrev pub MaySend : Sending → (ApiAnswer → Type 0) → Result ApiAnswer ApiRefused → Type 0
 MaySend s Answers (Ok a) = (late s ≡ Ok tt) × Answers a
 MaySend s Answers (Err r) = (late s ≡ Err r) ⊎ ((late s ≡ Ok tt) × (r ≡ api.OutOfMemory) × Unit {0})

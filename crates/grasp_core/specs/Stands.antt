@@ -7,9 +7,9 @@ use Rattle.grasp_types.specs.declared.traffic.Output.{Output}
 use Rattle.grasp_wire.specs.Cutter.{Past}
 use Rattle.grasp_wire.specs.Stands as cutter
 use Rattle.grasp_wire.specs.declared.cutter.Cutter.{Cutter}
-use Rattle.grasp_core.specs.Node.{NodeState}
-use Rattle.grasp_core.specs.Queue.{Queued, output_of, all_ways}
-use Rattle.grasp_core.specs.Streams.{StreamState, StreamsState, closing}
+use Rattle.grasp_model_node.specs.Node.{NodeState}
+use Rattle.grasp_model_node.specs.Queue.{Queued, output_of, all_ways}
+use Rattle.grasp_model_node.specs.Streams.{StreamRecord, StreamsState, closing}
 use Rattle.grasp_core.specs.declared.draws.Draws.{Draws}
 use Rattle.grasp_core.specs.declared.node_core.NodeCore.{NodeCore}
 use Rattle.grasp_core.specs.declared.streams.Stream.{Stream}
@@ -30,7 +30,7 @@ CutsAs limit None (Some past) = ⊥
 CutsAs limit (Some c) None = ⊥
 CutsAs limit (Some c) (Some past) = CutsOpen limit c past
 
-pub record StreamStands (limit : ℕ) (s : Stream) (x : StreamState) : Type 0 where
+pub record StreamStands (limit : ℕ) (s : Stream) (x : StreamRecord) : Type 0 where
   pub number : s.number ≡ x.number
   pub from : s.from ≡ x.from
   pub cuts : CutsAs limit s.cutter x.past
@@ -39,7 +39,7 @@ pub record StreamsStand (streams : Streams) (s : StreamsState) : Type 0 where
   pub held : AllZip (StreamStands streams.limit) streams.held.items s.records
   pub dialled : streams.dialled ≡ s.dialled
 
--- the stream whose past was taken out counts as closing
+-- Inside: the stream whose past was taken out counts as closing
 abbrev pub after_take : StreamsState → ℕ → Option Past → StreamsState
 after_take s stream None = s
 after_take s stream (Some past) = closing s stream

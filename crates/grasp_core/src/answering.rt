@@ -2,13 +2,13 @@
 //! wanted.
 
 ghost use Rattle.std.specs.Prelude.{◌≡◌, ◌<◌, ◌^◌, None, Some, is_some, option_map, [], ◌∷◌, IfOk, IfSome, OnOk, OnErr};
-ghost use Rattle.grasp_core.specs.Hear.{neighbour_at};
-ghost use Rattle.grasp_core.specs.Moves.{dial_with, relay, dial_record, queue_up};
-ghost use Rattle.grasp_core.specs.Node.{NodeState};
-ghost use Rattle.grasp_core.specs.Queue.{encoding, fits, dial, send, along, other_ways};
+ghost use Rattle.grasp_model_node.specs.Hear.{neighbour_at};
+ghost use Rattle.grasp_model_node.specs.Moves.{dial_with, relay, dial_record, queue_up};
+ghost use Rattle.grasp_model_node.specs.Node.{NodeState};
+ghost use Rattle.grasp_model_node.specs.Queue.{encoding, fits, dial, send, along, other_ways};
 ghost use Rattle.grasp_core.specs.Ready.{Dials, Relays, RelayReady, DialReady, PlaceReady, HasPlace};
 ghost use Rattle.grasp_core.specs.Stands.{NodeStands, StreamsStand};
-ghost use Rattle.grasp_core.specs.Streams.{StreamsState, with_dialled, next_stream};
+ghost use Rattle.grasp_model_node.specs.Streams.{StreamsState, with_dialled, next_stream};
 
 use crate::NodeCore;
 use crate::streams::{Stream, Streams};
@@ -74,11 +74,13 @@ impl NodeCore {
     }
 
     /// Sends a message on a stream of its own.
-    #[tactic(auto, unfolding(crate::specs::Moves::dial_record, crate::specs::Moves::queue_up))]
+    #[tactic(auto, unfolding(grasp_model_node::specs::Moves::dial_record, grasp_model_node::specs::Moves::queue_up))]
     fn dial_now(&mut self, to: Locator, message: &Message, bytes: Octets)
         requires ready { Dials self.old.queue self.old.streams message.now bytes }
         requires place { HasPlace self.old.streams }
-        ensures { (n : NodeState) → NodeStands self.old n → NodeStands self.new (dial_record (queue_up n (dial (next_stream n.streams) to ∷ send (next_stream n.streams) message.now ∷ [])) None) }
+        ensures { (n : NodeState) → NodeStands self.old n
+            → NodeStands self.new
+            (dial_record (queue_up n (dial (next_stream n.streams) to ∷ send (next_stream n.streams) message.now ∷ [])) None) }
     {
         let stream = self.streams.next();
         self.queue.dial(stream, to, message, bytes);
@@ -92,7 +94,8 @@ impl NodeCore {
         link: u8,
         message: &Message,
     ) -> Result<Option<Vec<Output>>, OutOfMemory>
-        ensures { IfOk result (λ outputs. RelayReady self.now.queue self.now.streams self.now.ways.items link message.now (option_map (λ o. o.items) outputs)) }
+        ensures { IfOk result (λ outputs. RelayReady self.now.queue self.now.streams self.now.ways.items link message.now
+            (option_map (λ o. o.items) outputs)) }
     {
         let ways = other_ways(self.alloc, &self.ways, link)?;
         if !self.queue.has_room(ways.len()) {
@@ -116,7 +119,7 @@ impl NodeCore {
     }
 
     /// Sends a message to every neighbour of every other link.
-    #[tactic(auto, unfolding(crate::specs::Moves::queue_up))]
+    #[tactic(auto, unfolding(grasp_model_node::specs::Moves::queue_up))]
     fn relay_now(&mut self, link: u8, message: &Message, outputs: Vec<Output>)
         requires { Relays self.old.queue self.old.streams self.old.ways.items link message.now outputs.items }
         ensures { (n : NodeState) → NodeStands self.old n → NodeStands self.new (queue_up n (along message.now (other_ways link n.plan.links))) }

@@ -2,9 +2,9 @@
 
 ghost use Rattle.std.specs.Prelude.{◌≡◌, is_some};
 ghost use Rattle.grasp_session.specs.Sessions.{expire_reply};
-ghost use Rattle.grasp_core.specs.Begin.{begin, expired, expire_next, discoveries_expired, floods_expired};
-ghost use Rattle.grasp_core.specs.Moves.{with_reading};
-ghost use Rattle.grasp_core.specs.Node.{NodeState};
+ghost use Rattle.grasp_model_node.specs.Begin.{begin, expired, expire_next, discoveries_expired, floods_expired};
+ghost use Rattle.grasp_model_node.specs.Moves.{with_reading};
+ghost use Rattle.grasp_model_node.specs.Node.{NodeState};
 ghost use Rattle.grasp_core.specs.Stands.{NodeStands};
 
 use crate::NodeCore;
@@ -14,7 +14,7 @@ const MOST_EXPIRED: u32 = 64;
 
 impl NodeCore {
     /// The step begins at this reading.
-    #[tactic(auto, unfolding(crate::specs::Begin::begin))]
+    #[tactic(auto, unfolding(grasp_model_node::specs::Begin::begin))]
     pub(crate) fn begin(&mut self, now: u64)
         ensures { (n : NodeState) → NodeStands self.old n → NodeStands self.new (begin n now) }
     {
@@ -25,7 +25,7 @@ impl NodeCore {
     }
 
     /// The reading becomes the larger one.
-    #[tactic(auto, unfolding(crate::specs::Moves::with_reading))]
+    #[tactic(auto, unfolding(grasp_model_node::specs::Moves::with_reading))]
     fn advance(&mut self, now: u64)
         ensures { (n : NodeState) → NodeStands self.old n → NodeStands self.new (with_reading n now) }
     {
@@ -45,7 +45,7 @@ impl NodeCore {
 
     /// The session of the least number whose deadline has come times out, and its stream begins closing: whether there
     /// was one.
-    #[tactic(auto, unfolding(crate::specs::Moves::with_sessions, crate::specs::Moves::begin_closing))]
+    #[tactic(auto, unfolding(grasp_model_node::specs::Moves::with_sessions, grasp_model_node::specs::Moves::begin_closing))]
     fn expire_next(&mut self) -> bool
         ensures told { (n : NodeState) → NodeStands self.old n → result ≡ is_some (expire_reply n.sessions n.reading) }
         ensures stands { (n : NodeState) → NodeStands self.old n → NodeStands self.new (expire_next n) }
@@ -60,7 +60,7 @@ impl NodeCore {
     }
 
     /// Searches whose time has come are over, and what was cached and remembered of discoveries ends with its time.
-    #[tactic(auto, unfolding(crate::specs::Moves::with_discoveries))]
+    #[tactic(auto, unfolding(grasp_model_node::specs::Moves::with_discoveries))]
     fn expire_discoveries(&mut self)
         ensures { (n : NodeState) → NodeStands self.old n → NodeStands self.new (discoveries_expired n) }
     {
@@ -68,7 +68,7 @@ impl NodeCore {
     }
 
     /// What floods told, and what is remembered of floods, ends with its time.
-    #[tactic(auto, unfolding(crate::specs::Moves::with_floods))]
+    #[tactic(auto, unfolding(grasp_model_node::specs::Moves::with_floods))]
     fn expire_floods(&mut self)
         ensures { (n : NodeState) → NodeStands self.old n → NodeStands self.new (floods_expired n) }
     {

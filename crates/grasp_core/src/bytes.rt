@@ -1,12 +1,12 @@
 //! A piece of a stream.
 
-ghost use Rattle.grasp_core.specs.Bytes.{broken, starved};
+ghost use Rattle.grasp_model_node.specs.Bytes.{broken, starved};
 ghost use Rattle.grasp_core.specs.Contract.{Meeting, MeetsBytes, GivesBytes};
 ghost use Rattle.grasp_core.specs.Feeding.{Keeping, taken};
-ghost use Rattle.grasp_core.specs.Moves.{keep_past};
-ghost use Rattle.grasp_core.specs.Node.{NodeState};
+ghost use Rattle.grasp_model_node.specs.Moves.{keep_past};
+ghost use Rattle.grasp_model_node.specs.Node.{NodeState};
 ghost use Rattle.grasp_core.specs.Stands.{CutsAs, CutsOpen, NodeStands};
-ghost use Rattle.grasp_core.specs.Streams.{past_of};
+ghost use Rattle.grasp_model_node.specs.Streams.{past_of};
 
 use crate::NodeCore;
 use crate::feeding::Left;
@@ -48,13 +48,14 @@ impl NodeCore {
 
     /// Puts the cutter of a stream back, which is open then.
     fn put_back(&mut self, stream: u64, cutter: Cutter)
-        ensures { (k : Keeping) → NodeStands self.old k.node → CutsOpen k.node.plan.limit cutter k.past → NodeStands self.new (keep_past k.node stream k.past) }
+        ensures { (k : Keeping) → NodeStands self.old k.node → CutsOpen k.node.plan.limit cutter k.past
+            → NodeStands self.new (keep_past k.node stream k.past) }
     {
         self.streams.put(stream, cutter);
     }
 
     /// There was no memory for what came on a stream: its session ends by that, and its record goes.
-    #[tactic(auto, unfolding(crate::specs::Moves::with_sessions, crate::specs::Moves::drop_record))]
+    #[tactic(auto, unfolding(grasp_model_node::specs::Moves::with_sessions, grasp_model_node::specs::Moves::drop_record))]
     fn starve_stream(&mut self, stream: u64)
         ensures { (n : NodeState) → NodeStands self.old n → NodeStands self.new (starved n stream) }
     {

@@ -1,8 +1,8 @@
 //! The calls of agents.
 
-ghost use Rattle.grasp_core.specs.Node.{NodeState};
+ghost use Rattle.grasp_model_node.specs.Node.{NodeState};
 ghost use Rattle.grasp_core.specs.Stands.{NodeStands};
-ghost use Rattle.grasp_core.specs.Step.{MayCall, after_call};
+ghost use Rattle.grasp_model_node.specs.Step.{MayCall, after_call};
 
 use crate::NodeCore;
 use grasp_types::{ApiAnswer, ApiRefused, Call};

@@ -4,8 +4,8 @@ ghost use Rattle.std.specs.Prelude.{◌≡◌, Some};
 ghost use Rattle.grasp_discovery.specs.declared.answers.Cause.{Cause};
 ghost use Rattle.grasp_types.specs.declared.links.Neighbour.{Neighbour};
 ghost use Rattle.grasp_core.specs.Carried.{after_carried};
-ghost use Rattle.grasp_core.specs.Datagrams.{datagram_of};
-ghost use Rattle.grasp_core.specs.Node.{NodeState};
+ghost use Rattle.grasp_model_node.specs.Datagrams.{datagram_of};
+ghost use Rattle.grasp_model_node.specs.Node.{NodeState};
 
 use grasp_types::{Address, FloodParts, Message, Objective};
 
@@ -31,7 +31,8 @@ pub(crate) enum Carried {
 
 /// What a message is to a node that comes by datagram.
 pub(crate) fn carried_of(message: Message) -> Carried
-    ensures { (n : NodeState) → (cause : Cause) → (neighbour : Neighbour) → datagram_of n cause neighbour (Some message) ≡ after_carried n cause neighbour result }
+    ensures { (n : NodeState) → (cause : Cause) → (neighbour : Neighbour)
+        → datagram_of n cause neighbour (Some message) ≡ after_carried n cause neighbour result }
 {
     match message {
         Message::Discovery {

@@ -3,8 +3,8 @@
 ghost use Rattle.std.specs.Prelude.{◌≡◌, Some, false, IfOk, OnOk, OnErr};
 ghost use Rattle.grasp_core.specs.Carried.{after_carried};
 ghost use Rattle.grasp_core.specs.Contract.{Meeting, MeetsDatagram, GivesDatagram};
-ghost use Rattle.grasp_core.specs.Datagrams.{after_datagram};
-ghost use Rattle.grasp_core.specs.Node.{NodeState};
+ghost use Rattle.grasp_model_node.specs.Datagrams.{after_datagram};
+ghost use Rattle.grasp_model_node.specs.Node.{NodeState};
 ghost use Rattle.grasp_core.specs.Stands.{NodeStands};
 
 use crate::NodeCore;
@@ -53,7 +53,7 @@ impl NodeCore {
     }
 
     /// A message comes by datagram. After an `Err` all is as before.
-    #[tactic(auto, unfolding(crate::specs::Datagrams::after_datagram))]
+    #[tactic(auto, unfolding(grasp_model_node::specs::Datagrams::after_datagram))]
     fn message_came(&mut self, link: u8, from: u8, message: Message) -> Result<(), OutOfMemory>
         ensures ok { OnOk result ((n : NodeState) → NodeStands self.old n → NodeStands self.new (after_datagram n link from (Some message))) }
         ensures err { OnErr result ((n : NodeState) → NodeStands self.old n → NodeStands self.new n) }

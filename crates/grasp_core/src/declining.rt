@@ -4,10 +4,10 @@ ghost use Rattle.std.specs.Prelude.{◌≡◌, ◌+◌, ◌≤◌, ◌++◌, ◌
 ghost use Rattle.grasp_asa.specs.Answers.{names_of};
 ghost use Rattle.grasp_session.specs.Sessions.{Sessions, session_at};
 ghost use Rattle.grasp_session.specs.Stands.{Stands, check_answer};
-ghost use Rattle.grasp_core.specs.Declines.{decline_at, declines_of, may_decline, declined, removed, after_decline, after_declines};
-ghost use Rattle.grasp_core.specs.Node.{NodeState};
+ghost use Rattle.grasp_model_node.specs.Declines.{decline_at, declines_of, may_decline, declined, removed, after_decline, after_declines};
+ghost use Rattle.grasp_model_node.specs.Node.{NodeState};
 ghost use Rattle.grasp_core.specs.Planned.{planned_as, IsPlanned};
-ghost use Rattle.grasp_core.specs.RegistryCalls.{declines_for};
+ghost use Rattle.grasp_model_node.specs.RegistryCalls.{declines_for};
 ghost use Rattle.grasp_core.specs.Stands.{NodeStands};
 
 use crate::NodeCore;
@@ -43,7 +43,9 @@ impl NodeCore {
 
     /// The declines of all untaken sessions of an agent's objectives, in the order in which these were registered.
     pub(crate) fn plan_for(&self, asa: u32) -> Result<Vec<Planned>, OutOfMemory>
-        ensures plan { IfOk result (λ plan. (n : NodeState) → NodeStands self.now n → map planned_as plan.items ≡ declines_for n.sessions (names_of n.registrations asa)) }
+        ensures plan { IfOk result
+            (λ plan. (n : NodeState) → NodeStands self.now n
+            → map planned_as plan.items ≡ declines_for n.sessions (names_of n.registrations asa)) }
         ensures planned { IfOk result (λ plan. All IsPlanned plan.items) }
     {
         let mut plan = Vec::new(self.alloc);
@@ -80,7 +82,9 @@ impl NodeCore {
     /// A session ends by its decline, where that can be said, or leaves without a word.
     fn end_untaken(&mut self, planned: Planned)
         requires { IsPlanned planned }
-        ensures { (n : NodeState) → NodeStands self.old n → NodeStands self.new (if may_decline n planned.handle then declined n (planned_as planned) else removed n planned.handle) }
+        ensures { (n : NodeState) → NodeStands self.old n
+            → NodeStands self.new
+            (if may_decline n planned.handle then declined n (planned_as planned) else removed n planned.handle) }
     {
         if self.may_decline(planned.handle) {
             self.say_decline(planned);
@@ -99,7 +103,7 @@ impl NodeCore {
     }
 
     /// Says a decline.
-    #[tactic(auto, unfolding(crate::specs::Moves::with_sessions, crate::specs::Moves::queue_up))]
+    #[tactic(auto, unfolding(grasp_model_node::specs::Moves::with_sessions, grasp_model_node::specs::Moves::queue_up))]
     fn say_decline(&mut self, planned: Planned)
         requires planned { IsPlanned planned }
         requires room { length self.old.queue + 1 ≤ 256 }
@@ -120,7 +124,7 @@ impl NodeCore {
     }
 
     /// A session leaves without a word.
-    #[tactic(auto, unfolding(crate::specs::Moves::with_sessions))]
+    #[tactic(auto, unfolding(grasp_model_node::specs::Moves::with_sessions))]
     pub(crate) fn remove_session(&mut self, handle: Handle)
         ensures { (n : NodeState) → NodeStands self.old n → NodeStands self.new (removed n handle) }
     {
@@ -139,7 +143,9 @@ fn add_declines(
     limit: u32,
     plan: &mut Vec<Planned>,
 ) -> Result<(), OutOfMemory>
-    ensures plan { OnOk result ((z : Sessions) → Stands table.now z → map planned_as plan.new.items ≡ map planned_as plan.old.items ++ declines_of z name.now) }
+    ensures plan { OnOk result
+        ((z : Sessions) → Stands table.now z
+        → map planned_as plan.new.items ≡ map planned_as plan.old.items ++ declines_of z name.now) }
     ensures planned { OnOk result (All IsPlanned plan.old.items → All IsPlanned plan.new.items) }
 {
     let mut above = 0;
@@ -162,7 +168,9 @@ fn plan_decline(
     handle: Handle,
     limit: u32,
 ) -> Result<Planned, OutOfMemory>
-    ensures plan { IfOk result (λ planned. (z : Sessions) → Stands table.now z → decline_at handle (session_at z handle) [] ≡ planned_as planned ∷ []) }
+    ensures plan { IfOk result
+        (λ planned. (z : Sessions) → Stands table.now z
+        → decline_at handle (session_at z handle) [] ≡ planned_as planned ∷ []) }
     ensures planned { IfOk result IsPlanned }
 {
     let Some(stream) = table.stream(handle) else {

@@ -6,10 +6,10 @@ ghost use Rattle.grasp_discovery.specs.Discoveries.{heard_reply};
 ghost use Rattle.grasp_discovery.specs.Topic.{kind_of};
 ghost use Rattle.grasp_types.specs.Origin.{origin_of};
 ghost use Rattle.grasp_core.specs.Carried.{where_new, known_at, passed_kept, relayed_kept};
-ghost use Rattle.grasp_core.specs.Datagrams.{serves, is_dropped, lowered, own_response, discovery_kept, discovery_heard, after_discovery};
-ghost use Rattle.grasp_core.specs.Moves.{relay, dial_with};
-ghost use Rattle.grasp_core.specs.Node.{NodeState};
-ghost use Rattle.grasp_core.specs.Queue.{other_ways};
+ghost use Rattle.grasp_model_node.specs.Datagrams.{serves, is_dropped, lowered, own_response, discovery_kept, discovery_heard, after_discovery};
+ghost use Rattle.grasp_model_node.specs.Moves.{relay, dial_with};
+ghost use Rattle.grasp_model_node.specs.Node.{NodeState};
+ghost use Rattle.grasp_model_node.specs.Queue.{other_ways};
 ghost use Rattle.grasp_core.specs.Stands.{NodeStands};
 
 use crate::NodeCore;
@@ -32,7 +32,9 @@ impl NodeCore {
         initiator: Address,
         objective: &Objective,
     ) -> Result<(), OutOfMemory>
-        ensures ok { OnOk result ((n : NodeState) → NodeStands self.old n → NodeStands self.new (after_discovery n cause neighbour session initiator objective.now)) }
+        ensures ok { OnOk result
+            ((n : NodeState) → NodeStands self.old n
+            → NodeStands self.new (after_discovery n cause neighbour session initiator objective.now)) }
         ensures err { OnErr result ((n : NodeState) → NodeStands self.old n → NodeStands self.new n) }
     {
         if self.drops(initiator, objective.flags) {
@@ -71,7 +73,9 @@ impl NodeCore {
         initiator: Address,
         objective: &Objective,
     ) -> Result<(), OutOfMemory>
-        ensures ok { OnOk result ((n : NodeState) → NodeStands self.old n → NodeStands self.new (discovery_heard n cause neighbour session initiator objective.now (heard_reply n.discoveries (origin_of session initiator)))) }
+        ensures ok { OnOk result ((n : NodeState) → NodeStands self.old n
+            → NodeStands self.new (discovery_heard n cause neighbour session initiator objective.now
+            (heard_reply n.discoveries (origin_of session initiator)))) }
         ensures err { OnErr result ((n : NodeState) → NodeStands self.old n → NodeStands self.new n) }
     {
         if self.discovery.remembers(session, initiator) {
@@ -92,7 +96,9 @@ impl NodeCore {
         initiator: Address,
         objective: &Objective,
     ) -> Result<(), OutOfMemory>
-        ensures ok { OnOk result ((n : NodeState) → NodeStands self.old n → NodeStands self.new (where_new n (dial_with (discovery_kept n cause session initiator objective.now) to (own_response n session initiator)) (heard_reply n.discoveries (origin_of session initiator)))) }
+        ensures ok { OnOk result ((n : NodeState) → NodeStands self.old n
+            → NodeStands self.new (where_new n (dial_with (discovery_kept n cause session initiator objective.now) to
+            (own_response n session initiator)) (heard_reply n.discoveries (origin_of session initiator)))) }
         ensures err { OnErr result ((n : NodeState) → NodeStands self.old n → NodeStands self.new n) }
     {
         let response = self.own_response(session, initiator)?;
@@ -122,7 +128,9 @@ impl NodeCore {
         initiator: Address,
         objective: &Objective,
     ) -> Result<(), OutOfMemory>
-        ensures ok { OnOk result ((n : NodeState) → NodeStands self.old n → NodeStands self.new (where_new n (passed_kept n cause to session initiator objective.now (known_at n objective.now)) (heard_reply n.discoveries (origin_of session initiator)))) }
+        ensures ok { OnOk result ((n : NodeState) → NodeStands self.old n
+            → NodeStands self.new (where_new n (passed_kept n cause to session initiator objective.now (known_at n objective.now))
+            (heard_reply n.discoveries (origin_of session initiator)))) }
         ensures err { OnErr result ((n : NodeState) → NodeStands self.old n → NodeStands self.new n) }
     {
         match self
@@ -152,7 +160,9 @@ impl NodeCore {
         initiator: Address,
         objective: &Objective,
     ) -> Result<(), OutOfMemory>
-        ensures ok { OnOk result ((n : NodeState) → NodeStands self.old n → NodeStands self.new (where_new n (relayed_kept n cause session initiator objective.now) (heard_reply n.discoveries (origin_of session initiator)))) }
+        ensures ok { OnOk result ((n : NodeState) → NodeStands self.old n
+            → NodeStands self.new (where_new n (relayed_kept n cause session initiator objective.now)
+            (heard_reply n.discoveries (origin_of session initiator)))) }
         ensures err { OnErr result ((n : NodeState) → NodeStands self.old n → NodeStands self.new n) }
     {
         if objective.loops < 2 {
@@ -173,7 +183,9 @@ impl NodeCore {
         objective: &Objective,
         message: &Message,
     ) -> Result<(), OutOfMemory>
-        ensures ok { OnOk result ((n : NodeState) → NodeStands self.old n → NodeStands self.new (where_new n (dial_with (discovery_kept n cause session initiator objective.now) to message.now) (heard_reply n.discoveries (origin_of session initiator)))) }
+        ensures ok { OnOk result ((n : NodeState) → NodeStands self.old n
+            → NodeStands self.new (where_new n (dial_with (discovery_kept n cause session initiator objective.now) to message.now)
+            (heard_reply n.discoveries (origin_of session initiator)))) }
         ensures err { OnErr result ((n : NodeState) → NodeStands self.old n → NodeStands self.new n) }
     {
         let ready = self.ready_dial(message)?;
@@ -197,7 +209,9 @@ impl NodeCore {
         objective: &Objective,
         message: &Message,
     ) -> Result<(), OutOfMemory>
-        ensures ok { OnOk result ((n : NodeState) → NodeStands self.old n → NodeStands self.new (where_new n (relay (discovery_kept n cause session initiator objective.now) message.now (other_ways cause.link n.plan.links)) (heard_reply n.discoveries (origin_of session initiator)))) }
+        ensures ok { OnOk result ((n : NodeState) → NodeStands self.old n
+            → NodeStands self.new (where_new n (relay (discovery_kept n cause session initiator objective.now) message.now
+            (other_ways cause.link n.plan.links)) (heard_reply n.discoveries (origin_of session initiator)))) }
         ensures err { OnErr result ((n : NodeState) → NodeStands self.old n → NodeStands self.new n) }
     {
         let ready = self.ready_relay(cause.link, message)?;
@@ -213,7 +227,7 @@ impl NodeCore {
     }
 
     /// A discovery comes, and is remembered where it is new. After an `Err` all is as before.
-    #[tactic(auto, unfolding(crate::specs::Moves::with_discoveries))]
+    #[tactic(auto, unfolding(grasp_model_node::specs::Moves::with_discoveries))]
     fn remember(
         &mut self,
         cause: Cause,
@@ -221,7 +235,9 @@ impl NodeCore {
         initiator: Address,
         objective: &Objective,
     ) -> Result<Heard, OutOfMemory>
-        ensures ok { IfOk result (λ heard. (n : NodeState) → NodeStands self.old n → (heard ≡ heard_reply n.discoveries (origin_of session initiator)) × NodeStands self.new (where_new n (discovery_kept n cause session initiator objective.now) heard)) }
+        ensures ok { IfOk result (λ heard. (n : NodeState) → NodeStands self.old n
+            → (heard ≡ heard_reply n.discoveries (origin_of session initiator))
+            × NodeStands self.new (where_new n (discovery_kept n cause session initiator objective.now) heard)) }
         ensures err { OnErr result ((n : NodeState) → NodeStands self.old n → NodeStands self.new n) }
         ensures queue { self.new.queue ≡ self.old.queue }
         ensures streams { self.new.streams ≡ self.old.streams }

@@ -3,8 +3,8 @@
 ghost use Rattle.std.specs.Prelude.{◌≡◌, ◌≤◌, ◌++◌, length, map, take, IfOk, OnOk, OnErr};
 ghost use Rattle.grasp_types.specs.declared.traffic.Output.TheVariants as output;
 ghost use Rattle.grasp_core.specs.Contract.{GivesDrain};
-ghost use Rattle.grasp_core.specs.Draining.{closes, drained, after_drain};
-ghost use Rattle.grasp_core.specs.Node.{NodeState};
+ghost use Rattle.grasp_model_node.specs.Draining.{closes, drained, after_drain};
+ghost use Rattle.grasp_model_node.specs.Node.{NodeState};
 ghost use Rattle.grasp_core.specs.Stands.{NodeStands};
 
 use crate::NodeCore;

@@ -1,7 +1,7 @@
 //! How a piece of a stream is fed to its cutter, and the messages that it adds are heard.
 
 ghost use Rattle.std.specs.Prelude.{◌≡◌, ◌+◌, ◌≤◌, ◌<◌, ◌↔◌, None, length, IsTrue};
-ghost use Rattle.grasp_core.specs.Bytes.{most_bytes};
+ghost use Rattle.grasp_model_node.specs.Bytes.{most_bytes};
 ghost use Rattle.grasp_core.specs.Feeding.{Feeding, Hears, Ended, HasHeard, AfterNext, Feeds, IsLeft};
 ghost use Rattle.grasp_wire.specs.Stands.{fed_count, waiting_count};
 

@@ -2,8 +2,8 @@
 
 ghost use Rattle.std.specs.Prelude.{◌≡◌, ℕ};
 ghost use Rattle.grasp_core.specs.First.{first_heard};
-ghost use Rattle.grasp_core.specs.Hear.{hear_first};
-ghost use Rattle.grasp_core.specs.Node.{NodeState};
+ghost use Rattle.grasp_model_node.specs.Hear.{hear_first};
+ghost use Rattle.grasp_model_node.specs.Node.{NodeState};
 
 use grasp_types::{Address, Answer, Message, Objective};
 

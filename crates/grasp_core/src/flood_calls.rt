@@ -1,16 +1,16 @@
 //! The calls on searches and floods (RFC 8991, sections 2.3.4 and 2.3.6).
 
 ghost use Rattle.std.specs.Prelude.{◌≡◌, ◌≤◌, ◌+◌, false, map, length, [], ◌∷◌, IfOk, OnOk, OnErr};
-ghost use Rattle.grasp_core.specs.Answered.{if_answered, Is};
-ghost use Rattle.grasp_core.specs.Draws.{next_session};
-ghost use Rattle.grasp_core.specs.FloodCalls.{MayDiscover, after_discovering, find_of, is_fresh, wanted_flags, discovery_message, begun, count_all, MayFlood, after_flooding, MayGet, MayExpire, after_expiring};
-ghost use Rattle.grasp_core.specs.Moves.{with_discoveries};
-ghost use Rattle.grasp_core.specs.Node.{NodeState};
+ghost use Rattle.grasp_model_node.specs.Answered.{if_answered, Is};
+ghost use Rattle.grasp_model_node.specs.Draws.{next_session};
+ghost use Rattle.grasp_model_node.specs.FloodCalls.{MayDiscover, after_discovering, find_of, is_fresh, wanted_flags, discovery_message, begun, count_all, MayFlood, after_flooding, MayGet, MayExpire, after_expiring};
+ghost use Rattle.grasp_model_node.specs.Moves.{with_discoveries};
+ghost use Rattle.grasp_model_node.specs.Node.{NodeState};
 ghost use Rattle.grasp_core.specs.Outgoing.{IsReady, looked_up, search_tests, searched, IsSearching, sought_name, flood_of};
-ghost use Rattle.grasp_core.specs.Queue.{fits, output_of, along, all_ways};
-ghost use Rattle.grasp_core.specs.Refusals.{MayAnswer};
+ghost use Rattle.grasp_model_node.specs.Queue.{fits, output_of, along, all_ways};
+ghost use Rattle.grasp_model_node.specs.Refusals.{MayAnswer};
 ghost use Rattle.grasp_core.specs.Stands.{NodeStands};
-ghost use Rattle.grasp_core.specs.Tests.{sending};
+ghost use Rattle.grasp_model_node.specs.Tests.{sending};
 ghost use Rattle.grasp_discovery.specs.Discoveries.{is_searching, with_search, search_from};
 ghost use Rattle.grasp_discovery.specs.Topic.{topic_of};
 ghost use Rattle.grasp_discovery.specs.declared.answers.Find.TheVariants.{Fresh};
@@ -35,7 +35,9 @@ impl NodeCore {
         loops: u8,
         timeout: u32,
     ) -> Result<ApiAnswer, ApiRefused>
-        ensures { (n : NodeState) → NodeStands self.old n → MayDiscover n asa name kind loops result × NodeStands self.new (after_discovering n asa name kind loops timeout result) }
+        ensures { (n : NodeState) → NodeStands self.old n
+            → MayDiscover n asa name kind loops result
+            × NodeStands self.new (after_discovering n asa name kind loops timeout result) }
     {
         self.known(asa)?;
         match self.look_up(asa, &name, kind) {
@@ -48,7 +50,7 @@ impl NodeCore {
     }
 
     /// What is known of an objective, or how the agent's search for it stands.
-    #[tactic(auto, unfolding(crate::specs::Moves::with_discoveries))]
+    #[tactic(auto, unfolding(grasp_model_node::specs::Moves::with_discoveries))]
     fn look_up(&mut self, asa: u32, name: &Chars, kind: Kind) -> Result<Find, OutOfMemory>
         ensures answer { IfOk result (λ answer. (n : NodeState) → NodeStands self.old n → answer ≡ find_of n asa name.now kind) }
         ensures known { OnErr result ((n : NodeState) → NodeStands self.old n → is_fresh (find_of n asa name.now kind) ≡ false) }
@@ -71,7 +73,9 @@ impl NodeCore {
         timeout: u32,
     ) -> Result<ApiAnswer, ApiRefused>
         requires { is_searching self.old.discovery asa (topic_of name kind) ≡ false }
-        ensures answer { (n : NodeState) → NodeStands self.old n → MayAnswer (search_tests n) (sending n (discovery_message n name kind loops) (count_all n)) (Unit {0}) (Is Searching) result }
+        ensures answer { (n : NodeState) → NodeStands self.old n
+            → MayAnswer (search_tests n) (sending n (discovery_message n name kind loops) (count_all n)) (Unit {0})
+            (Is Searching) result }
         ensures after { (n : NodeState) → NodeStands self.old n → NodeStands self.new (if_answered n (begun n asa name kind loops timeout) result) }
     {
         if self.discovery.full() {
@@ -113,7 +117,9 @@ impl NodeCore {
         requires new { is_searching self.old.discovery asa (topic_of (sought_name message) kind) ≡ false }
         requires room { length self.old.queue + length outputs.items ≤ 256 }
         ensures answer { IsSearching result }
-        ensures after { (n : NodeState) → NodeStands self.old n → outputs.items ≡ map output_of (along message (all_ways n.plan.links)) → NodeStands self.new (if_answered n (searched n asa kind timeout message) result) }
+        ensures after { (n : NodeState) → NodeStands self.old n
+            → outputs.items ≡ map output_of (along message (all_ways n.plan.links))
+            → NodeStands self.new (if_answered n (searched n asa kind timeout message) result) }
     {
         let Message::Discovery {
             session,
@@ -133,7 +139,7 @@ impl NodeCore {
     }
 
     /// Keeps a search that begins. After an `Err` all is as before.
-    #[tactic(auto, unfolding(crate::specs::Moves::with_discoveries))]
+    #[tactic(auto, unfolding(grasp_model_node::specs::Moves::with_discoveries))]
     fn keep_search(
         &mut self,
         asa: u32,
@@ -143,7 +149,9 @@ impl NodeCore {
         timeout: u32,
     ) -> Result<(), BeginRefused>
         requires { is_searching self.old.discovery asa (topic_of name kind) ≡ false }
-        ensures ok { OnOk result ((n : NodeState) → NodeStands self.old n → NodeStands self.new (with_discoveries n (with_search n.discoveries (search_from n.reading asa (topic_of name kind) session timeout)))) }
+        ensures ok { OnOk result ((n : NodeState) → NodeStands self.old n
+            → NodeStands self.new
+            (with_discoveries n (with_search n.discoveries (search_from n.reading asa (topic_of name kind) session timeout)))) }
         ensures err { OnErr result ((n : NodeState) → NodeStands self.old n → NodeStands self.new n) }
         ensures queue { self.new.queue ≡ self.old.queue }
     {
@@ -160,7 +168,8 @@ impl NodeCore {
         ttl: u32,
         loops: u8,
     ) -> Result<ApiAnswer, ApiRefused>
-        ensures { (n : NodeState) → NodeStands self.old n → MayFlood n asa name value ttl loops result × NodeStands self.new (after_flooding n asa name value ttl loops result) }
+        ensures { (n : NodeState) → NodeStands self.old n
+            → MayFlood n asa name value ttl loops result × NodeStands self.new (after_flooding n asa name value ttl loops result) }
     {
         let flags = match self.synchronizable(asa, &name) {
             Ok(flags) => flags,
@@ -187,7 +196,9 @@ impl NodeCore {
 
     /// The datagrams of a flood of this part, where they can be sent.
     fn ready_flood(&self, ttl: u32, part: FloodPart) -> Result<Vec<Output>, ApiRefused>
-        ensures outputs { IfOk result (λ outputs. (n : NodeState) → NodeStands self.now n → outputs.items ≡ map output_of (along (flood_of n ttl part) (all_ways n.plan.links))) }
+        ensures outputs { IfOk result
+            (λ outputs. (n : NodeState) → NodeStands self.now n
+            → outputs.items ≡ map output_of (along (flood_of n ttl part) (all_ways n.plan.links))) }
         ensures room { IfOk result (λ outputs. length self.now.queue + length outputs.items ≤ 256) }
         ensures reply { (n : NodeState) → NodeStands self.now n → IsReady (sending n (flood_of n ttl part) (count_all n)) result }
     {
@@ -214,7 +225,9 @@ impl NodeCore {
         ttl: u32,
         part: FloodPart,
     ) -> Result<Vec<Output>, OutOfMemory>
-        ensures outputs { IfOk result (λ outputs. (n : NodeState) → NodeStands self.now n → outputs.items ≡ map output_of (along (Message.Flood session n.plan.address ttl (part ∷ [])) (all_ways n.plan.links))) }
+        ensures outputs { IfOk result (λ outputs. (n : NodeState) → NodeStands self.now n
+            → outputs.items ≡ map output_of
+            (along (Message.Flood session n.plan.address ttl (part ∷ [])) (all_ways n.plan.links))) }
         ensures count { IfOk result (λ outputs. length outputs.items ≡ length self.now.ways.items) }
     {
         let parts = match FloodParts::of(self.alloc, part) {
@@ -245,14 +258,15 @@ impl NodeCore {
     }
 
     /// Forgets what a flood told. It takes no memory.
-    #[tactic(auto, unfolding(crate::specs::Moves::with_floods))]
+    #[tactic(auto, unfolding(grasp_model_node::specs::Moves::with_floods))]
     pub(crate) fn expire_flood(
         &mut self,
         asa: u32,
         name: Chars,
         initiator: Address,
     ) -> Result<ApiAnswer, ApiRefused>
-        ensures { (n : NodeState) → NodeStands self.old n → MayExpire n asa name initiator result × NodeStands self.new (after_expiring n name initiator result) }
+        ensures { (n : NodeState) → NodeStands self.old n
+            → MayExpire n asa name initiator result × NodeStands self.new (after_expiring n name initiator result) }
     {
         self.known(asa)?;
         if self.floods.drop_one(&name, initiator) {

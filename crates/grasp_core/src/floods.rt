@@ -5,8 +5,8 @@ ghost use Rattle.grasp_flood.specs.Floods.{heard_reply};
 ghost use Rattle.grasp_types.specs.Flood.{first_loops};
 ghost use Rattle.grasp_types.specs.Origin.{origin_of};
 ghost use Rattle.grasp_core.specs.Carried.{flood_sent};
-ghost use Rattle.grasp_core.specs.Datagrams.{loops_of, flood_kept, flood_heard, after_flood};
-ghost use Rattle.grasp_core.specs.Node.{NodeState};
+ghost use Rattle.grasp_model_node.specs.Datagrams.{loops_of, flood_kept, flood_heard, after_flood};
+ghost use Rattle.grasp_model_node.specs.Node.{NodeState};
 ghost use Rattle.grasp_core.specs.Stands.{NodeStands};
 
 use crate::NodeCore;
@@ -24,7 +24,8 @@ impl NodeCore {
         ttl: u32,
         parts: &FloodParts,
     ) -> Result<(), OutOfMemory>
-        ensures ok { OnOk result ((n : NodeState) → NodeStands self.old n → NodeStands self.new (after_flood n link session initiator ttl parts.now)) }
+        ensures ok { OnOk result
+            ((n : NodeState) → NodeStands self.old n → NodeStands self.new (after_flood n link session initiator ttl parts.now)) }
         ensures err { OnErr result ((n : NodeState) → NodeStands self.old n → NodeStands self.new n) }
     {
         if self.plan.address == initiator {
@@ -42,7 +43,9 @@ impl NodeCore {
         ttl: u32,
         parts: &FloodParts,
     ) -> Result<(), OutOfMemory>
-        ensures ok { OnOk result ((n : NodeState) → NodeStands self.old n → NodeStands self.new (flood_heard n link session initiator ttl parts.now (heard_reply n.floods (origin_of session initiator)))) }
+        ensures ok { OnOk result ((n : NodeState) → NodeStands self.old n
+            → NodeStands self.new
+            (flood_heard n link session initiator ttl parts.now (heard_reply n.floods (origin_of session initiator)))) }
         ensures err { OnErr result ((n : NodeState) → NodeStands self.old n → NodeStands self.new n) }
     {
         let loops = loops_of(parts);
@@ -63,7 +66,9 @@ impl NodeCore {
         ttl: u32,
         parts: &FloodParts,
     ) -> Result<(), OutOfMemory>
-        ensures ok { OnOk result ((n : NodeState) → NodeStands self.old n → NodeStands self.new (flood_kept n session initiator ttl parts.now (heard_reply n.floods (origin_of session initiator)))) }
+        ensures ok { OnOk result ((n : NodeState) → NodeStands self.old n
+            → NodeStands self.new
+            (flood_kept n session initiator ttl parts.now (heard_reply n.floods (origin_of session initiator)))) }
         ensures err { OnErr result ((n : NodeState) → NodeStands self.old n → NodeStands self.new n) }
     {
         match self.keep_flood(session, initiator, ttl, parts) {
@@ -82,7 +87,9 @@ impl NodeCore {
         parts: &FloodParts,
     ) -> Result<(), OutOfMemory>
         requires { 2 ≤ loops_of parts.now }
-        ensures ok { OnOk result ((n : NodeState) → NodeStands self.old n → NodeStands self.new (flood_heard n link session initiator ttl parts.now (heard_reply n.floods (origin_of session initiator)))) }
+        ensures ok { OnOk result ((n : NodeState) → NodeStands self.old n
+            → NodeStands self.new
+            (flood_heard n link session initiator ttl parts.now (heard_reply n.floods (origin_of session initiator)))) }
         ensures err { OnErr result ((n : NodeState) → NodeStands self.old n → NodeStands self.new n) }
     {
         let flood = lowered_flood(session, initiator, ttl, parts)?;
@@ -99,7 +106,9 @@ impl NodeCore {
         parts: &FloodParts,
         flood: &Message,
     ) -> Result<(), OutOfMemory>
-        ensures ok { OnOk result ((n : NodeState) → NodeStands self.old n → NodeStands self.new (flood_sent n link session initiator ttl parts.now flood.now (heard_reply n.floods (origin_of session initiator)))) }
+        ensures ok { OnOk result ((n : NodeState) → NodeStands self.old n
+            → NodeStands self.new
+            (flood_sent n link session initiator ttl parts.now flood.now (heard_reply n.floods (origin_of session initiator)))) }
         ensures err { OnErr result ((n : NodeState) → NodeStands self.old n → NodeStands self.new n) }
     {
         let ready = self.ready_relay(link, flood)?;
@@ -115,7 +124,7 @@ impl NodeCore {
     }
 
     /// A flood comes, and is kept, or renews what it told. After an `Err` all is as before.
-    #[tactic(auto, unfolding(crate::specs::Moves::with_floods))]
+    #[tactic(auto, unfolding(grasp_model_node::specs::Moves::with_floods))]
     fn keep_flood(
         &mut self,
         session: u32,
@@ -123,7 +132,9 @@ impl NodeCore {
         ttl: u32,
         parts: &FloodParts,
     ) -> Result<Heard, OutOfMemory>
-        ensures ok { IfOk result (λ heard. (n : NodeState) → NodeStands self.old n → (heard ≡ heard_reply n.floods (origin_of session initiator)) × NodeStands self.new (flood_kept n session initiator ttl parts.now heard)) }
+        ensures ok { IfOk result (λ heard. (n : NodeState) → NodeStands self.old n
+            → (heard ≡ heard_reply n.floods (origin_of session initiator))
+            × NodeStands self.new (flood_kept n session initiator ttl parts.now heard)) }
         ensures err { OnErr result ((n : NodeState) → NodeStands self.old n → NodeStands self.new n) }
         ensures queue { self.new.queue ≡ self.old.queue }
         ensures streams { self.new.streams ≡ self.old.streams }

@@ -2,13 +2,13 @@
 
 ghost use Rattle.std.specs.Prelude.{◌≡◌, ◌≤◌, ◌<◌, ◌+◌, Ok, Some, not, length, IfOk, OnOk};
 ghost use Rattle.grasp_session.specs.Stands.{check_answer};
-ghost use Rattle.grasp_core.specs.Draws.{is_used, first_unused, next_session};
-ghost use Rattle.grasp_core.specs.Moves.{with_draw};
-ghost use Rattle.grasp_core.specs.Node.{NodeState};
-ghost use Rattle.grasp_core.specs.Queue.{has_room};
-ghost use Rattle.grasp_core.specs.Refusals.{early, late, as_unit};
+ghost use Rattle.grasp_model_node.specs.Draws.{is_used, first_unused, next_session};
+ghost use Rattle.grasp_model_node.specs.Moves.{with_draw};
+ghost use Rattle.grasp_model_node.specs.Node.{NodeState};
+ghost use Rattle.grasp_model_node.specs.Queue.{has_room};
+ghost use Rattle.grasp_model_node.specs.Refusals.{early, late, as_unit};
 ghost use Rattle.grasp_core.specs.Stands.{NodeStands};
-ghost use Rattle.grasp_core.specs.Tests.{agent_tests, act_tests, negotiation_tests, synchronization_tests, owned_flags};
+ghost use Rattle.grasp_model_node.specs.Tests.{agent_tests, act_tests, negotiation_tests, synchronization_tests, owned_flags};
 
 use crate::NodeCore;
 use grasp_cbor::Chars;
@@ -86,7 +86,8 @@ impl NodeCore {
 
     /// Whether what fits, or doesn't, can be sent with so many outputs in all, or the first refusal that holds.
     pub(crate) fn may_send(&self, fits: bool, count: usize) -> Result<(), ApiRefused>
-        ensures reply { (n : NodeState) → NodeStands self.now n → result ≡ late (record { too_long = not fits; outbox_full = not (has_room n.queue count) }) }
+        ensures reply { (n : NodeState) → NodeStands self.now n
+            → result ≡ late (record { too_long = not fits; outbox_full = not (has_room n.queue count) }) }
         ensures room { OnOk result (length self.now.queue + count ≤ 256) }
     {
         if !fits {

@@ -4,11 +4,11 @@ ghost use Rattle.std.specs.Prelude.{◌≡◌, Some, None, IfOk, OnOk, OnErr};
 ghost use Rattle.grasp_session.specs.Sessions.{state_reply, start_reply, after_mark};
 ghost use Rattle.grasp_session.specs.Stands.{state_answer};
 ghost use Rattle.grasp_session.specs.Transcript.{Faulty};
-ghost use Rattle.grasp_core.specs.Declines.{declined_for};
+ghost use Rattle.grasp_model_node.specs.Declines.{declined_for};
 ghost use Rattle.grasp_core.specs.First.{first_heard};
-ghost use Rattle.grasp_core.specs.Hear.{hear, hear_first, hear_later, hear_request, hear_synchronization, listened, goes_on, is_listened, after_refusal};
-ghost use Rattle.grasp_core.specs.Moves.{answer, with_sessions};
-ghost use Rattle.grasp_core.specs.Node.{NodeState};
+ghost use Rattle.grasp_model_node.specs.Hear.{hear, hear_first, hear_later, hear_request, hear_synchronization, listened, goes_on, is_listened, after_refusal};
+ghost use Rattle.grasp_model_node.specs.Moves.{answer, with_sessions};
+ghost use Rattle.grasp_model_node.specs.Node.{NodeState};
 ghost use Rattle.grasp_core.specs.Stands.{NodeStands};
 
 use crate::NodeCore;
@@ -23,9 +23,10 @@ const TIMEOUT: u32 = 60000;
 
 impl NodeCore {
     /// A message comes on an open stream: whether the stream stays open. After an `Err` all is as before.
-    #[tactic(auto, unfolding(crate::specs::Hear::hear))]
+    #[tactic(auto, unfolding(grasp_model_node::specs::Hear::hear))]
     pub(crate) fn hear(&mut self, stream: u64, message: Message) -> Result<bool, OutOfMemory>
-        ensures ok { IfOk result (λ stays. (n : NodeState) → NodeStands self.old n → (stays ≡ (hear n stream message).is_open) × NodeStands self.new (hear n stream message).node) }
+        ensures ok { IfOk result (λ stays. (n : NodeState) → NodeStands self.old n
+            → (stays ≡ (hear n stream message).is_open) × NodeStands self.new (hear n stream message).node) }
         ensures err { OnErr result ((n : NodeState) → NodeStands self.old n → NodeStands self.new n) }
     {
         if self.table.state(stream).is_some() {
@@ -53,7 +54,7 @@ impl NodeCore {
     }
 
     /// The session of a stream ends by what is bad.
-    #[tactic(auto, unfolding(crate::specs::Moves::with_sessions))]
+    #[tactic(auto, unfolding(grasp_model_node::specs::Moves::with_sessions))]
     fn mark_bad(&mut self, stream: u64)
         ensures { (n : NodeState) → NodeStands self.old n → NodeStands self.new (with_sessions n (after_mark n.sessions stream Faulty)) }
     {
@@ -71,9 +72,10 @@ impl NodeCore {
     }
 
     /// A message comes for a session.
-    #[tactic(auto, unfolding(crate::specs::Moves::with_sessions))]
+    #[tactic(auto, unfolding(grasp_model_node::specs::Moves::with_sessions))]
     fn later(&mut self, stream: u64, message: Message) -> Result<bool, OutOfMemory>
-        ensures ok { IfOk result (λ stays. (n : NodeState) → NodeStands self.old n → (stays ≡ (hear_later n stream message).is_open) × NodeStands self.new (hear_later n stream message).node) }
+        ensures ok { IfOk result (λ stays. (n : NodeState) → NodeStands self.old n
+            → (stays ≡ (hear_later n stream message).is_open) × NodeStands self.new (hear_later n stream message).node) }
         ensures err { OnErr result ((n : NodeState) → NodeStands self.old n → NodeStands self.new n) }
     {
         match self.table.receive(self.reading, stream, message) {
@@ -89,7 +91,8 @@ impl NodeCore {
     /// The first message comes.
     fn first(&mut self, stream: u64, message: Message) -> Result<bool, OutOfMemory>
         requires { state_answer self.old.table stream ≡ None }
-        ensures ok { IfOk result (λ stays. (n : NodeState) → NodeStands self.old n → (stays ≡ (hear_first n stream message).is_open) × NodeStands self.new (hear_first n stream message).node) }
+        ensures ok { IfOk result (λ stays. (n : NodeState) → NodeStands self.old n
+            → (stays ≡ (hear_first n stream message).is_open) × NodeStands self.new (hear_first n stream message).node) }
         ensures err { OnErr result ((n : NodeState) → NodeStands self.old n → NodeStands self.new n) }
     {
         self.asked(stream, first_of(message))
@@ -98,7 +101,8 @@ impl NodeCore {
     /// The first message asks for this.
     fn asked(&mut self, stream: u64, first: First) -> Result<bool, OutOfMemory>
         requires { state_answer self.old.table stream ≡ None }
-        ensures ok { IfOk result (λ stays. (n : NodeState) → NodeStands self.old n → (stays ≡ (first_heard n stream first).is_open) × NodeStands self.new (first_heard n stream first).node) }
+        ensures ok { IfOk result (λ stays. (n : NodeState) → NodeStands self.old n
+            → (stays ≡ (first_heard n stream first).is_open) × NodeStands self.new (first_heard n stream first).node) }
         ensures err { OnErr result ((n : NodeState) → NodeStands self.old n → NodeStands self.new n) }
     {
         match first {
@@ -150,7 +154,9 @@ impl NodeCore {
         objective: Objective,
     ) -> Result<bool, OutOfMemory>
         requires { state_answer self.old.table stream ≡ None }
-        ensures ok { IfOk result (λ stays. (n : NodeState) → NodeStands self.old n → (stays ≡ (hear_request n stream session objective).is_open) × NodeStands self.new (hear_request n stream session objective).node) }
+        ensures ok { IfOk result (λ stays. (n : NodeState) → NodeStands self.old n
+            → (stays ≡ (hear_request n stream session objective).is_open)
+            × NodeStands self.new (hear_request n stream session objective).node) }
         ensures err { OnErr result ((n : NodeState) → NodeStands self.old n → NodeStands self.new n) }
     {
         if !is_listened_for(&self.registry, &objective) {
@@ -161,7 +167,7 @@ impl NodeCore {
     }
 
     /// A request comes that is listened for.
-    #[tactic(auto, unfolding(crate::specs::Moves::with_sessions))]
+    #[tactic(auto, unfolding(grasp_model_node::specs::Moves::with_sessions))]
     fn listened(
         &mut self,
         stream: u64,
@@ -169,7 +175,9 @@ impl NodeCore {
         objective: Objective,
     ) -> Result<bool, OutOfMemory>
         requires { state_answer self.old.table stream ≡ None }
-        ensures ok { IfOk result (λ stays. (n : NodeState) → NodeStands self.old n → (stays ≡ (listened n stream session objective (start_reply n.sessions)).is_open) × NodeStands self.new (listened n stream session objective (start_reply n.sessions)).node) }
+        ensures ok { IfOk result (λ stays. (n : NodeState) → NodeStands self.old n
+            → (stays ≡ (listened n stream session objective (start_reply n.sessions)).is_open)
+            × NodeStands self.new (listened n stream session objective (start_reply n.sessions)).node) }
         ensures err { OnErr result ((n : NodeState) → NodeStands self.old n → NodeStands self.new n) }
     {
         let begin = Begin {
@@ -198,7 +206,9 @@ impl NodeCore {
         session: u32,
         objective: Objective,
     ) -> Result<bool, OutOfMemory>
-        ensures ok { IfOk result (λ stays. (n : NodeState) → NodeStands self.old n → (stays ≡ (hear_synchronization n stream session objective).is_open) × NodeStands self.new (hear_synchronization n stream session objective).node) }
+        ensures ok { IfOk result (λ stays. (n : NodeState) → NodeStands self.old n
+            → (stays ≡ (hear_synchronization n stream session objective).is_open)
+            × NodeStands self.new (hear_synchronization n stream session objective).node) }
         ensures err { OnErr result ((n : NodeState) → NodeStands self.old n → NodeStands self.new n) }
     {
         if !objective.flags.has_synch() {
@@ -226,7 +236,8 @@ impl NodeCore {
         objective: Objective,
         value: Value,
     ) -> Result<(), OutOfMemory>
-        ensures ok { OnOk result ((n : NodeState) → NodeStands self.old n → NodeStands self.new (answer n stream (Message.Synch session (record objective { value = Some value })))) }
+        ensures ok { OnOk result ((n : NodeState) → NodeStands self.old n
+            → NodeStands self.new (answer n stream (Message.Synch session (record objective { value = Some value })))) }
         ensures err { OnErr result ((n : NodeState) → NodeStands self.old n → NodeStands self.new n) }
     {
         let objective = Objective {
@@ -240,7 +251,9 @@ impl NodeCore {
 
     /// Declines a request, for this reason.
     fn decline(&mut self, stream: u64, session: u32, reason: &str) -> Result<(), OutOfMemory>
-        ensures ok { OnOk result ((n : NodeState) → NodeStands self.old n → NodeStands self.new (answer n stream (Message.End session (declined_for reason.now)))) }
+        ensures ok { OnOk result
+            ((n : NodeState) → NodeStands self.old n
+            → NodeStands self.new (answer n stream (Message.End session (declined_for reason.now)))) }
         ensures err { OnErr result ((n : NodeState) → NodeStands self.old n → NodeStands self.new n) }
     {
         let reason = Chars::of(self.alloc, reason)?;

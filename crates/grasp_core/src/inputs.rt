@@ -1,10 +1,10 @@
 //! Openings and closings of streams.
 
 ghost use Rattle.std.specs.Prelude.{◌≡◌, OnOk, OnErr};
-ghost use Rattle.grasp_core.specs.Bytes.{after_closed, broken};
-ghost use Rattle.grasp_core.specs.Moves.{open_record};
-ghost use Rattle.grasp_core.specs.Node.{NodeState};
-ghost use Rattle.grasp_core.specs.Opening.{MayOpen, after_opened, is_ignored};
+ghost use Rattle.grasp_model_node.specs.Bytes.{after_closed, broken};
+ghost use Rattle.grasp_model_node.specs.Moves.{open_record};
+ghost use Rattle.grasp_model_node.specs.Node.{NodeState};
+ghost use Rattle.grasp_model_node.specs.Opening.{MayOpen, after_opened, is_ignored};
 ghost use Rattle.grasp_core.specs.Stands.{NodeStands};
 
 use crate::NodeCore;
@@ -37,7 +37,7 @@ impl NodeCore {
     }
 
     /// The stream has a record. After an `Err` all is as before.
-    #[tactic(auto, unfolding(crate::specs::Moves::open_record))]
+    #[tactic(auto, unfolding(grasp_model_node::specs::Moves::open_record))]
     fn open_record(&mut self, stream: u64, from: Address) -> Result<(), OutOfMemory>
         ensures ok { OnOk result ((n : NodeState) → NodeStands self.old n → NodeStands self.new (open_record n stream from)) }
         ensures err { OnErr result ((n : NodeState) → NodeStands self.old n → NodeStands self.new n) }
@@ -46,7 +46,7 @@ impl NodeCore {
     }
 
     /// A stream ended. It takes no memory.
-    #[tactic(auto, unfolding(crate::specs::Bytes::after_closed))]
+    #[tactic(auto, unfolding(grasp_model_node::specs::Bytes::after_closed))]
     pub(crate) fn closed(&mut self, stream: u64) -> Reply
         ensures reply { result ≡ Reply.Taken }
         ensures then { (n : NodeState) → NodeStands self.old n → NodeStands self.new (after_closed n stream) }
@@ -58,7 +58,7 @@ impl NodeCore {
     }
 
     /// The session of a stream is broken, and the stream has no record any more.
-    #[tactic(auto, unfolding(crate::specs::Moves::with_sessions, crate::specs::Moves::drop_record))]
+    #[tactic(auto, unfolding(grasp_model_node::specs::Moves::with_sessions, grasp_model_node::specs::Moves::drop_record))]
     pub(crate) fn break_off(&mut self, stream: u64)
         ensures { (n : NodeState) → NodeStands self.old n → NodeStands self.new (broken n stream) }
     {

@@ -1,13 +1,12 @@
 //! The core of a node.
 
 use crate::draws::Draws;
-use crate::plan::NodePlan;
 use crate::queue::Queue;
 use crate::streams::Streams;
-use crate::ways::Way;
 use grasp_asa::Registry;
 use grasp_discovery::Discovery;
 use grasp_flood::FloodCache;
+use grasp_model_node::{NodePlan, Way};
 use grasp_session::Table;
 use std::alloc::Global;
 

@@ -1,13 +1,13 @@
 //! What a call of an agent is to send, made ready before anything changes.
 
 ghost use Rattle.std.specs.Prelude.{◌≡◌, ◌≤◌, ◌+◌, length, map, List, IfOk};
-ghost use Rattle.grasp_core.specs.FloodCalls.{count_all};
-ghost use Rattle.grasp_core.specs.Moves.{with_draw, queue_up};
-ghost use Rattle.grasp_core.specs.Node.{NodeState};
+ghost use Rattle.grasp_model_node.specs.FloodCalls.{count_all};
+ghost use Rattle.grasp_model_node.specs.Moves.{with_draw, queue_up};
+ghost use Rattle.grasp_model_node.specs.Node.{NodeState};
 ghost use Rattle.grasp_core.specs.Outgoing.{IsReady};
-ghost use Rattle.grasp_core.specs.Queue.{Queued, fits, output_of, along, all_ways};
+ghost use Rattle.grasp_model_node.specs.Queue.{Queued, fits, output_of, along, all_ways};
 ghost use Rattle.grasp_core.specs.Stands.{NodeStands};
-ghost use Rattle.grasp_core.specs.Tests.{sending};
+ghost use Rattle.grasp_model_node.specs.Tests.{sending};
 
 use crate::NodeCore;
 use crate::ways::datagrams;
@@ -26,7 +26,9 @@ impl NodeCore {
     /// A datagram with this message to every neighbour of every link.
     #[tactic(auto, using(crate::proofs::Spreading::along_outputs))]
     pub(crate) fn datagrams_for(&self, message: &Message) -> Result<Vec<Output>, OutOfMemory>
-        ensures outputs { IfOk result (λ outputs. (n : NodeState) → NodeStands self.now n → outputs.items ≡ map output_of (along message.now (all_ways n.plan.links))) }
+        ensures outputs { IfOk result
+            (λ outputs. (n : NodeState) → NodeStands self.now n
+            → outputs.items ≡ map output_of (along message.now (all_ways n.plan.links))) }
         ensures count { IfOk result (λ outputs. length outputs.items ≡ length self.now.ways.items) }
     {
         let Ok(bytes) = encoded(self.alloc, message, self.streams.limit()) else {
@@ -40,7 +42,9 @@ impl NodeCore {
 
     /// The same, where the message and its datagrams can be sent.
     pub(crate) fn ready_datagrams(&self, message: &Message) -> Result<Vec<Output>, ApiRefused>
-        ensures outputs { IfOk result (λ outputs. (n : NodeState) → NodeStands self.now n → outputs.items ≡ map output_of (along message.now (all_ways n.plan.links))) }
+        ensures outputs { IfOk result
+            (λ outputs. (n : NodeState) → NodeStands self.now n
+            → outputs.items ≡ map output_of (along message.now (all_ways n.plan.links))) }
         ensures room { IfOk result (λ outputs. length self.now.queue + length outputs.items ≤ 256) }
         ensures reply { (n : NodeState) → NodeStands self.now n → IsReady (sending n message.now (count_all n)) result }
     {
@@ -54,7 +58,8 @@ impl NodeCore {
     /// One word is drawn, and these outputs are queued.
     pub(crate) fn send_datagrams(&mut self, outputs: Vec<Output>)
         requires { length self.old.queue + length outputs.items ≤ 256 }
-        ensures { (queue : List Queued) → outputs.items ≡ map output_of queue → (n : NodeState) → NodeStands self.old n → NodeStands self.new (queue_up (with_draw n) queue) }
+        ensures { (queue : List Queued) → outputs.items ≡ map output_of queue → (n : NodeState) → NodeStands self.old n
+            → NodeStands self.new (queue_up (with_draw n) queue) }
     {
         self.draws.draw();
         self.queue.append(outputs);

@@ -1,7 +1,7 @@
 //! What a node has queued to go out.
 
 ghost use Rattle.std.specs.Prelude.{◌≡◌, ◌+◌, ◌≤◌, true, [], ◌∷◌, ◌++◌, List, length, take, drop, IfOk, OnErr};
-ghost use Rattle.grasp_core.specs.Queue.{Queued, send, dial, encoding, has_room};
+ghost use Rattle.grasp_model_node.specs.Queue.{Queued, send, dial, encoding, has_room};
 ghost use Rattle.grasp_core.specs.Stands.{QueueStands};
 
 use grasp_cbor::{Octets, OutOfMemory};

@@ -4,15 +4,15 @@ ghost use Rattle.std.specs.Prelude.{◌≡◌, Ok, IfOk};
 ghost use Rattle.grasp_session.specs.Stands.{check_answer};
 ghost use Rattle.grasp_session.specs.Transcript.{SayStep, SayWait, SayEnd, SayInvalid};
 ghost use Rattle.grasp_session.specs.declared.answer.Act.TheVariants as act;
-ghost use Rattle.grasp_core.specs.Node.{NodeState};
-ghost use Rattle.grasp_core.specs.Queue.{fits, encoding};
+ghost use Rattle.grasp_model_node.specs.Node.{NodeState};
+ghost use Rattle.grasp_model_node.specs.Queue.{fits, encoding};
 ghost use Rattle.grasp_core.specs.Sayings.{IsReady};
-ghost use Rattle.grasp_core.specs.SessionCalls.{act_message, stream_at};
+ghost use Rattle.grasp_model_node.specs.SessionCalls.{act_message, stream_at};
 ghost use Rattle.grasp_core.specs.Stands.{NodeStands};
 
 use crate::NodeCore;
 use grasp_cbor::{Octets, OutOfMemory};
-use grasp_session::laws::{messages_are_made, tables_answer_so};
+use grasp_session::{messages_are_made, tables_answer_so};
 use grasp_types::{Handle, Message, Plain, Value, Verdict};
 use grasp_wire::encoded;
 

@@ -2,11 +2,11 @@
 
 ghost use Rattle.std.specs.Prelude.{◌≡◌, Some, None, false};
 ghost use Rattle.grasp_session.specs.Sessions.{owner_reply};
-ghost use Rattle.grasp_core.specs.Node.{NodeState};
-ghost use Rattle.grasp_core.specs.Refusals.{early};
-ghost use Rattle.grasp_core.specs.RegistryCalls.{MayRegisterAsa, after_registering_asa, MayDeregisterAsa, after_deregistering_asa, without_agent, without_searches, without_session, without_sessions, MayRegisterObjective, after_registering_objective, MayDeregisterObjective, after_deregistering_objective, without_objective, MayStopListening, after_stopping, with_mark, MayOffer, after_offering};
+ghost use Rattle.grasp_model_node.specs.Node.{NodeState};
+ghost use Rattle.grasp_model_node.specs.Refusals.{early};
+ghost use Rattle.grasp_model_node.specs.RegistryCalls.{MayRegisterAsa, after_registering_asa, MayDeregisterAsa, after_deregistering_asa, without_agent, without_searches, without_session, without_sessions, MayRegisterObjective, after_registering_objective, MayDeregisterObjective, after_deregistering_objective, without_objective, MayStopListening, after_stopping, with_mark, MayOffer, after_offering};
 ghost use Rattle.grasp_core.specs.Stands.{NodeStands};
-ghost use Rattle.grasp_core.specs.Tests.{objective_tests};
+ghost use Rattle.grasp_model_node.specs.Tests.{objective_tests};
 
 use crate::NodeCore;
 use crate::declining::MOST_SESSIONS;
@@ -15,7 +15,7 @@ use grasp_types::{ApiAnswer, ApiRefused, Flags, Value};
 
 impl NodeCore {
     /// Registers an agent under this name.
-    #[tactic(auto, unfolding(crate::specs::Moves::with_registrations))]
+    #[tactic(auto, unfolding(grasp_model_node::specs::Moves::with_registrations))]
     pub(crate) fn register_asa(&mut self, name: Chars) -> Result<ApiAnswer, ApiRefused>
         ensures { (n : NodeState) → NodeStands self.old n → MayRegisterAsa n name result × NodeStands self.new (after_registering_asa n name result) }
     {
@@ -27,7 +27,8 @@ impl NodeCore {
 
     /// Takes an agent out, with its objectives, searches and sessions.
     pub(crate) fn deregister_asa(&mut self, asa: u32) -> Result<ApiAnswer, ApiRefused>
-        ensures { (n : NodeState) → NodeStands self.old n → MayDeregisterAsa n asa result × NodeStands self.new (after_deregistering_asa n asa result) }
+        ensures { (n : NodeState) → NodeStands self.old n
+            → MayDeregisterAsa n asa result × NodeStands self.new (after_deregistering_asa n asa result) }
     {
         self.known(asa)?;
         let Ok(plan) = self.plan_for(asa) else {
@@ -41,14 +42,16 @@ impl NodeCore {
     }
 
     /// Registers an objective for this agent.
-    #[tactic(auto, unfolding(crate::specs::Moves::with_registrations))]
+    #[tactic(auto, unfolding(grasp_model_node::specs::Moves::with_registrations))]
     pub(crate) fn register_objective(
         &mut self,
         asa: u32,
         name: Chars,
         flags: Flags,
     ) -> Result<ApiAnswer, ApiRefused>
-        ensures { (n : NodeState) → NodeStands self.old n → MayRegisterObjective n asa name flags result × NodeStands self.new (after_registering_objective n asa name flags result) }
+        ensures { (n : NodeState) → NodeStands self.old n
+            → MayRegisterObjective n asa name flags result
+            × NodeStands self.new (after_registering_objective n asa name flags result) }
     {
         match self.registry.register_objective(asa, name, flags) {
             Ok(()) => Ok(ApiAnswer::Done),
@@ -62,7 +65,8 @@ impl NodeCore {
         asa: u32,
         name: Chars,
     ) -> Result<ApiAnswer, ApiRefused>
-        ensures { (n : NodeState) → NodeStands self.old n → MayDeregisterObjective n asa name result × NodeStands self.new (after_deregistering_objective n asa name result) }
+        ensures { (n : NodeState) → NodeStands self.old n
+            → MayDeregisterObjective n asa name result × NodeStands self.new (after_deregistering_objective n asa name result) }
     {
         self.owned(asa, &name)?;
         let Ok(plan) = self.plan_of(&name) else {
@@ -79,7 +83,8 @@ impl NodeCore {
         asa: u32,
         name: Chars,
     ) -> Result<ApiAnswer, ApiRefused>
-        ensures { (n : NodeState) → NodeStands self.old n → MayStopListening n asa name result × NodeStands self.new (after_stopping n asa name result) }
+        ensures { (n : NodeState) → NodeStands self.old n
+            → MayStopListening n asa name result × NodeStands self.new (after_stopping n asa name result) }
     {
         let _flags = match self.negotiable(asa, &name) {
             Ok(flags) => flags,
@@ -100,7 +105,8 @@ impl NodeCore {
         name: Chars,
         value: Value,
     ) -> Result<ApiAnswer, ApiRefused>
-        ensures { (n : NodeState) → NodeStands self.old n → MayOffer n asa name result × NodeStands self.new (after_offering n asa name (Some value) result) }
+        ensures { (n : NodeState) → NodeStands self.old n
+            → MayOffer n asa name result × NodeStands self.new (after_offering n asa name (Some value) result) }
     {
         self.offer(asa, &name, Some(value))
     }
@@ -117,14 +123,15 @@ impl NodeCore {
     }
 
     /// Offers this value for synchronization in place of the last one, or none.
-    #[tactic(auto, unfolding(crate::specs::Moves::with_registrations))]
+    #[tactic(auto, unfolding(grasp_model_node::specs::Moves::with_registrations))]
     fn offer(
         &mut self,
         asa: u32,
         name: &Chars,
         value: Option<Value>,
     ) -> Result<ApiAnswer, ApiRefused>
-        ensures { (n : NodeState) → NodeStands self.old n → MayOffer n asa name.now result × NodeStands self.new (after_offering n asa name.now value result) }
+        ensures { (n : NodeState) → NodeStands self.old n
+            → MayOffer n asa name.now result × NodeStands self.new (after_offering n asa name.now value result) }
     {
         match self.registry.offer(asa, name, value) {
             Ok(()) => Ok(ApiAnswer::Done),
@@ -143,7 +150,7 @@ impl NodeCore {
     }
 
     /// An agent leaves, and its objectives with it.
-    #[tactic(auto, unfolding(crate::specs::Moves::with_registrations))]
+    #[tactic(auto, unfolding(grasp_model_node::specs::Moves::with_registrations))]
     fn drop_agent(&mut self, asa: u32)
         ensures { (n : NodeState) → NodeStands self.old n → NodeStands self.new (without_agent n asa) }
     {
@@ -151,7 +158,7 @@ impl NodeCore {
     }
 
     /// An objective leaves.
-    #[tactic(auto, unfolding(crate::specs::Moves::with_registrations))]
+    #[tactic(auto, unfolding(grasp_model_node::specs::Moves::with_registrations))]
     fn drop_objective(&mut self, asa: u32, name: &Chars)
         ensures { (n : NodeState) → NodeStands self.old n → NodeStands self.new (without_objective n asa name.now) }
     {
@@ -159,7 +166,7 @@ impl NodeCore {
     }
 
     /// An objective isn't listened for any more.
-    #[tactic(auto, unfolding(crate::specs::Moves::with_registrations))]
+    #[tactic(auto, unfolding(grasp_model_node::specs::Moves::with_registrations))]
     fn end_listening(&mut self, asa: u32, name: &Chars)
         ensures { (n : NodeState) → NodeStands self.old n → NodeStands self.new (with_mark n asa name.now false) }
     {
@@ -167,7 +174,7 @@ impl NodeCore {
     }
 
     /// The searches of an agent are dropped.
-    #[tactic(auto, unfolding(crate::specs::Moves::with_discoveries))]
+    #[tactic(auto, unfolding(grasp_model_node::specs::Moves::with_discoveries))]
     fn drop_searches(&mut self, asa: u32)
         ensures { (n : NodeState) → NodeStands self.old n → NodeStands self.new (without_searches n asa) }
     {

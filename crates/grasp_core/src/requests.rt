@@ -1,15 +1,15 @@
 //! The requests of agents (RFC 8991, sections 2.3.5 and 2.3.6).
 
 ghost use Rattle.std.specs.Prelude.{◌≡◌, ◌≤◌, ◌<◌, ◌^◌, ◌+◌, Some, length, IfOk, OnOk};
-ghost use Rattle.grasp_core.specs.Answered.{if_answered, Is};
-ghost use Rattle.grasp_core.specs.Node.{NodeState};
+ghost use Rattle.grasp_model_node.specs.Answered.{if_answered, Is};
+ghost use Rattle.grasp_model_node.specs.Node.{NodeState};
 ghost use Rattle.grasp_core.specs.Outgoing.{IsReady, MaySend, dial_tests, IsRequest, asked, dialled, IsBegun};
-ghost use Rattle.grasp_core.specs.Queue.{encoding};
-ghost use Rattle.grasp_core.specs.Refusals.{early, as_unit};
-ghost use Rattle.grasp_core.specs.SessionCalls.{MayRequest, after_request, MaySynchronize, after_synchronizing, request_of, requested, started};
+ghost use Rattle.grasp_model_node.specs.Queue.{encoding};
+ghost use Rattle.grasp_model_node.specs.Refusals.{early, as_unit};
+ghost use Rattle.grasp_model_node.specs.SessionCalls.{MayRequest, after_request, MaySynchronize, after_synchronizing, request_of, requested, started};
 ghost use Rattle.grasp_core.specs.Stands.{NodeStands};
-ghost use Rattle.grasp_core.specs.Tests.{request_tests, synchronize_tests, owned_flags, sending};
-ghost use Rattle.grasp_core.specs.Draws.{next_session};
+ghost use Rattle.grasp_model_node.specs.Tests.{request_tests, synchronize_tests, owned_flags, sending};
+ghost use Rattle.grasp_model_node.specs.Draws.{next_session};
 ghost use Rattle.grasp_session.specs.Sessions.{start_reply};
 
 use crate::NodeCore;
@@ -37,7 +37,9 @@ impl NodeCore {
         dry: bool,
         peer: Locator,
     ) -> Result<ApiAnswer, ApiRefused>
-        ensures { (n : NodeState) → NodeStands self.old n → MayRequest n asa name value loops dry peer result × NodeStands self.new (after_request n asa name value loops timeout dry peer result) }
+        ensures { (n : NodeState) → NodeStands self.old n
+            → MayRequest n asa name value loops dry peer result
+            × NodeStands self.new (after_request n asa name value loops timeout dry peer result) }
     {
         let flags = match self.may_request(asa, &name, dry, &peer) {
             Ok(flags) => flags,
@@ -61,7 +63,9 @@ impl NodeCore {
         timeout: u32,
         peer: Locator,
     ) -> Result<ApiAnswer, ApiRefused>
-        ensures { (n : NodeState) → NodeStands self.old n → MaySynchronize n asa name loops peer result × NodeStands self.new (after_synchronizing n asa name loops timeout peer result) }
+        ensures { (n : NodeState) → NodeStands self.old n
+            → MaySynchronize n asa name loops peer result
+            × NodeStands self.new (after_synchronizing n asa name loops timeout peer result) }
     {
         let flags = match self.may_synchronize(asa, &name, &peer) {
             Ok(flags) => flags,
@@ -149,8 +153,10 @@ impl NodeCore {
     ) -> Result<ApiAnswer, ApiRefused>
         requires owner { 0 < asa }
         requires dialled { self.old.streams.dialled < 2 ^ 62 }
-        ensures answer { (n : NodeState) → NodeStands self.old n → MaySend (sending n (request_of kind (next_session n) objective) 2) (Is (started (start_reply n.sessions))) result }
-        ensures after { (n : NodeState) → NodeStands self.old n → NodeStands self.new (if_answered n (requested n asa kind timeout objective peer) result) }
+        ensures answer { (n : NodeState) → NodeStands self.old n
+            → MaySend (sending n (request_of kind (next_session n) objective) 2) (Is (started (start_reply n.sessions))) result }
+        ensures after { (n : NodeState) → NodeStands self.old n
+            → NodeStands self.new (if_answered n (requested n asa kind timeout objective peer) result) }
     {
         let session = self.next_session();
         let message = request_of(kind, session, objective);
@@ -175,7 +181,7 @@ impl NodeCore {
     }
 
     /// Dials the peer, sends it the request that is ready, and begins its session.
-    #[tactic(auto, unfolding(crate::specs::Moves::with_sessions, crate::specs::Moves::with_draw, crate::specs::Moves::dial_record, crate::specs::Moves::queue_up))]
+    #[tactic(auto, unfolding(grasp_model_node::specs::Moves::with_sessions, grasp_model_node::specs::Moves::with_draw, grasp_model_node::specs::Moves::dial_record, grasp_model_node::specs::Moves::queue_up))]
     fn dial_request(
         &mut self,
         asa: u32,
@@ -189,7 +195,8 @@ impl NodeCore {
         requires room { length self.old.queue + 2 ≤ 256 }
         requires dialled { self.old.streams.dialled < 2 ^ 62 }
         ensures answer { (n : NodeState) → NodeStands self.old n → IsBegun n result }
-        ensures after { (n : NodeState) → NodeStands self.old n → NodeStands self.new (if_answered n (dialled n asa timeout peer ready.message) result) }
+        ensures after { (n : NodeState) → NodeStands self.old n
+            → NodeStands self.new (if_answered n (dialled n asa timeout peer ready.message) result) }
     {
         // No live session has the number of a stream that wasn't dialled before.
         let stream = self.streams.next();

@@ -2,9 +2,9 @@
 
 ghost use Rattle.std.specs.Prelude.{◌≡◌, IfOk, OnOk, OnErr};
 ghost use Rattle.grasp_core.specs.First.{response_heard, with_response};
-ghost use Rattle.grasp_core.specs.Hear.{hear_response, answered_with, dial_neighbour, neighbour_at};
-ghost use Rattle.grasp_core.specs.Moves.{dial_with};
-ghost use Rattle.grasp_core.specs.Node.{NodeState};
+ghost use Rattle.grasp_model_node.specs.Hear.{hear_response, answered_with, dial_neighbour, neighbour_at};
+ghost use Rattle.grasp_model_node.specs.Moves.{dial_with};
+ghost use Rattle.grasp_model_node.specs.Node.{NodeState};
 ghost use Rattle.grasp_core.specs.Stands.{NodeStands};
 
 use crate::NodeCore;
@@ -15,7 +15,8 @@ use grasp_types::{Address, Answer, Locator, Locators, Message};
 impl NodeCore {
     /// A response comes on a stream, which shuts. After an `Err` all is as before.
     pub(crate) fn response(&mut self, response: Message) -> Result<bool, OutOfMemory>
-        ensures ok { IfOk result (λ stays. (n : NodeState) → NodeStands self.old n → (stays ≡ (response_heard n response).is_open) × NodeStands self.new (response_heard n response).node) }
+        ensures ok { IfOk result (λ stays. (n : NodeState) → NodeStands self.old n
+            → (stays ≡ (response_heard n response).is_open) × NodeStands self.new (response_heard n response).node) }
         ensures err { OnErr result ((n : NodeState) → NodeStands self.old n → NodeStands self.new n) }
     {
         match &response {
@@ -42,7 +43,9 @@ impl NodeCore {
         answer: &Answer,
         response: &Message,
     ) -> Result<(), OutOfMemory>
-        ensures ok { OnOk result ((n : NodeState) → NodeStands self.old n → NodeStands self.new (hear_response n session initiator ttl answer.now response.now).node) }
+        ensures ok { OnOk result
+            ((n : NodeState) → NodeStands self.old n
+            → NodeStands self.new (hear_response n session initiator ttl answer.now response.now).node) }
         ensures err { OnErr result ((n : NodeState) → NodeStands self.old n → NodeStands self.new n) }
     {
         match self.discovery.asker(self.plan.address, session, initiator) {
@@ -55,7 +58,7 @@ impl NodeCore {
     }
 
     /// Puts the locators of a response into the cache, where it was asked for. After an `Err` all is as before.
-    #[tactic(auto, unfolding(crate::specs::First::with_response, crate::specs::Moves::with_discoveries))]
+    #[tactic(auto, unfolding(crate::specs::First::with_response, grasp_model_node::specs::Moves::with_discoveries))]
     fn keep(
         &mut self,
         session: u32,
@@ -89,7 +92,9 @@ impl NodeCore {
         answer: &Answer,
         response: &Message,
     ) -> Result<(), OutOfMemory>
-        ensures ok { OnOk result ((n : NodeState) → NodeStands self.old n → NodeStands self.new (dial_neighbour (with_response n session initiator ttl answer.now) (neighbour_at n cause.link cause.from) response.now)) }
+        ensures ok { OnOk result ((n : NodeState) → NodeStands self.old n
+            → NodeStands self.new (dial_neighbour (with_response n session initiator ttl answer.now)
+            (neighbour_at n cause.link cause.from) response.now)) }
         ensures err { OnErr result ((n : NodeState) → NodeStands self.old n → NodeStands self.new n) }
     {
         match self.neighbour(cause.link, cause.from) {
@@ -116,7 +121,8 @@ impl NodeCore {
         answer: &Answer,
         response: &Message,
     ) -> Result<(), OutOfMemory>
-        ensures ok { OnOk result ((n : NodeState) → NodeStands self.old n → NodeStands self.new (dial_with (with_response n session initiator ttl answer.now) to response.now)) }
+        ensures ok { OnOk result ((n : NodeState) → NodeStands self.old n
+            → NodeStands self.new (dial_with (with_response n session initiator ttl answer.now) to response.now)) }
         ensures err { OnErr result ((n : NodeState) → NodeStands self.old n → NodeStands self.new n) }
     {
         let ready = self.ready_dial(response)?;

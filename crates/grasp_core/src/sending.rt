@@ -1,9 +1,9 @@
 //! What a delivery makes a node send: it is sent where all of it has room, and else lost.
 
 ghost use Rattle.std.specs.Prelude.{◌≡◌, ◌+◌, ◌≤◌, true, length, IfOk, OnOk, OnErr};
-ghost use Rattle.grasp_core.specs.Moves.{may_queue, answer, begin_closing};
-ghost use Rattle.grasp_core.specs.Node.{NodeState};
-ghost use Rattle.grasp_core.specs.Queue.{encoding};
+ghost use Rattle.grasp_model_node.specs.Moves.{may_queue, answer, begin_closing};
+ghost use Rattle.grasp_model_node.specs.Node.{NodeState};
+ghost use Rattle.grasp_model_node.specs.Queue.{encoding};
 ghost use Rattle.grasp_core.specs.Stands.{NodeStands};
 
 use crate::NodeCore;
@@ -21,7 +21,7 @@ impl NodeCore {
     }
 
     /// A stream begins closing.
-    #[tactic(auto, unfolding(crate::specs::Moves::begin_closing))]
+    #[tactic(auto, unfolding(grasp_model_node::specs::Moves::begin_closing))]
     pub(crate) fn begin_closing(&mut self, stream: u64)
         ensures { (n : NodeState) → NodeStands self.old n → NodeStands self.new (begin_closing n stream) }
     {
@@ -47,7 +47,7 @@ impl NodeCore {
     }
 
     /// Queues an answer, where it may be.
-    #[tactic(auto, unfolding(crate::specs::Moves::queue_up))]
+    #[tactic(auto, unfolding(grasp_model_node::specs::Moves::queue_up))]
     fn queue_answer(&mut self, stream: u64, message: &Message) -> Result<(), OutOfMemory>
         ensures ok { OnOk result ((n : NodeState) → NodeStands self.old n → NodeStands self.new (answer n stream message.now)) }
         ensures err { OnErr result ((n : NodeState) → NodeStands self.old n → NodeStands self.new n) }

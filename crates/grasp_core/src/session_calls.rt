@@ -4,20 +4,20 @@ ghost use Rattle.std.specs.Prelude.{◌≡◌, ◌<◌, ◌+◌, ◌≤◌, ◌�
 ghost use Rattle.grasp_session.specs.Sessions.{after_say};
 ghost use Rattle.grasp_session.specs.Stands.{check_answer, IsUntaken};
 ghost use Rattle.grasp_session.specs.Transcript.{SayStep, SayWait, SayEnd, SayInvalid};
-ghost use Rattle.grasp_core.specs.Answered.{if_answered};
-ghost use Rattle.grasp_core.specs.Moves.{with_sessions, queue_up, begin_closing};
-ghost use Rattle.grasp_core.specs.Node.{NodeState};
-ghost use Rattle.grasp_core.specs.Queue.{send, encoding};
+ghost use Rattle.grasp_model_node.specs.Answered.{if_answered};
+ghost use Rattle.grasp_model_node.specs.Moves.{with_sessions, queue_up, begin_closing};
+ghost use Rattle.grasp_model_node.specs.Node.{NodeState};
+ghost use Rattle.grasp_model_node.specs.Queue.{send, encoding};
 ghost use Rattle.grasp_core.specs.Sayings.{IsSaid, IsTaken};
-ghost use Rattle.grasp_core.specs.RegistryCalls.{with_mark};
-ghost use Rattle.grasp_core.specs.SessionCalls.{MayStep, after_step, MayWait, after_wait, MayEnd, after_end, MayInvalid, after_invalid, MayPollNode, after_polling, MayListen, after_listening, opener_at, taken_in, with_adopted};
+ghost use Rattle.grasp_model_node.specs.RegistryCalls.{with_mark};
+ghost use Rattle.grasp_model_node.specs.SessionCalls.{MayStep, after_step, MayWait, after_wait, MayEnd, after_end, MayInvalid, after_invalid, MayPollNode, after_polling, MayListen, after_listening, opener_at, taken_in, with_adopted};
 ghost use Rattle.grasp_core.specs.Stands.{NodeStands};
 
 use crate::NodeCore;
 use crate::ready::Ready;
-use grasp_cbor::Chars;
+use grasp_cbor::{Chars, Octets};
 use grasp_session::{Act, SessionRefused};
-use grasp_types::{Address, ApiAnswer, ApiRefused, Handle, Value, Verdict};
+use grasp_types::{Address, ApiAnswer, ApiRefused, Handle, Message, Value, Verdict};
 
 impl NodeCore {
     /// Offers a value by a step.
@@ -27,7 +27,8 @@ impl NodeCore {
         handle: Handle,
         value: Value,
     ) -> Result<ApiAnswer, ApiRefused>
-        ensures { (n : NodeState) → NodeStands self.old n → MayStep n asa handle value result × NodeStands self.new (after_step n handle value result) }
+        ensures { (n : NodeState) → NodeStands self.old n
+            → MayStep n asa handle value result × NodeStands self.new (after_step n handle value result) }
     {
         self.may_act(asa, handle, Act::Step)?;
         let fits = self.step_fits(asa, handle, &value);
@@ -62,7 +63,8 @@ impl NodeCore {
         handle: Handle,
         verdict: Verdict,
     ) -> Result<ApiAnswer, ApiRefused>
-        ensures { (n : NodeState) → NodeStands self.old n → MayEnd n asa handle verdict result × NodeStands self.new (after_end n handle verdict result) }
+        ensures { (n : NodeState) → NodeStands self.old n
+            → MayEnd n asa handle verdict result × NodeStands self.new (after_end n handle verdict result) }
     {
         self.may_act(asa, handle, Act::End)?;
         let fits = self.end_fits(asa, handle, &verdict);
@@ -80,7 +82,8 @@ impl NodeCore {
         handle: Handle,
         detail: Option<Value>,
     ) -> Result<ApiAnswer, ApiRefused>
-        ensures { (n : NodeState) → NodeStands self.old n → MayInvalid n asa handle detail result × NodeStands self.new (after_invalid n handle detail result) }
+        ensures { (n : NodeState) → NodeStands self.old n
+            → MayInvalid n asa handle detail result × NodeStands self.new (after_invalid n handle detail result) }
     {
         self.may_act(asa, handle, Act::Invalid)?;
         let fits = self.invalid_fits(asa, handle, &detail);
@@ -95,7 +98,7 @@ impl NodeCore {
     }
 
     /// How a session stands.
-    #[tactic(auto, unfolding(crate::specs::Moves::with_sessions))]
+    #[tactic(auto, unfolding(grasp_model_node::specs::Moves::with_sessions))]
     pub(crate) fn poll(&mut self, asa: u32, handle: Handle) -> Result<ApiAnswer, ApiRefused>
         ensures { (n : NodeState) → NodeStands self.old n → MayPollNode n asa handle result × NodeStands self.new (after_polling n handle result) }
     {
@@ -131,7 +134,6 @@ impl NodeCore {
     }
 
     /// Says the step that is ready.
-    #[tactic(auto, unfolding(crate::specs::Moves::with_sessions, crate::specs::Moves::queue_up))]
     fn say_step(
         &mut self,
         asa: u32,
@@ -143,16 +145,40 @@ impl NodeCore {
         requires bytes { ready.bytes ≡ encoding ready.message }
         requires room { length self.old.queue + 1 ≤ 256 }
         ensures answer { IsSaid result }
-        ensures says { (n : NodeState) → NodeStands self.old n → NodeStands self.new (if_answered n (queue_up (with_sessions n (after_say n.sessions n.reading handle (SayStep value))) (send ready.stream ready.message ∷ [])) result) }
+        ensures says { (n : NodeState) → NodeStands self.old n
+            → NodeStands self.new (if_answered n (queue_up (with_sessions n
+            (after_say n.sessions n.reading handle (SayStep value))) (send ready.stream ready.message ∷ [])) result) }
     {
         let Ready {
             stream,
             message,
             bytes,
         } = ready;
+        self.send_step(asa, handle, value, stream, &message, bytes)
+    }
+
+    /// Says a step, and queues its message for its stream.
+    #[tactic(auto, unfolding(grasp_model_node::specs::Moves::with_sessions, grasp_model_node::specs::Moves::queue_up))]
+    fn send_step(
+        &mut self,
+        asa: u32,
+        handle: Handle,
+        value: Value,
+        stream: u64,
+        message: &Message,
+        bytes: Octets,
+    ) -> Result<ApiAnswer, ApiRefused>
+        requires allowed { check_answer self.old.table asa handle Act.Step ≡ Ok tt }
+        requires bytes { bytes ≡ encoding message.now }
+        requires room { length self.old.queue + 1 ≤ 256 }
+        ensures answer { IsSaid result }
+        ensures says { (n : NodeState) → NodeStands self.old n
+            → NodeStands self.new (if_answered n (queue_up (with_sessions n
+            (after_say n.sessions n.reading handle (SayStep value))) (send stream message.now ∷ [])) result) }
+    {
         match self.table.step(self.reading, asa, handle, value) {
             Ok(_said) => {
-                self.queue.send(stream, &message, bytes);
+                self.queue.send(stream, message, bytes);
                 Ok(ApiAnswer::Done)
             }
             Err(_) => Err(ApiRefused::OutOfMemory),
@@ -160,7 +186,7 @@ impl NodeCore {
     }
 
     /// Says the wait that is ready.
-    #[tactic(auto, unfolding(crate::specs::Moves::with_sessions, crate::specs::Moves::queue_up))]
+    #[tactic(auto, unfolding(grasp_model_node::specs::Moves::with_sessions, grasp_model_node::specs::Moves::queue_up))]
     fn say_wait(
         &mut self,
         asa: u32,
@@ -172,7 +198,9 @@ impl NodeCore {
         requires bytes { ready.bytes ≡ encoding ready.message }
         requires room { length self.old.queue + 1 ≤ 256 }
         ensures answer { IsSaid result }
-        ensures says { (n : NodeState) → NodeStands self.old n → NodeStands self.new (if_answered n (queue_up (with_sessions n (after_say n.sessions n.reading handle (SayWait millis))) (send ready.stream ready.message ∷ [])) result) }
+        ensures says { (n : NodeState) → NodeStands self.old n
+            → NodeStands self.new (if_answered n (queue_up (with_sessions n
+            (after_say n.sessions n.reading handle (SayWait millis))) (send ready.stream ready.message ∷ [])) result) }
     {
         let Ready {
             stream,
@@ -196,7 +224,10 @@ impl NodeCore {
         requires bytes { ready.bytes ≡ encoding ready.message }
         requires room { length self.old.queue + 1 ≤ 256 }
         ensures answer { IsSaid result }
-        ensures says { (n : NodeState) → NodeStands self.old n → NodeStands self.new (if_answered n (begin_closing (queue_up (with_sessions n (after_say n.sessions n.reading handle (SayEnd verdict))) (send ready.stream ready.message ∷ [])) ready.stream) result) }
+        ensures says { (n : NodeState) → NodeStands self.old n
+            → NodeStands self.new (if_answered n (begin_closing (queue_up
+            (with_sessions n (after_say n.sessions n.reading handle (SayEnd verdict)))
+            (send ready.stream ready.message ∷ [])) ready.stream) result) }
     {
         let stream = ready.stream;
         match self.say_verdict(asa, handle, verdict, ready) {
@@ -209,7 +240,6 @@ impl NodeCore {
     }
 
     /// Says the end that is ready.
-    #[tactic(auto, unfolding(crate::specs::Moves::with_sessions, crate::specs::Moves::queue_up))]
     fn say_verdict(
         &mut self,
         asa: u32,
@@ -221,16 +251,40 @@ impl NodeCore {
         requires bytes { ready.bytes ≡ encoding ready.message }
         requires room { length self.old.queue + 1 ≤ 256 }
         ensures answer { IsSaid result }
-        ensures says { (n : NodeState) → NodeStands self.old n → NodeStands self.new (if_answered n (queue_up (with_sessions n (after_say n.sessions n.reading handle (SayEnd verdict))) (send ready.stream ready.message ∷ [])) result) }
+        ensures says { (n : NodeState) → NodeStands self.old n
+            → NodeStands self.new (if_answered n (queue_up (with_sessions n
+            (after_say n.sessions n.reading handle (SayEnd verdict))) (send ready.stream ready.message ∷ [])) result) }
     {
         let Ready {
             stream,
             message,
             bytes,
         } = ready;
+        self.send_verdict(asa, handle, verdict, stream, &message, bytes)
+    }
+
+    /// Says an end, and queues its message for its stream.
+    #[tactic(auto, unfolding(grasp_model_node::specs::Moves::with_sessions, grasp_model_node::specs::Moves::queue_up))]
+    fn send_verdict(
+        &mut self,
+        asa: u32,
+        handle: Handle,
+        verdict: Verdict,
+        stream: u64,
+        message: &Message,
+        bytes: Octets,
+    ) -> Result<ApiAnswer, ApiRefused>
+        requires allowed { check_answer self.old.table asa handle Act.End ≡ Ok tt }
+        requires bytes { bytes ≡ encoding message.now }
+        requires room { length self.old.queue + 1 ≤ 256 }
+        ensures answer { IsSaid result }
+        ensures says { (n : NodeState) → NodeStands self.old n
+            → NodeStands self.new (if_answered n (queue_up (with_sessions n
+            (after_say n.sessions n.reading handle (SayEnd verdict))) (send stream message.now ∷ [])) result) }
+    {
         match self.table.end(self.reading, asa, handle, verdict) {
             Ok(_said) => {
-                self.queue.send(stream, &message, bytes);
+                self.queue.send(stream, message, bytes);
                 Ok(ApiAnswer::Done)
             }
             Err(_) => Err(ApiRefused::OutOfMemory),
@@ -242,7 +296,9 @@ impl NodeCore {
         requires allowed { check_answer self.old.table asa handle Act.Invalid ≡ Ok tt }
         requires bytes { ready.bytes ≡ encoding ready.message }
         requires room { length self.old.queue + 1 ≤ 256 }
-        ensures { (n : NodeState) → NodeStands self.old n → NodeStands self.new (begin_closing (queue_up (with_sessions n (after_say n.sessions n.reading handle (SayInvalid detail))) (send ready.stream ready.message ∷ [])) ready.stream) }
+        ensures { (n : NodeState) → NodeStands self.old n
+            → NodeStands self.new (begin_closing (queue_up (with_sessions n
+            (after_say n.sessions n.reading handle (SayInvalid detail))) (send ready.stream ready.message ∷ [])) ready.stream) }
     {
         let stream = ready.stream;
         self.say_invalid(asa, handle, detail, ready);
@@ -250,12 +306,14 @@ impl NodeCore {
     }
 
     /// Says the invalid message that is ready.
-    #[tactic(auto, unfolding(crate::specs::Moves::with_sessions, crate::specs::Moves::queue_up))]
+    #[tactic(auto, unfolding(grasp_model_node::specs::Moves::with_sessions, grasp_model_node::specs::Moves::queue_up))]
     fn say_invalid(&mut self, asa: u32, handle: Handle, detail: Option<Value>, ready: Ready)
         requires allowed { check_answer self.old.table asa handle Act.Invalid ≡ Ok tt }
         requires bytes { ready.bytes ≡ encoding ready.message }
         requires room { length self.old.queue + 1 ≤ 256 }
-        ensures { (n : NodeState) → NodeStands self.old n → NodeStands self.new (queue_up (with_sessions n (after_say n.sessions n.reading handle (SayInvalid detail))) (send ready.stream ready.message ∷ [])) }
+        ensures { (n : NodeState) → NodeStands self.old n
+            → NodeStands self.new (queue_up (with_sessions n (after_say n.sessions n.reading handle (SayInvalid detail)))
+            (send ready.stream ready.message ∷ [])) }
     {
         let Ready {
             stream,
@@ -267,7 +325,7 @@ impl NodeCore {
     }
 
     /// An agent takes an untaken session of an objective that it listens for from now on.
-    #[tactic(auto, unfolding(crate::specs::Moves::with_registrations, crate::specs::Moves::with_sessions))]
+    #[tactic(auto, unfolding(grasp_model_node::specs::Moves::with_registrations, grasp_model_node::specs::Moves::with_sessions))]
     fn take_untaken(
         &mut self,
         asa: u32,
@@ -277,7 +335,8 @@ impl NodeCore {
         requires untaken { IsUntaken self.old.table handle }
         requires owner { 0 < asa }
         ensures answer { (n : NodeState) → NodeStands self.old n → IsTaken (taken_in n (Some handle)) result }
-        ensures takes { (n : NodeState) → NodeStands self.old n → NodeStands self.new (if_answered n (with_adopted (with_mark n asa name.now true) asa (Some handle)) result) }
+        ensures takes { (n : NodeState) → NodeStands self.old n
+            → NodeStands self.new (if_answered n (with_adopted (with_mark n asa name.now true) asa (Some handle)) result) }
     {
         let from = self.session_opener(handle);
         match self.table.adopt(asa, handle) {
@@ -302,7 +361,7 @@ impl NodeCore {
     }
 
     /// An objective is listened for.
-    #[tactic(auto, unfolding(crate::specs::Moves::with_registrations))]
+    #[tactic(auto, unfolding(grasp_model_node::specs::Moves::with_registrations))]
     fn mark_listening(&mut self, asa: u32, name: &Chars)
         ensures { (n : NodeState) → NodeStands self.old n → NodeStands self.new (with_mark n asa name.now true) }
     {

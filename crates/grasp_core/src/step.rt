@@ -1,7 +1,7 @@
 //! One step of a node.
 
 ghost use Rattle.grasp_core.specs.Contract.{Meeting, Meets, MeetsInput, Acted, Stepped, GivesCall};
-ghost use Rattle.grasp_core.specs.Node.{NodeState};
+ghost use Rattle.grasp_model_node.specs.Node.{NodeState};
 ghost use Rattle.grasp_core.specs.Stands.{NodeStands};
 
 use crate::NodeCore;

@@ -2,22 +2,13 @@
 
 ghost use Rattle.std.specs.Prelude.{◌≡◌, ◌≤◌, ◌==◌, ◌++◌, not, map, filter, false, length, IfOk, OnOk};
 ghost use Rattle.grasp_types.specs.declared.traffic.Output.TheVariants as output;
-ghost use Rattle.grasp_core.specs.Plan.{is_bad_plan};
-ghost use Rattle.grasp_core.specs.Queue.{all_ways, ways_on};
+ghost use Rattle.grasp_model_node.specs.Plan.{is_bad_plan};
+ghost use Rattle.grasp_model_node.specs.Queue.{all_ways, ways_on};
 
-use crate::plan::NodePlan;
 use grasp_cbor::{Octets, OutOfMemory};
+use grasp_model_node::{NodePlan, Way};
 use grasp_types::{Neighbour, Output, Plain};
 use std::alloc::Global;
-
-/// A neighbour of this node, by the number of its link and its number there.
-#[derive(Clone, Copy, Debug, PartialEq, Eq)]
-pub struct Way {
-    /// The number of the link.
-    pub link: u8,
-    /// The number of the neighbour on the link.
-    pub to: u8,
-}
 
 /// The ways to every neighbour of every link, in order.
 pub(crate) fn all_ways(alloc: Global, plan: &NodePlan) -> Result<Vec<Way>, OutOfMemory>

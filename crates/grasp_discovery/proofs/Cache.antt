@@ -3,13 +3,14 @@ use Rattle.std.proofs.Common.{zero, suc, ◌≡◌, ℕ, ◌<◌, ◌≤◌, Boo
 use Rattle.std.specs.Prelude.{IsSome, position}
 use Rattle.std.specs.Map.{lookup}
 use Rattle.indexmap.specs.IndexMap.{insert_entry}
+use Rattle.grasp_cbor.proofs.Facts.Lists.{is_some_lookup}
 use Rattle.grasp_types.specs.declared.address.Locator.{Locator}
 use Rattle.grasp_discovery.specs.declared.cached.Cached.{Cached}
 use Rattle.grasp_discovery.specs.declared.topic.Topic.{Topic}
 use Rattle.grasp_types.specs.Same.{same_locator}
 use Rattle.grasp_discovery.specs.Discoveries.{some_of, or_none, locators_of, live, put_locator, keep_locator, keep_locators, has_locator, cached_under, has_topic, has_place, put_entry, after_response}
 use Rattle.grasp_discovery.specs.Topic.{same_topic}
-use Rattle.grasp_discovery.proofs.Lists.{found, any_found, any_missed, is_some_lookup}
+use Rattle.grasp_discovery.proofs.Lists.{found, any_found, any_missed}
 
 abbrev later : Cached → ℕ → Cached
 later old last = record { locator = old.locator; end = max old.end last }
@@ -65,7 +66,7 @@ kept_last new last cs at few =
     put_last new last cs none
     ∙ sym (ap (λ b. cond (b || nat_lt (length cs) 8) (put_locator new last cs) cs) none ∙ ap (λ b. cond b (put_locator new last cs) cs) (lt-ltb (length cs) 8 few))
 
--- and else is dropped
+-- a new locator is dropped where 8 or more are cached
 pub not_kept : (new : Locator) (last : ℕ) (cs : List Cached) → position (λ c. same_locator new c.locator) cs ≡ None → 8 ≤ length cs → cs ≡ keep_locator last cs new
 not_kept new last cs at many =
     let none = any_missed (λ c. same_locator new c.locator) cs at in

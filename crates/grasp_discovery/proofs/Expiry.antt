@@ -2,6 +2,7 @@
 use Rattle.std.proofs.Common.{◌≡◌, ℕ, ◌<◌, ◌≤◌, Bool, true, false, cond, not, ◌||◌, nat_lt, List, [], ◌∷◌, length, map, filter, Option, Some, None, option_map, refl, ap, ◌∙◌, ltb-true, arith}
 use Rattle.std.specs.Prelude.{All, find, slice_index_or}
 use Rattle.std.proofs.lemmas.List.Elements.{All-nil, All-cons, All-map, filter_passes}
+use Rattle.grasp_cbor.proofs.Facts.Lists.{filter_twice}
 use Rattle.grasp_types.specs.declared.address.Locator.{Locator}
 use Rattle.grasp_discovery.specs.declared.answers.Find.TheVariants.{NotYet, Nothing}
 use Rattle.grasp_discovery.specs.declared.cached.Cached.{Cached}
@@ -12,14 +13,6 @@ use Rattle.grasp_discovery.specs.Discoveries.{Discoveries, is_search_of, cached_
 use Rattle.grasp_discovery.specs.Laws.{locators_found}
 
 -- Twice is once
-
-filter_twice : {X : Type 0} (p : X → Bool) (xs : List X) → filter p (filter p xs) ≡ filter p xs
-filter_twice p [] = refl
-filter_twice p (x ∷ xs) = by (p x) refl (filter_twice p xs)
-  where
-    by : (b : Bool) → p x ≡ b → filter p (filter p xs) ≡ filter p xs → filter p (cond b (x ∷ filter p xs) (filter p xs)) ≡ cond b (x ∷ filter p xs) (filter p xs)
-    by true e rest = ap (λ b. cond b (x ∷ filter p (filter p xs)) (filter p (filter p xs))) e ∙ ap (λ zs. x ∷ zs) rest
-    by false e rest = rest
 
 or_twice : (s t : Bool) → ((s || t) || t) ≡ (s || t)
 or_twice true t = refl

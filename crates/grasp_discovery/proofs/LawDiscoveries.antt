@@ -1,19 +1,20 @@
 -- What responses and expiries leave in the cache, what is told of it, and what is remembered.
-use Rattle.std.proofs.Common.{zero, suc, ◌≡◌, ℕ, ◌+◌, ◌<◌, ◌≤◌, Bool, true, false, cond, not, ◌||◌, nat_lt, max, List, [], ◌∷◌, ◌++◌, length, map}
-use Rattle.std.proofs.Common.{filter, fold, get_or}
+use Rattle.std.proofs.Common.{◌≡◌, ℕ, ◌<◌, ◌≤◌, Bool, true, false, cond, not, ◌||◌, nat_lt, max, List, [], ◌∷◌, length, map}
+use Rattle.std.proofs.Common.{filter, get_or}
 use Rattle.std.proofs.Common.{Option, Some, None, IfSome, option_map, All, ◌⊎◌, inl, inr, refl, sym, ap, ◌∙◌, subst, true≢false, arith, lt-ltb}
-use Rattle.std.specs.Prelude.{Any, Contains, slice_index_or, find}
-use Rattle.std.specs.List.{list_any, AllZip}
-use Rattle.std.proofs.lemmas.List.Elements.{All-nil, All-cons, All-head, All-tail, All-map, Contains-push, Contains-append_left, filter_passes}
+use Rattle.std.proofs.lemmas.Bool.{or_left, or_cases, or_parts}
+use Rattle.std.specs.Prelude.{Contains, find}
+use Rattle.std.specs.List.{AllZip}
+use Rattle.std.proofs.lemmas.List.Elements.{All-cons, All-head, All-tail, All-map, Contains-push, Contains-append_left}
 use Rattle.std.proofs.lemmas.List.Folds.{list_any_at}
-use Rattle.grasp_types.specs.declared.address.Address.{Address}
+use Rattle.grasp_cbor.proofs.Facts.Lists.{stands_at, filter_keeps, all_stay}
 use Rattle.grasp_types.specs.declared.address.Locator.{Locator}
 use Rattle.grasp_types.specs.declared.origin.Origin.{Origin}
 use Rattle.grasp_types.specs.Same.{same_locator, same_origin}
-use Rattle.grasp_types.proofs.Same.{same_locator_decides, same_origin_decides}
+use Rattle.grasp_types.proofs.Same.{same_origin_decides}
 use Rattle.grasp_discovery.specs.declared.answers.Answered.{Answered}
 use Rattle.grasp_discovery.specs.declared.answers.Find.{Find}
-use Rattle.grasp_discovery.specs.declared.answers.Find.TheVariants.{Found, NotYet, Nothing, Fresh}
+use Rattle.grasp_discovery.specs.declared.answers.Find.TheVariants.{Found, NotYet, Nothing}
 use Rattle.grasp_discovery.specs.declared.answers.Heard.TheVariants.{Known, NoPlace, New}
 use Rattle.grasp_discovery.specs.declared.cached.Cached.{Cached}
 use Rattle.grasp_discovery.specs.declared.memory.Memory.{Memory}
@@ -21,15 +22,14 @@ use Rattle.grasp_discovery.specs.declared.search.Search.{Search}
 use Rattle.grasp_discovery.specs.declared.topic.Topic.{Topic}
 use Rattle.grasp_discovery.specs.Topic.{same_topic}
 use Rattle.grasp_discovery.specs.Discoveries.{Discoveries, is_search_of, cached_under, has_topic, some_of, locators_of, is_live, live, least_left}
-use Rattle.grasp_discovery.specs.Discoveries.{known_of, find_reply, find_answer, after_find}
-use Rattle.grasp_discovery.specs.Discoveries.{remembers, heard_reply, after_heard, asker_of, has_locator, put_locator, keep_locator, keep_locators}
-use Rattle.grasp_discovery.specs.Discoveries.{put_entry, has_place, after_response, after_answered}
-use Rattle.grasp_discovery.specs.Discoveries.{after_reading, live_entry, has_any, after_expiry, AllDiffer, IsDiscoveries}
+use Rattle.grasp_discovery.specs.Discoveries.{find_reply, find_answer, after_find}
+use Rattle.grasp_discovery.specs.Discoveries.{remembers, after_heard, asker_of, has_locator, put_locator, keep_locator, keep_locators}
+use Rattle.grasp_discovery.specs.Discoveries.{put_entry, has_place, after_answered}
+use Rattle.grasp_discovery.specs.Discoveries.{after_reading, live_entry, has_any, AllDiffer, IsDiscoveries}
 use Rattle.grasp_discovery.specs.Laws.{locators_found, IsPartOf, IsSameSearch, KeepsTheRest, OnlyTheEndedGo, IsCachedUnder, IsAnswer}
 use Rattle.grasp_discovery.specs.Laws.{LocatorsAreAnswers, ToldIsCached, IsRemembered, RememberedStays}
 use Rattle.grasp_discovery.proofs.SameTopics.{same_topic_decides}
 use Rattle.grasp_discovery.proofs.Memories.{is_known}
-use Rattle.grasp_discovery.proofs.Soundness.{both_false}
 
 -- What a filter leaves
 
@@ -38,39 +38,13 @@ part_filter p [] = refl
 part_filter p (x ∷ xs) = let rest = part_filter p xs in
     elim (p x) as (λ b. IsPartOf (cond b (x ∷ filter p xs) (filter p xs)) (x ∷ xs)) [ true ↦ inr (filter p xs, refl, rest) | false ↦ inl rest ]
 
-filter_keeps : {X : Type 0} (p : X → Bool) (xs : List X) (k : ℕ) (x : X) → k < length xs → slice_index_or xs k x ≡ x → p x ≡ true → Contains (filter p xs) x
-filter_keeps p [] k x h e t = absurd (omega arith)
-filter_keeps p (y ∷ ys) zero x h e t =
-    let there : p y ≡ true = ap p e ∙ t in
-    subst (λ b. Contains (cond b (y ∷ filter p ys) (filter p ys)) x) (sym there) (0, omega arith, e)
-filter_keeps p (y ∷ ys) (suc k) x h e t =
-    let rest = filter_keeps p ys k x (omega arith) e t in
-    elim (p y) as (λ b. Contains (cond b (y ∷ filter p ys) (filter p ys)) x) [ true ↦ (suc rest.0, omega (arith, rest.1), rest.2) | false ↦ rest ]
-
--- the element at a place stands there whatever stands elsewhere
-stands_at : {X : Type 0} (xs : List X) (k : ℕ) (d : X) → k < length xs → slice_index_or xs k (get_or xs k d) ≡ get_or xs k d
-stands_at [] k d h = absurd (omega arith)
-stands_at (x ∷ xs) zero d h = refl
-stands_at (x ∷ xs) (suc k) d h = stands_at xs k d (omega arith)
-
-all_stay : {X : Type 0} (p : X → Bool) (P : X → Type 0) → ((x : X) → P x → p x ≡ true) → (xs : List X) → All (λ x. P x → Contains (filter p xs) x) xs
-all_stay p P passes xs = λ k d h holds. filter_keeps p xs k (get_or xs k d) h (stands_at xs k d h) (passes (get_or xs k d) holds)
-
 -- Searches
-
-or_means : (a b : Bool) → (a || b) ≡ true → (a ≡ true) ⊎ (b ≡ true)
-or_means true b h = inl refl
-or_means false b h = inr h
-
-or_first : (a b : Bool) → a ≡ true → (a || b) ≡ true
-or_first true b h = refl
-or_first false b h = absurd (true≢false (sym h))
 
 same_search : (now : ℕ) (search : Search) → IsSameSearch now search (after_reading now search)
 same_search now search = (
   refl,
-  or_first search.over (not (nat_lt now search.end)),
-  λ h. elim (or_means search.over (not (nat_lt now search.end)) h) as (λ _. (search.over ≡ true) ⊎ (search.end ≤ now)) [
+  or_left search.over (not (nat_lt now search.end)),
+  λ h. elim (or_cases search.over (not (nat_lt now search.end)) h) as (λ _. (search.over ≡ true) ⊎ (search.end ≤ now)) [
     | inl over ↦ inl over
     | inr come ↦ let due : search.end ≤ now = grind (arith, come) in inr due
   ],
@@ -85,7 +59,7 @@ same_searches now (x ∷ xs) = (same_search now x, same_searches now xs)
 under_none : (topic : Topic) (es : List (Topic × List Cached)) → has_topic topic es ≡ false → cached_under topic es ≡ []
 under_none topic [] none = refl
 under_none topic (e ∷ es) none =
-    let h = both_false (same_topic topic e.0) (has_topic topic es) none in
+    let h = or_parts (same_topic topic e.0) (has_topic topic es) none in
     ap (λ b. cond b e.1 (cached_under topic es)) h.0 ∙ under_none topic es h.1
 
 none_left : {X : Type 0} (xs : List X) → nat_lt 0 (length xs) ≡ false → xs ≡ []
@@ -265,9 +239,7 @@ stays_heard all memory origin new false false there = there
 stays_found : (all : Discoveries) (memory : Origin × Memory) (asa : ℕ) (topic : Topic) (answer : Find) → Contains all.memories memory
     → Contains (after_find all asa topic answer).memories memory
 stays_found all memory asa topic (Found ls) there = there
-stays_found all memory asa topic NotYet there = there
-stays_found all memory asa topic Nothing there = there
-stays_found all memory asa topic Fresh there = there
+stays_found all memory asa topic _ there = there
 
 stays_answered : (all : Discoveries) (memory : Origin × Memory) (last : ℕ) (ls : List Locator) (asker : Option (Answered × Topic))
     → Contains all.memories memory

@@ -1,44 +1,10 @@
 -- Lists through a function, and parts of lists.
-use Rattle.std.proofs.Common.{zero, suc, ◌≡◌, ℕ, ◌+◌, ◌<◌, ◌≤◌, Bool, true, false, cond, not, ◌||◌, nat_lt, List, [], ◌∷◌, ◌++◌, length, map, filter, fold, take, drop, slice_get, get_or, None, Some, is_some, refl, sym, ap, ◌∙◌, arith, add-one}
+use Rattle.std.proofs.Common.{zero, suc, ◌≡◌, ℕ, ◌+◌, ◌<◌, Bool, true, false, cond, not, ◌||◌, nat_lt, List, [], ◌∷◌, ◌++◌, length, filter, take, slice_get, get_or, None, Some, refl, sym, ap, ◌∙◌, arith}
 use Rattle.std.specs.Prelude.{position}
 use Rattle.std.specs.List.{list_any, position_or_len}
 use Rattle.std.proofs.lemmas.List.Quantifiers.{position-Some}
-use Rattle.std.specs.Map.{lookup}
-use Rattle.indexmap.specs.IndexMap.{set_value_at}
-
-take_suc : {X : Type 0} (xs : List X) (i : ℕ) (x : X) → slice_get xs i ≡ Some x → take (suc i) xs ≡ take i xs ++ x ∷ []
-take_suc [] i x e = cc
-take_suc (y ∷ ys) zero x e = cc
-take_suc (y ∷ ys) (suc i) x e = ap (λ rest. y ∷ rest) (take_suc ys i x e)
-
--- one more
-pub take_one_more : {X : Type 0} (xs : List X) (i : ℕ) (x : X) → slice_get xs i ≡ Some x → take (i + 1) xs ≡ take i xs ++ x ∷ []
-take_one_more xs i x e = ap (λ n. take n xs) (add-one i) ∙ take_suc xs i x e
-
-drop_suc : {X : Type 0} (xs : List X) (i : ℕ) (x : X) → slice_get xs i ≡ Some x → drop i xs ≡ x ∷ drop (suc i) xs
-drop_suc [] i x e = cc
-drop_suc (y ∷ ys) zero x e = cc
-drop_suc (y ∷ ys) (suc i) x e = drop_suc ys i x e
-
--- one less
-pub drop_one_less : {X : Type 0} (xs : List X) (i : ℕ) (x : X) → slice_get xs i ≡ Some x → drop i xs ≡ x ∷ drop (i + 1) xs
-drop_one_less xs i x e = drop_suc xs i x e ∙ sym (ap (λ n. x ∷ drop n xs) (add-one i))
-
-pub drop_past : {X : Type 0} (xs : List X) (i : ℕ) → length xs ≤ i → drop i xs ≡ []
-drop_past [] zero h = refl
-drop_past [] (suc i) h = refl
-drop_past (x ∷ xs) zero h = absurd (omega arith)
-drop_past (x ∷ xs) (suc i) h = drop_past xs i (omega arith)
-
-pub map_append : {X Y : Type 0} (f : X → Y) (xs ys : List X) → map f (xs ++ ys) ≡ map f xs ++ map f ys
-map_append f [] ys = refl
-map_append f (x ∷ xs) ys = ap (λ rest. f x ∷ rest) (map_append f xs ys)
-
-pub filter_append : {X : Type 0} (p : X → Bool) (xs ys : List X) → filter p (xs ++ ys) ≡ filter p xs ++ filter p ys
-filter_append p [] ys = refl
-filter_append p (x ∷ xs) ys = let rest = filter_append p xs ys in
-    elim (p x) as (λ b. cond b (x ∷ filter p (xs ++ ys)) (filter p (xs ++ ys)) ≡ cond b (x ∷ filter p xs) (filter p xs) ++ filter p ys)
-    [ true ↦ ap (λ zs. x ∷ zs) rest | false ↦ rest ]
+use Rattle.grasp_cbor.proofs.Facts.Lists.{filter_append}
+use Rattle.grasp_cbor.proofs.Places.{take_got}
 
 append_nil : {X : Type 0} (zs : List X) → zs ++ [] ≡ zs
 append_nil [] = refl
@@ -47,21 +13,11 @@ append_nil (z ∷ zs) = ap (λ rest. z ∷ rest) (append_nil zs)
 module _ {X : Type 0} (p : X → Bool) (xs : List X) (i : ℕ) (x : X) (at : slice_get xs i ≡ Some x) where
   -- one more that passes the test
   pub passes_more : p x ≡ true → filter p (take (i + 1) xs) ≡ filter p (take i xs) ++ x ∷ []
-  passes_more t = ap (filter p) (take_one_more xs i x at) ∙ filter_append p (take i xs) (x ∷ []) ∙ ap (λ b. filter p (take i xs) ++ cond b (x ∷ []) []) t
+  passes_more t = ap (filter p) (take_got xs i x at) ∙ filter_append p (take i xs) (x ∷ []) ∙ ap (λ b. filter p (take i xs) ++ cond b (x ∷ []) []) t
 
   -- one more that doesn't
   pub fails_more : p x ≡ false → filter p (take (i + 1) xs) ≡ filter p (take i xs)
-  fails_more t = ap (filter p) (take_one_more xs i x at) ∙ filter_append p (take i xs) (x ∷ []) ∙ ap (λ b. filter p (take i xs) ++ cond b (x ∷ []) []) t ∙ append_nil (filter p (take i xs))
-
-pub fold_append : {X Y : Type 0} (f : Y → X → Y) (y : Y) (xs : List X) (x : X) → fold f y (xs ++ x ∷ []) ≡ f (fold f y xs) x
-fold_append f y [] x = refl
-fold_append f y (z ∷ zs) x = fold_append f (f y z) zs x
-
--- a look-up finds something exactly where a key passes
-pub is_some_lookup : {K V : Type 0} (test : K → Bool) (es : List (K × V)) → is_some (lookup test es) ≡ list_any (λ e. test e.0) es
-is_some_lookup test [] = refl
-is_some_lookup test (e ∷ es) =
-    elim (test e.0) as (λ b. is_some (cond b (Some e.1) (lookup test es)) ≡ (b || list_any (λ x. test x.0) es)) [ true ↦ refl | false ↦ is_some_lookup test es ]
+  fails_more t = ap (filter p) (take_got xs i x at) ∙ filter_append p (take i xs) (x ∷ []) ∙ ap (λ b. filter p (take i xs) ++ cond b (x ∷ []) []) t ∙ append_nil (filter p (take i xs))
 
 -- Places
 

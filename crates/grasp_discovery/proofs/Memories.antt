@@ -1,9 +1,9 @@
 -- What the calls of a map do to memories.
-use Rattle.std.specs.Prelude.{Result, Ok, Err, OnErr}
 use Rattle.std.proofs.Common.{lt-ltb, ◌≡◌, ◌<◌, ◌≤◌, Bool, true, false, cond, ◌||◌, nat_lt, List, [], ◌∷◌, ◌++◌, length, None, Some, is_some, refl, sym, ap, ◌∙◌, true≢false, arith}
 use Rattle.std.specs.List.{list_any}
 use Rattle.std.specs.Map.{lookup}
 use Rattle.indexmap.specs.IndexMap.{insert_entry}
+use Rattle.grasp_cbor.proofs.Facts.Lists.{is_some_lookup}
 use Rattle.grasp_types.specs.declared.origin.Origin.{Origin}
 use Rattle.grasp_types.specs.Same.{same_origin}
 use Rattle.grasp_types.specs.declared.address.Address.{Address}
@@ -11,7 +11,6 @@ use Rattle.grasp_discovery.specs.declared.answers.Answered.TheVariants.{Relay}
 use Rattle.grasp_discovery.specs.declared.answers.Heard.TheVariants.{Known, NoPlace, New}
 use Rattle.grasp_discovery.specs.declared.memory.Memory.{Memory}
 use Rattle.grasp_discovery.specs.Discoveries.{Discoveries, heard_reply, memory_of, own_search, asked, asker_of}
-use Rattle.grasp_discovery.proofs.Lists.{is_some_lookup}
 
 -- a new memory goes last
 pub insert_entry_new : (origin : Origin) (memory : Memory) (es : List (Origin × Memory)) → list_any (λ m. same_origin origin m.0) es ≡ false → insert_entry same_origin es origin memory ≡ es ++ (origin, memory) ∷ []
@@ -42,11 +41,6 @@ has_no_place all origin unknown full = let no : nat_lt (length all.memories) 256
 
 pub is_known : (all : Discoveries) (origin : Origin) → list_any (λ m. same_origin origin m.0) all.memories ≡ true → heard_reply all origin ≡ Known
 is_known all origin known = rw known
-
--- what holds anyhow holds after an error
-pub OnErr_anyhow : {T E P : Type 0} (r : Result T E) → P → OnErr r P
-OnErr_anyhow (Ok x) p = tt
-OnErr_anyhow (Err e) p = p
 
 -- Who asked
 

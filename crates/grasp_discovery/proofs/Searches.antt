@@ -1,21 +1,13 @@
 -- What an agent without a search is answered.
-use Rattle.std.proofs.Common.{◌≡◌, ℕ, Bool, true, false, cond, ◌||◌, List, [], ◌∷◌, Option, None, Some, refl, sym, ap, ◌∙◌}
+use Rattle.std.proofs.Common.{◌≡◌, ℕ, Bool, true, false, cond, List, Option, None, Some, refl, sym, ap, ◌∙◌}
 use Rattle.std.specs.Prelude.{find}
-use Rattle.std.specs.List.{list_any}
+use Rattle.grasp_cbor.proofs.Facts.Lists.{missed}
 use Rattle.grasp_types.specs.declared.address.Locator.{Locator}
 use Rattle.grasp_discovery.specs.declared.answers.Find.{Find}
 use Rattle.grasp_discovery.specs.declared.answers.Find.TheVariants.{NotYet, Nothing, Fresh}
 use Rattle.grasp_discovery.specs.declared.search.Search.{Search}
 use Rattle.grasp_discovery.specs.declared.topic.Topic.{Topic}
 use Rattle.grasp_discovery.specs.Discoveries.{Discoveries, is_search_of, is_searching, cached_under, locators_of, find_reply, find_answer, after_find}
-
-missed : {X : Type 0} (p : X → Bool) (xs : List X) → find p xs ≡ None → list_any p xs ≡ false
-missed p [] none = refl
-missed p (x ∷ xs) none = by (p x) none (missed p xs)
-  where
-    by : (b : Bool) → cond b (Some x) (find p xs) ≡ None → (find p xs ≡ None → list_any p xs ≡ false) → (b || list_any p xs) ≡ false
-    by true e rest = absurd (cc)
-    by false e rest = rest e
 
 stands : (over : Bool) → cond over Nothing NotYet ≡ Fresh → ⊥
 stands true e = cc

@@ -1,9 +1,11 @@
 -- Whatever comes, searches, entries, locators and memories stay few, and each has a key of its own.
-use Rattle.std.proofs.Common.{ltb-true, suc, ◌≡◌, ℕ, ◌+◌, ◌<◌, ◌≤◌, Bool, true, false, cond, not, ◌||◌, ◌&&◌, ◌==◌, nat_lt, max, List, [], ◌∷◌, ◌++◌, length, map, filter, Option, Some, None, refl, ap, ◌∙◌, true≢false, arith}
+use Rattle.std.proofs.Common.{ltb-true, ◌≡◌, ℕ, ◌+◌, ◌<◌, ◌≤◌, Bool, true, false, cond, not, ◌||◌, ◌&&◌, ◌==◌, nat_lt, max, List, [], ◌∷◌, ◌++◌, length, map, filter, Option, Some, None, refl, ap, ◌∙◌, arith}
+use Rattle.std.proofs.lemmas.Bool.{or_from, or_parts}
 use Rattle.std.specs.Prelude.{All}
 use Rattle.std.specs.List.{list_any}
 use Rattle.std.specs.Cmp.{decided, unsigned_Decides}
 use Rattle.std.proofs.lemmas.List.Elements.{All-nil, All-cons, All-head, All-tail}
+use Rattle.grasp_cbor.proofs.Facts.Lists.{few_filter, length_map, length_push, any_filter}
 use Rattle.grasp_types.specs.declared.address.Locator.{Locator}
 use Rattle.grasp_types.specs.declared.origin.Origin.{Origin}
 use Rattle.grasp_types.specs.Same.{same_origin}
@@ -22,36 +24,13 @@ use Rattle.grasp_discovery.specs.Topic.{same_topic}
 use Rattle.grasp_discovery.proofs.SameTopics.{same_topic_decides}
 use Rattle.grasp_discovery.specs.Discoveries.{Discoveries, no_discoveries, is_search_of, is_searching, is_full, without_asa, with_search, cached_under, has_topic, is_live, live, after_find, remembers, heard_reply, after_heard, put_locator, has_locator, keep_locator, keep_locators, put_entry, after_response, after_answered, after_reading, live_entry, has_any, after_expiry, AllDiffer, same_search, IsEntry, IsCache, IsDiscoveries}
 
-pub both_false : (s t : Bool) → (s || t) ≡ false → (s ≡ false) × (t ≡ false)
-both_false true t e = absurd (true≢false e)
-both_false false t e = (refl, e)
-
-neither : (s t : Bool) → s ≡ false → t ≡ false → (s || t) ≡ false
-neither true t e d = e
-neither false t e d = d
-
 -- Lists that are filtered
-
-any_filter : {X : Type 0} (t p : X → Bool) (xs : List X) → list_any t xs ≡ false → list_any t (filter p xs) ≡ false
-any_filter t p [] e = e
-any_filter t p (x ∷ xs) e =
-    let h = both_false (t x) (list_any t xs) e in
-    let rest = any_filter t p xs h.1 in
-    elim (p x) as (λ b. list_any t (cond b (x ∷ filter p xs) (filter p xs)) ≡ false) [ true ↦ neither (t x) (list_any t (filter p xs)) h.0 rest | false ↦ rest ]
 
 differ_filter : {X : Type 0} (same : X → X → Bool) (p : X → Bool) (xs : List X) → AllDiffer same xs → AllDiffer same (filter p xs)
 differ_filter same p [] d = d
 differ_filter same p (x ∷ xs) d =
     let rest = differ_filter same p xs d.1 in
     elim (p x) as (λ b. AllDiffer same (cond b (x ∷ filter p xs) (filter p xs))) [ true ↦ (any_filter (same x) p xs d.0, rest) | false ↦ rest ]
-
-length_filter : {X : Type 0} (p : X → Bool) (xs : List X) → length (filter p xs) ≤ length xs
-length_filter p [] = omega arith
-length_filter p (x ∷ xs) = let rest = length_filter p xs in
-    elim (p x) as (λ b. length (cond b (x ∷ filter p xs) (filter p xs)) ≤ length (x ∷ xs)) [ true ↦ omega arith | false ↦ omega arith ]
-
-few_filter : {X : Type 0} (p : X → Bool) (xs : List X) (most : ℕ) → length xs ≤ most → length (filter p xs) ≤ most
-few_filter p xs most h = omega (arith, length_filter p xs)
 
 -- Lists through a function that keeps the keys
 
@@ -63,27 +42,19 @@ differ_map : {X Y : Type 0} (f : X → Y) (same : Y → Y → Bool) (xs : List X
 differ_map f same [] d = d
 differ_map f same (x ∷ xs) d = (any_map f (same (f x)) xs ∙ d.0, differ_map f same xs d.1)
 
-pub length_map : {X Y : Type 0} (f : X → Y) (xs : List X) → length (map f xs) ≡ length xs
-length_map f [] = refl
-length_map f (x ∷ xs) = ap suc (length_map f xs)
-
 -- One more at the end
 
 any_push : {X : Type 0} (t : X → Bool) (xs : List X) (new : X) → list_any t xs ≡ false → t new ≡ false → list_any t (xs ++ new ∷ []) ≡ false
-any_push t [] new e d = neither (t new) false d refl
+any_push t [] new e d = or_from (t new) false d refl
 any_push t (x ∷ xs) new e d =
-    let h = both_false (t x) (list_any t xs) e in
-    neither (t x) (list_any t (xs ++ new ∷ [])) h.0 (any_push t xs new h.1 d)
+    let h = or_parts (t x) (list_any t xs) e in
+    or_from (t x) (list_any t (xs ++ new ∷ [])) h.0 (any_push t xs new h.1 d)
 
 differ_push : {X : Type 0} (same : X → X → Bool) → ((a b : X) → same a b ≡ same b a) → (xs : List X) (new : X) → list_any (same new) xs ≡ false → AllDiffer same xs → AllDiffer same (xs ++ new ∷ [])
 differ_push same symm [] new e d = (refl, d)
 differ_push same symm (x ∷ xs) new e d =
-    let h = both_false (same new x) (list_any (same new) xs) e in
+    let h = or_parts (same new x) (list_any (same new) xs) e in
     (any_push (same x) xs new d.0 (symm x new ∙ h.0), differ_push same symm xs new h.1 d.1)
-
-length_push : {X : Type 0} (xs : List X) (x : X) → length (xs ++ x ∷ []) ≡ length xs + 1
-length_push [] x = refl
-length_push (y ∷ xs) x = let rest = length_push xs x in omega (arith, rest)
 
 -- Locators of an entry
 
@@ -91,10 +62,10 @@ abbrev one_locator : Cached → Cached → Bool
 one_locator a b = same_locator a.locator b.locator
 
 any_put_locator : (t : Locator → Bool) (new : Locator) (last : ℕ) (cs : List Cached) → list_any (λ c. t c.locator) cs ≡ false → t new ≡ false → list_any (λ c. t c.locator) (put_locator new last cs) ≡ false
-any_put_locator t new last [] e d = neither (t new) false d refl
+any_put_locator t new last [] e d = or_from (t new) false d refl
 any_put_locator t new last (c ∷ cs) e d =
-    let h = both_false (t c.locator) (list_any (λ c. t c.locator) cs) e in
-    let rest = neither (t c.locator) (list_any (λ c. t c.locator) (put_locator new last cs)) h.0 (any_put_locator t new last cs h.1 d) in
+    let h = or_parts (t c.locator) (list_any (λ c. t c.locator) cs) e in
+    let rest = or_from (t c.locator) (list_any (λ c. t c.locator) (put_locator new last cs)) h.0 (any_put_locator t new last cs h.1 d) in
     elim (same_locator new c.locator) as (λ b. list_any (λ c. t c.locator) (cond b (record c { end = max c.end last } ∷ cs) (c ∷ put_locator new last cs)) ≡ false) [ true ↦ e | false ↦ rest ]
 
 differ_put_locator : (new : Locator) (last : ℕ) (cs : List Cached) → AllDiffer one_locator cs → AllDiffer one_locator (put_locator new last cs)
@@ -170,10 +141,10 @@ few_under topic (e ∷ es) h =
     elim (same_topic topic e.0) as (λ b. IsFew (cond b e.1 (cached_under topic es))) [ true ↦ record { few = here.few; own = here.own_locators } | false ↦ rest ]
 
 any_put : (t : Topic → Bool) (topic : Topic) (cs : List Cached) (es : List (Topic × List Cached)) → list_any (λ e. t e.0) es ≡ false → t topic ≡ false → list_any (λ e. t e.0) (put_entry topic cs es) ≡ false
-any_put t topic cs [] e d = neither (t topic) false d refl
+any_put t topic cs [] e d = or_from (t topic) false d refl
 any_put t topic cs (x ∷ xs) e d =
-    let h = both_false (t x.0) (list_any (λ a. t a.0) xs) e in
-    let rest = neither (t x.0) (list_any (λ a. t a.0) (put_entry topic cs xs)) h.0 (any_put t topic cs xs h.1 d) in
+    let h = or_parts (t x.0) (list_any (λ a. t a.0) xs) e in
+    let rest = or_from (t x.0) (list_any (λ a. t a.0) (put_entry topic cs xs)) h.0 (any_put t topic cs xs h.1 d) in
     elim (same_topic topic x.0) as (λ b. list_any (λ a. t a.0) (cond b ((x.0, cs) ∷ xs) (x ∷ put_entry topic cs xs)) ≡ false) [ true ↦ e | false ↦ rest ]
 
 differ_put : (topic : Topic) (cs : List Cached) (es : List (Topic × List Cached)) → AllDiffer one_topic es → AllDiffer one_topic (put_entry topic cs es)

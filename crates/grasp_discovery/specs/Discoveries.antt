@@ -38,7 +38,7 @@ no_discoveries = record { searches = []; entries = []; memories = [] }
 
 -- Searches
 
--- this agent searches for this topic
+-- the search is this agent's for this topic
 abbrev pub is_search_of : ℕ → Topic → Search → Bool
 is_search_of asa topic search = (search.asa == asa) && same_topic topic search.topic
 
@@ -96,16 +96,16 @@ abbrev pub some_of : {X : Type 0} → List X → Option (List X)
 some_of [] = None
 some_of (x ∷ xs) = Some (x ∷ xs)
 
--- the list, or none
+-- Inside: the list, or none
 abbrev pub or_none : {X : Type 0} → Option (List X) → List X
 or_none None = []
 or_none (Some xs) = xs
 
--- these locators, where there are any
+-- the locators of what is cached, where there are any
 abbrev pub locators_of : List Cached → Option (List Locator)
 locators_of cached = some_of (map (λ one. one.locator) cached)
 
--- it ends after this reading
+-- the cached locator ends after this time
 abbrev pub is_live : ℕ → Cached → Bool
 is_live now one = nat_lt now one.end
 
@@ -198,7 +198,7 @@ answered_reply None = Stranger
 abbrev pub end_of : ℕ → ℕ → ℕ
 end_of now ttl = reading_after now (if ttl == 0 then 600000 else ttl)
 
--- it is cached already
+-- the locator is cached already
 abbrev pub has_locator : Locator → List Cached → Bool
 has_locator locator cached = list_any (λ one. same_locator locator one.locator) cached
 

@@ -40,7 +40,7 @@ abbrev pub KnownIsFound : Type 0
 KnownIsFound = (all : Discoveries) (now asa : ℕ) (topic : Topic)
     → option_map (λ known. known.0) (known_of (after_expiry all now) topic now) ≡ locators_found (find_answer (after_expiry all now) asa topic)
 
--- it begins sound, and each call leaves it so
+-- the discoveries of a node begin sound, and each call leaves them so
 abbrev pub DiscoveriesAreKept : Type 0
 DiscoveriesAreKept = IsDiscoveries no_discoveries × ((all : Discoveries) → IsDiscoveries all →
     ((asa : ℕ) (topic : Topic) → IsDiscoveries (after_find all asa topic (find_answer all asa topic)))
@@ -71,7 +71,7 @@ pub record KeepsTheRest (all : Discoveries) (now : ℕ) : Type 0 where
   pub memories : IsPartOf (after_expiry all now).memories all.memories
   pub remembered : All (λ memory. now < memory.1.end → Contains (after_expiry all now).memories memory) all.memories
 
--- so it is with each
+-- each expiry drops only what has ended
 abbrev pub OnlyTheEndedGo : Type 0
 OnlyTheEndedGo = (all : Discoveries) (now : ℕ) → IsDiscoveries all → KeepsTheRest all now
 

@@ -3,6 +3,7 @@
 ghost use Rattle.grasp_discovery.specs.Laws.{ExpiryTwiceIsOnce, NothingEndedStays, KnownIsFound, DiscoveriesAreKept, OnlyTheEndedGo, LocatorsAreAnswers, ToldIsCached, RememberedStays};
 
 /// What has expired at a reading leaves nothing more to expire at that reading.
+#[tactic(auto, using(crate::proofs::Expiry::expiry_twice))]
 pub fn expiry_twice_is_once()
     ensures { ExpiryTwiceIsOnce }
 {}
@@ -42,6 +43,7 @@ pub fn told_is_cached()
 
 /// A new discovery is remembered with its cause and its topic: it stays so through every call but an expiry at its end or
 /// past it, and for so long it is known.
+#[tactic(auto, using(crate::proofs::LawDiscoveries::remembered_stays))]
 pub fn remembered_stays()
     ensures { RememberedStays }
 {}

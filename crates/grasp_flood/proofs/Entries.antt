@@ -1,8 +1,10 @@
 -- What the calls of a map do to lists of entries.
-use Rattle.std.specs.Prelude.{Result, Ok, Err, OnErr, Any}
-use Rattle.std.proofs.Common.{lt-ltb, zero, suc, ◌≡◌, ℕ, ◌+◌, ◌<◌, ◌≤◌, Bool, true, false, cond, not, ◌||◌, nat_lt, List, [], ◌∷◌, ◌++◌, length, map, filter, take, slice_get, Some, is_some, refl, sym, ap, ◌∙◌, true≢false, arith, add-one}
+use Rattle.std.specs.Prelude.{Any}
+use Rattle.std.proofs.Common.{lt-ltb, zero, suc, ◌≡◌, ℕ, ◌+◌, ◌<◌, ◌≤◌, Bool, true, false, cond, not, ◌||◌, nat_lt, List, [], ◌∷◌, ◌++◌, length, map, filter, take, slice_get, Some, is_some, refl, sym, ap, ◌∙◌, true≢false, arith}
 use Rattle.std.specs.List.{list_any}
 use Rattle.std.specs.Map.{lookup}
+use Rattle.grasp_cbor.proofs.Facts.Lists.{map_append, filter_append, is_some_lookup}
+use Rattle.grasp_cbor.proofs.Places.{take_got}
 use Rattle.indexmap.specs.IndexMap.{insert_entry}
 use Rattle.grasp_types.specs.declared.origin.Origin.{Origin}
 use Rattle.grasp_types.specs.Same.{same_origin}
@@ -11,12 +13,6 @@ use Rattle.grasp_flood.specs.declared.kept.FloodKept.{FloodKept}
 use Rattle.grasp_flood.specs.Flood.{same_key}
 use Rattle.grasp_flood.specs.declared.heard.Heard.TheVariants.{Known, NoPlace, New}
 use Rattle.grasp_flood.specs.Floods.{Floods, put, heard_reply}
-
--- a look-up finds something exactly where a key passes
-pub is_some_lookup : {K V : Type 0} (test : K → Bool) (es : List (K × V)) → is_some (lookup test es) ≡ list_any (λ e. test e.0) es
-is_some_lookup test [] = refl
-is_some_lookup test (e ∷ es) =
-    elim (test e.0) as (λ b. is_some (cond b (Some e.1) (lookup test es)) ≡ (b || list_any (λ x. test x.0) es)) [ true ↦ refl | false ↦ is_some_lookup test es ]
 
 -- a map's insert puts an entry
 pub insert_entry_put : (es : List (FloodKey × FloodKept)) (key : FloodKey) (kept : FloodKept) → insert_entry same_key es key kept ≡ put (key, kept) es
@@ -53,28 +49,9 @@ fewer_where_any p (x ∷ xs) =
     by true rest less = grind arith
     by false rest less = grind arith
 
-take_suc : {X : Type 0} (xs : List X) (i : ℕ) (x : X) → slice_get xs i ≡ Some x → take (suc i) xs ≡ take i xs ++ x ∷ []
-take_suc [] i x e = cc
-take_suc (y ∷ ys) zero x e = cc
-take_suc (y ∷ ys) (suc i) x e = ap (λ rest. y ∷ rest) (take_suc ys i x e)
-
--- one more part
-pub take_one_more : {X : Type 0} (xs : List X) (i : ℕ) (x : X) → slice_get xs i ≡ Some x → take (i + 1) xs ≡ take i xs ++ x ∷ []
-take_one_more xs i x e = ap (λ n. take n xs) (add-one i) ∙ take_suc xs i x e
-
-pub map_append : {X Y : Type 0} (f : X → Y) (xs ys : List X) → map f (xs ++ ys) ≡ map f xs ++ map f ys
-map_append f [] ys = refl
-map_append f (x ∷ xs) ys = ap (λ rest. f x ∷ rest) (map_append f xs ys)
-
-filter_append : {X : Type 0} (p : X → Bool) (xs ys : List X) → filter p (xs ++ ys) ≡ filter p xs ++ filter p ys
-filter_append p [] ys = refl
-filter_append p (x ∷ xs) ys = let rest = filter_append p xs ys in
-    elim (p x) as (λ b. cond b (x ∷ filter p (xs ++ ys)) (filter p (xs ++ ys)) ≡ cond b (x ∷ filter p xs) (filter p xs) ++ filter p ys)
-    [ true ↦ ap (λ zs. x ∷ zs) rest | false ↦ rest ]
-
 module _ {X Y : Type 0} (p : X → Bool) (f : X → Y) (xs : List X) (i : ℕ) (x : X) where
   seam : slice_get xs i ≡ Some x → map f (filter p (take (i + 1) xs)) ≡ map f (filter p (take i xs)) ++ map f (filter p (x ∷ []))
-  seam e = ap (λ zs. map f (filter p zs)) (take_one_more xs i x e) ∙ ap (map f) (filter_append p (take i xs) (x ∷ [])) ∙ map_append f (filter p (take i xs)) (filter p (x ∷ []))
+  seam e = ap (λ zs. map f (filter p zs)) (take_got xs i x e) ∙ ap (map f) (filter_append p (take i xs) (x ∷ [])) ∙ map_append f (filter p (take i xs)) (filter p (x ∷ []))
 
   -- one more that passes the test
   pub passes_more : slice_get xs i ≡ Some x → p x ≡ true → map f (filter p (take (i + 1) xs)) ≡ map f (filter p (take i xs)) ++ f x ∷ []
@@ -108,8 +85,3 @@ pub any_at : {X : Type 0} (P : X → Type 0) (xs : List X) (i : ℕ) (x : X) →
 any_at P [] i x e h = absurd (cc)
 any_at P (y ∷ ys) zero x e h = let same : y ≡ x = cc in (0, x, omega arith, same, h)
 any_at P (y ∷ ys) (suc i) x e h = let rest = any_at P ys i x e h in (suc rest.0, rest.1, omega (arith, rest.2), rest.3, rest.4)
-
--- what holds anyhow holds after an error
-pub OnErr_anyhow : {T E P : Type 0} (r : Result T E) → P → OnErr r P
-OnErr_anyhow (Ok x) p = tt
-OnErr_anyhow (Err e) p = p

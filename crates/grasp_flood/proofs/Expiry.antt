@@ -1,15 +1,8 @@
 -- What an expiry leaves.
-use Rattle.std.proofs.Common.{◌≡◌, ℕ, ◌<◌, Bool, true, false, cond, nat_lt, List, [], ◌∷◌, filter, Option, Some, None, IfSome, All, refl, ap, ◌∙◌, ltb-true}
+use Rattle.std.proofs.Common.{◌≡◌, ℕ, ◌<◌, true, nat_lt, Option, Some, None, IfSome, All, ltb-true}
 use Rattle.std.proofs.lemmas.List.Elements.{filter_passes}
+use Rattle.grasp_cbor.proofs.Facts.Lists.{filter_twice}
 use Rattle.grasp_flood.specs.Floods.{Floods, is_after, after_expiry}
-
-filter_twice : {X : Type 0} (p : X → Bool) (xs : List X) → filter p (filter p xs) ≡ filter p xs
-filter_twice p [] = refl
-filter_twice p (x ∷ xs) = by (p x) refl (filter_twice p xs)
-  where
-    by : (b : Bool) → p x ≡ b → filter p (filter p xs) ≡ filter p xs → filter p (cond b (x ∷ filter p xs) (filter p xs)) ≡ cond b (x ∷ filter p xs) (filter p xs)
-    by true e rest = ap (λ b. cond b (x ∷ filter p (filter p xs)) (filter p (filter p xs))) e ∙ ap (λ zs. x ∷ zs) rest
-    by false e rest = rest
 
 pub expiry_twice : (floods : Floods) (now : ℕ) → after_expiry (after_expiry floods now) now ≡ after_expiry floods now
 expiry_twice floods now = λ i. record {

@@ -1,11 +1,12 @@
 -- What floods and expiries leave in the cache, and what is remembered.
-use Rattle.std.proofs.Common.{zero, suc, ◌≡◌, ℕ, ◌+◌, ◌<◌, ◌≤◌, Bool, true, false, cond, ◌||◌, nat_lt, max, List, [], ◌∷◌, ◌++◌, length, map, filter}
-use Rattle.std.proofs.Common.{fold, get_or, Option, Some, None, IfSome, All, ◌⊎◌, inl, inr, refl, sym, ap, ◌∙◌, subst, true≢false, arith, lt-ltb}
-use Rattle.std.specs.Prelude.{Any, Contains, slice_index_or}
-use Rattle.std.specs.List.{list_any}
-use Rattle.std.proofs.lemmas.List.Elements.{All-nil, All-cons, All-head, All-tail, All-map, All-filter, filter_passes, Contains-push, Contains-append_left}
+use Rattle.std.proofs.Common.{◌≡◌, ℕ, ◌<◌, ◌≤◌, Bool, true, false, cond, nat_lt, max, List, [], ◌∷◌, length, map, filter}
+use Rattle.std.proofs.Common.{fold, get_or, Option, Some, None, IfSome, All, ◌⊎◌, inl, inr, refl, sym, ap, ◌∙◌, subst, arith, lt-ltb}
+use Rattle.std.proofs.lemmas.Bool.{or_parts}
+use Rattle.std.specs.Prelude.{Any, Contains}
+use Rattle.std.proofs.lemmas.List.Elements.{All-cons, All-head, All-tail, All-map, All-filter, filter_passes, Contains-push, Contains-append_left}
 use Rattle.std.proofs.lemmas.List.Folds.{list_any_at}
 use Rattle.std.proofs.lemmas.Slice.Eq.{bytes_eq-Decides}
+use Rattle.grasp_cbor.proofs.Facts.Lists.{stands_at, filter_keeps, all_stay}
 use Rattle.grasp_types.specs.declared.flood.FloodPart.{FloodPart}
 use Rattle.grasp_types.specs.declared.flood.FloodRead.{FloodRead}
 use Rattle.grasp_types.specs.declared.origin.Origin.{Origin}
@@ -15,39 +16,17 @@ use Rattle.grasp_types.proofs.Same.{same_origin_decides}
 use Rattle.grasp_flood.specs.declared.heard.Heard.TheVariants.{Known, NoPlace, New}
 use Rattle.grasp_flood.specs.declared.keys.FloodKey.{FloodKey}
 use Rattle.grasp_flood.specs.declared.kept.FloodKept.{FloodKept}
-use Rattle.grasp_flood.specs.Flood.{same_key, key_of}
+use Rattle.grasp_flood.specs.Flood.{same_key}
 use Rattle.grasp_flood.specs.Floods.{Floods, has_key, put, after_keep, after_renewal, is_made_by, is_named, later_end, end_of, entry_of, read_of}
-use Rattle.grasp_flood.specs.Floods.{reads_of, is_after, remembers, heard_reply, after_heard, after_drop, after_expiry}
-use Rattle.grasp_flood.specs.Laws.{IsPartOf, kept_under, or_else, last_told, IsLastKept, IsOld, IsRemembered, NewIsRemembered, RememberedStays}
+use Rattle.grasp_flood.specs.Floods.{is_after, remembers, after_heard}
+use Rattle.grasp_flood.specs.Laws.{kept_under, or_else, last_told, IsLastKept, IsOld, IsRemembered, RememberedStays}
 use Rattle.grasp_flood.specs.Laws.{OnlyTheEndedGo, LastPartIsKept, EntriesAreTold, ReadsAreEntries}
 use Rattle.grasp_flood.proofs.SameKeys.{same_key_decides}
 use Rattle.grasp_flood.proofs.Entries.{is_known}
-use Rattle.grasp_flood.proofs.Soundness.{both_false, length_put}
+use Rattle.grasp_flood.proofs.Facts.{part_filter}
+use Rattle.grasp_flood.proofs.Soundness.{length_put}
 
 -- What a filter leaves
-
-part_filter : {X : Type 0} (p : X → Bool) (xs : List X) → IsPartOf (filter p xs) xs
-part_filter p [] = refl
-part_filter p (x ∷ xs) = let rest = part_filter p xs in
-    elim (p x) as (λ b. IsPartOf (cond b (x ∷ filter p xs) (filter p xs)) (x ∷ xs)) [ true ↦ inr (filter p xs, refl, rest) | false ↦ inl rest ]
-
-filter_keeps : {X : Type 0} (p : X → Bool) (xs : List X) (k : ℕ) (x : X) → k < length xs → slice_index_or xs k x ≡ x → p x ≡ true → Contains (filter p xs) x
-filter_keeps p [] k x h e t = absurd (omega arith)
-filter_keeps p (y ∷ ys) zero x h e t =
-    let there : p y ≡ true = ap p e ∙ t in
-    subst (λ b. Contains (cond b (y ∷ filter p ys) (filter p ys)) x) (sym there) (0, omega arith, e)
-filter_keeps p (y ∷ ys) (suc k) x h e t =
-    let rest = filter_keeps p ys k x (omega arith) e t in
-    elim (p y) as (λ b. Contains (cond b (y ∷ filter p ys) (filter p ys)) x) [ true ↦ (suc rest.0, omega (arith, rest.1), rest.2) | false ↦ rest ]
-
--- the element at a place stands there whatever stands elsewhere
-stands_at : {X : Type 0} (xs : List X) (k : ℕ) (d : X) → k < length xs → slice_index_or xs k (get_or xs k d) ≡ get_or xs k d
-stands_at [] k d h = absurd (omega arith)
-stands_at (x ∷ xs) zero d h = refl
-stands_at (x ∷ xs) (suc k) d h = stands_at xs k d (omega arith)
-
-all_stay : {X : Type 0} (p : X → Bool) (P : X → Type 0) → ((x : X) → P x → p x ≡ true) → (xs : List X) → All (λ x. P x → Contains (filter p xs) x) xs
-all_stay p P passes xs = λ k d h holds. filter_keeps p xs k (get_or xs k d) h (stands_at xs k d h) (passes (get_or xs k d) holds)
 
 is_after_where : (now : ℕ) (last : Option ℕ) → IfSome last (λ n. now < n) → is_after now last ≡ true
 is_after_where now None e = refl
@@ -66,7 +45,7 @@ only_the_ended floods now = (
 under_none : (key : FloodKey) (es : List (FloodKey × FloodKept)) → has_key key es ≡ false → kept_under key es ≡ None
 under_none key [] none = refl
 under_none key (e ∷ es) none =
-    let h = both_false (same_key key e.0) (has_key key es) none in
+    let h = or_parts (same_key key e.0) (has_key key es) none in
     ap (λ b. cond b (Some e.1) (kept_under key es)) h.0 ∙ under_none key es h.1
 
 under_put_same : (new : FloodKey × FloodKept) (es : List (FloodKey × FloodKept)) → kept_under new.0 (put new es) ≡ Some new.1
@@ -243,7 +222,7 @@ entries_told floods now flood ttl parts = by (remembers floods flood) (nat_lt (l
         (told_now floods.entries flood (end_of now ttl) parts) (told_before floods.entries flood (end_of now ttl) parts)
     by false false = told_before floods.entries flood (end_of now ttl) parts
 
--- this is what an entry of the name tells
+-- what was read is what an entry of this name reports
 abbrev IsReadOf : List (FloodKey × FloodKept) → List ℕ → FloodRead → Type 0
 IsReadOf entries name read = Any (λ entry. (entry.0.name ≡ name) × (read ≡ read_of entry)) entries
 

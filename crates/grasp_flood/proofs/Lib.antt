@@ -1,4 +1,5 @@
 pub mod Entries
+pub mod Facts
 pub mod SameKeys
 pub mod Soundness
 pub mod Expiry

@@ -1,7 +1,9 @@
 -- Whatever comes, the entries stay few and under keys that differ, and so do the memories.
-use Rattle.std.proofs.Common.{ltb-true, suc, ◌≡◌, ℕ, ◌+◌, ◌<◌, ◌≤◌, Bool, true, false, cond, not, ◌||◌, nat_lt, List, [], ◌∷◌, ◌++◌, length, map, filter, fold, Option, refl, ap, ◌∙◌, true≢false, arith}
+use Rattle.std.proofs.Common.{ltb-true, ◌≡◌, ℕ, ◌+◌, ◌<◌, ◌≤◌, Bool, true, false, cond, not, ◌||◌, nat_lt, List, [], ◌∷◌, ◌++◌, length, map, filter, fold, Option, refl, ap, ◌∙◌, arith}
+use Rattle.std.proofs.lemmas.Bool.{or_from, or_parts}
 use Rattle.std.specs.List.{list_any}
 use Rattle.std.specs.Cmp.{decided}
+use Rattle.grasp_cbor.proofs.Facts.Lists.{few_filter, length_map, length_push, any_filter}
 use Rattle.grasp_types.specs.declared.flood.FloodPart.{FloodPart}
 use Rattle.grasp_types.specs.declared.origin.Origin.{Origin}
 use Rattle.grasp_types.specs.Same.{same_origin}
@@ -14,64 +16,37 @@ use Rattle.grasp_flood.specs.Flood.{same_key}
 use Rattle.grasp_flood.proofs.SameKeys.{same_key_decides}
 use Rattle.grasp_flood.specs.Floods.{Floods, no_floods, has_key, put, after_keep, after_renewal, is_made_by, later_end, end_of, entry_of, is_after, remembers, heard_reply, after_heard, after_drop, after_expiry, AllDiffer, IsFloods}
 
-pub both_false : (s t : Bool) → (s || t) ≡ false → (s ≡ false) × (t ≡ false)
-both_false true t e = absurd (true≢false e)
-both_false false t e = (refl, e)
-
-neither : (s t : Bool) → s ≡ false → t ≡ false → (s || t) ≡ false
-neither true t e d = e
-neither false t e d = d
-
-any_filter : {X : Type 0} (t p : X → Bool) (xs : List X) → list_any t xs ≡ false → list_any t (filter p xs) ≡ false
-any_filter t p [] e = e
-any_filter t p (x ∷ xs) e =
-    let h = both_false (t x) (list_any t xs) e in
-    let rest = any_filter t p xs h.1 in
-    elim (p x) as (λ b. list_any t (cond b (x ∷ filter p xs) (filter p xs)) ≡ false) [ true ↦ neither (t x) (list_any t (filter p xs)) h.0 rest | false ↦ rest ]
-
 AllDiffer_filter : {X : Type 0} (same : X → X → Bool) (p : X → Bool) (xs : List X) → AllDiffer same xs → AllDiffer same (filter p xs)
 AllDiffer_filter same p [] d = d
 AllDiffer_filter same p (x ∷ xs) d =
     let rest = AllDiffer_filter same p xs d.1 in
     elim (p x) as (λ b. AllDiffer same (cond b (x ∷ filter p xs) (filter p xs))) [ true ↦ (any_filter (same x) p xs d.0, rest) | false ↦ rest ]
 
-length_filter : {X : Type 0} (p : X → Bool) (xs : List X) → length (filter p xs) ≤ length xs
-length_filter p [] = omega arith
-length_filter p (x ∷ xs) = let rest = length_filter p xs in
-    elim (p x) as (λ b. length (cond b (x ∷ filter p xs) (filter p xs)) ≤ length (x ∷ xs)) [ true ↦ omega arith | false ↦ omega arith ]
-
-few_filter : {X : Type 0} (p : X → Bool) (xs : List X) (most : ℕ) → length xs ≤ most → length (filter p xs) ≤ most
-few_filter p xs most h = omega (arith, length_filter p xs)
-
 -- a new memory
 
 any_push : (flood : Origin) (xs : List (Origin × ℕ)) (new : Origin × ℕ) → list_any (λ m. same_origin flood m.0) xs ≡ false → same_origin flood new.0 ≡ false
     → list_any (λ m. same_origin flood m.0) (xs ++ new ∷ []) ≡ false
-any_push flood [] new e d = neither (same_origin flood new.0) false d refl
+any_push flood [] new e d = or_from (same_origin flood new.0) false d refl
 any_push flood (x ∷ xs) new e d =
-    let h = both_false (same_origin flood x.0) (list_any (λ m. same_origin flood m.0) xs) e in
-    neither (same_origin flood x.0) (list_any (λ m. same_origin flood m.0) (xs ++ new ∷ [])) h.0 (any_push flood xs new h.1 d)
+    let h = or_parts (same_origin flood x.0) (list_any (λ m. same_origin flood m.0) xs) e in
+    or_from (same_origin flood x.0) (list_any (λ m. same_origin flood m.0) (xs ++ new ∷ [])) h.0 (any_push flood xs new h.1 d)
 
 differ_push : (xs : List (Origin × ℕ)) (new : Origin × ℕ) → list_any (λ m. same_origin new.0 m.0) xs ≡ false → AllDiffer (λ a b. same_origin a.0 b.0) xs
     → AllDiffer (λ a b. same_origin a.0 b.0) (xs ++ new ∷ [])
 differ_push [] new e d = (refl, d)
 differ_push (x ∷ xs) new e d =
-    let h = both_false (same_origin new.0 x.0) (list_any (λ m. same_origin new.0 m.0) xs) e in
+    let h = or_parts (same_origin new.0 x.0) (list_any (λ m. same_origin new.0 m.0) xs) e in
     let apart : same_origin x.0 new.0 ≡ false = (decided same_origin same_origin_decides).symm x.0 new.0 ∙ h.0 in
     (any_push x.0 xs new d.0 apart, differ_push xs new h.1 d.1)
-
-length_push : {X : Type 0} (xs : List X) (x : X) → length (xs ++ x ∷ []) ≡ length xs + 1
-length_push [] x = refl
-length_push (y ∷ xs) x = let rest = length_push xs x in omega (arith, rest)
 
 -- an entry that is put
 
 any_put : (key : FloodKey) (new : FloodKey × FloodKept) (xs : List (FloodKey × FloodKept)) → list_any (λ e. same_key key e.0) xs ≡ false → same_key key new.0 ≡ false
     → list_any (λ e. same_key key e.0) (put new xs) ≡ false
-any_put key new [] e d = neither (same_key key new.0) false d refl
+any_put key new [] e d = or_from (same_key key new.0) false d refl
 any_put key new (x ∷ xs) e d =
-    let h = both_false (same_key key x.0) (list_any (λ a. same_key key a.0) xs) e in
-    let rest = neither (same_key key x.0) (list_any (λ a. same_key key a.0) (put new xs)) h.0 (any_put key new xs h.1 d) in
+    let h = or_parts (same_key key x.0) (list_any (λ a. same_key key a.0) xs) e in
+    let rest = or_from (same_key key x.0) (list_any (λ a. same_key key a.0) (put new xs)) h.0 (any_put key new xs h.1 d) in
     elim (same_key new.0 x.0) as (λ b. list_any (λ a. same_key key a.0) (cond b ((x.0, new.1) ∷ xs) (x ∷ put new xs)) ≡ false) [ true ↦ e | false ↦ rest ]
 
 differ_put : (new : FloodKey × FloodKept) (xs : List (FloodKey × FloodKept)) → AllDiffer (λ a b. same_key a.0 b.0) xs → AllDiffer (λ a b. same_key a.0 b.0) (put new xs)
@@ -137,10 +112,6 @@ differ_renewal flood last (x ∷ xs) d = (
   ap (λ k. list_any (λ e. same_key k e.0) (map (after_renewal flood last) xs)) (renewal_key flood last x) ∙ any_renewal flood last (same_key x.0) xs ∙ d.0,
   differ_renewal flood last xs d.1,
 )
-
-length_map : {X Y : Type 0} (f : X → Y) (xs : List X) → length (map f xs) ≡ length xs
-length_map f [] = refl
-length_map f (x ∷ xs) = ap suc (length_map f xs)
 
 -- the calls
 

@@ -37,7 +37,7 @@ later_end None b = None
 later_end (Some a) None = None
 later_end (Some a) (Some b) = Some (max a b)
 
--- it ends after this reading, or never
+-- the end comes after this time, or never
 abbrev pub is_after : ℕ → Option ℕ → Bool
 is_after now None = true
 is_after now (Some last) = nat_lt now last
@@ -60,12 +60,12 @@ entry_of flood last part = (
 abbrev pub has_key : FloodKey → List (FloodKey × FloodKept) → Bool
 has_key key entries = list_any (λ entry. same_key key entry.0) entries
 
--- it takes the place of what is kept under its key, and comes last where nothing is
+-- a new entry takes the place of the entry under its key, and comes last where there is none
 abbrev pub put : FloodKey × FloodKept → List (FloodKey × FloodKept) → List (FloodKey × FloodKept)
 put new [] = new ∷ []
 put new (old ∷ rest) = if same_key new.0 old.0 then (old.0, new.1) ∷ rest else old ∷ put new rest
 
--- it is kept where something is kept under its key, and else exactly where fewer than 128 entries are
+-- a new entry is kept where one is kept under its key, and else exactly where there are fewer than 128 entries
 abbrev pub after_keep : List (FloodKey × FloodKept) → FloodKey × FloodKept → List (FloodKey × FloodKept)
 after_keep entries new =
     if has_key new.0 entries then put new entries

@@ -63,7 +63,7 @@ IsLastKept flood last key before after (Some part) =
     ⊎ ((kept_under key after ≡ None) × (kept_under key before ≡ None) × (128 ≤ length after))
 IsLastKept flood last key before after None = kept_under key after ≡ kept_under key before
 
--- so it is after each new flood
+-- after each new flood, its last part under a key is kept where there is a place; without such a part, what was kept under the key stays
 abbrev pub LastPartIsKept : Type 0
 LastPartIsKept = (floods : Floods) (now : ℕ) (flood : Origin) (ttl : ℕ) (parts : List FloodPart) (key : FloodKey)
     → IsLastKept flood (end_of now ttl) key floods.entries (after_heard floods now flood ttl parts New).entries (last_told flood key parts)

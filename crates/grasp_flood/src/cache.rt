@@ -171,7 +171,7 @@ fn keep_all(entries: &mut Entries, told: Vec<(FloodKey, FloodKept)>)
 }
 
 /// Keeps this, where something is kept under its key or fewer than 128 entries are. There is room for one more.
-#[tactic(auto, using(crate::proofs::Entries::is_some_lookup, crate::proofs::Entries::insert_entry_put))]
+#[tactic(auto, using(grasp_cbor::proofs::Facts::Lists::is_some_lookup, crate::proofs::Entries::insert_entry_put))]
 fn keep(entries: &mut Entries, key: FloodKey, kept: FloodKept)
     requires { 0 < spare entries.old }
     ensures after { entries.new.entries ≡ after_keep entries.old.entries (key, kept) }

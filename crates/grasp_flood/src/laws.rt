@@ -3,6 +3,7 @@
 ghost use Rattle.grasp_flood.specs.Laws.{ExpiryTwiceIsOnce, NothingEndedStays, FloodsAreKept, OnlyTheEndedGo, LastPartIsKept, EntriesAreTold, ReadsAreEntries, RememberedStays};
 
 /// What has expired at a reading leaves nothing more to expire at that reading.
+#[tactic(auto, using(crate::proofs::Expiry::expiry_twice))]
 pub fn expiry_twice_is_once()
     ensures { ExpiryTwiceIsOnce }
 {}
@@ -40,6 +41,7 @@ pub fn reads_are_entries()
 
 /// A new flood is remembered for 120000 ms: it stays so through every call but an expiry at its end or past it, and for so
 /// long it is known.
+#[tactic(auto, using(crate::proofs::LawFloods::remembered_stays))]
 pub fn remembered_stays()
     ensures { RememberedStays }
 {}

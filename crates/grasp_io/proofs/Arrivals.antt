@@ -1,5 +1,6 @@
 -- What links in memory give.
-use Rattle.std.proofs.Common.{◌≡◌, ◌≤◌, ◌<◌, ℕ, length, get_or, Some, true, false, sym, refl, subst, arith}
+use Rattle.std.proofs.Common.{◌≡◌, ◌≤◌, ◌<◌, ℕ, length, get_or, Some, true, false, sym, refl, subst}
+use Rattle.std.proofs.lemmas.Bool.{le-leb}
 use Rattle.std.specs.Prelude.{slice_get, nat_le, ◌==◌}
 use Rattle.std.specs.List.{list_any}
 use Rattle.std.proofs.lemmas.Option.{slice_get_read}
@@ -8,9 +9,6 @@ use Rattle.grasp_io.specs.declared.links.Asked.TheVariants.{Got}
 use Rattle.grasp_io.specs.declared.memory_links.Arrival.{Arrival}
 use Rattle.grasp_io.specs.Memory.{one_more, next_fails}
 use Rattle.grasp_io.specs.MemoryLinks.{LinksState, comes, can_come, IsAsked}
-
-is_le : (a b : ℕ) → a ≤ b → nat_le a b ≡ true
-is_le a b l = grind (arith)
 
 given_is : (links : LinksState) (arrival : Arrival) → next_fails links.quiet links.asks ≡ false
     → slice_get links.arrivals links.next ≡ Some arrival → nat_le arrival.ask (one_more links.asks) ≡ true
@@ -24,6 +22,6 @@ pub arrival_comes : (links : LinksState) (arrival : Arrival) (input : Input) (nu
     → input ≡ arrival.input → IsAsked (comes links) (Got input)
 arrival_comes links arrival input number n q l a t o e =
     let quiet : next_fails links.quiet links.asks ≡ false = subst (λ k. list_any (λ n. n == k) links.quiet ≡ false) n q in
-    let time : nat_le arrival.ask (one_more links.asks) ≡ true = is_le arrival.ask _ (subst (λ k. arrival.ask ≤ k) n t) in
+    let time : nat_le arrival.ask (one_more links.asks) ≡ true = le-leb arrival.ask _ (subst (λ k. arrival.ask ≤ k) n t) in
     let found : slice_get links.arrivals links.next ≡ Some arrival = slice_get_read links.arrivals _ links.next arrival refl l a in
     rw (given_is links arrival quiet found time (sym o)) e

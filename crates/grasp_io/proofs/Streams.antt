@@ -62,7 +62,7 @@ passes_all None b bytes p = tt
 passes_all (Some x) None bytes p = absurd p
 passes_all (Some x) (Some y) bytes p = (front_is x y bytes [] bytes p (sym (append-nil bytes)), rest_is x y bytes [] bytes p (sym (append-nil bytes)))
 
--- these bytes and no others are written where nothing is held
+-- where the buffer holds nothing, all of these bytes and no others were written
 pub passes_nothing_held : (a b : Option (List ℕ)) (held bytes : List ℕ) → held ≡ [] → Passes a b held bytes → Appends a b bytes
 passes_nothing_held None b held bytes none p = tt
 passes_nothing_held (Some x) None held bytes none p = absurd p

@@ -52,7 +52,7 @@ Hands old new sent.Sent output = Grows old new output
 Hands old new sent.Lost output = MayGrow old new output
 Hands old new sent.Failed output = MayGrow old new output
 
--- it may be given after so many openings: an opened stream has the next odd number, and there is room for one more
+-- Inside: it may be given after so many openings: an opened stream has the next odd number, and there is room for one more
 abbrev pub MayCome : ℕ → Asked → Type 0
 MayCome opened (Got (Api asa call)) = ⊥
 MayCome opened (Got (Datagram link from bytes)) = ⊤
@@ -63,7 +63,7 @@ MayCome opened (Got (Drain max)) = ⊥
 MayCome opened Nothing = ⊤
 MayCome opened OutOfMemory = ⊤
 
--- it gives a datagram, bytes, a closing or nothing
+-- Inside: it gives a datagram, bytes, a closing or nothing
 abbrev pub GivesNoOpening : Asked → Type 0
 GivesNoOpening (Got (Api asa call)) = ⊥
 GivesNoOpening (Got (Datagram link from bytes)) = ⊤

@@ -1,4 +1,4 @@
-// A buffer in front of a sink.
+//! A buffer in front of a sink.
 ghost use Rattle.std.specs.Prelude.{◌≡◌, ◌+◌, ◌≤◌, ℕ, List, [], ◌++◌, length, take, OnOk, OnErr};
 ghost use Rattle.std.specs.Io.KnownBytes.{Appends};
 ghost use Rattle.grasp_io.specs.Faults.{Rose};

@@ -1,4 +1,4 @@
-// What gives a node the time, and the clock and the random source of the machine.
+//! What gives a node the time, and the clock and the random source of the machine.
 ghost use Rattle.std.specs.Prelude.{◌≡◌, ◌≤◌, List, ℕ, Option, None};
 ghost use Rattle.grasp_io.specs.Told.{Grows};
 

@@ -1,4 +1,4 @@
-// A file as a source.
+//! A file as a source.
 ghost use Rattle.std.specs.Prelude.{◌≡◌, None};
 
 use crate::standard::read_some;

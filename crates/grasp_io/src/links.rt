@@ -1,4 +1,4 @@
-// What joins a node to others: datagrams to and from its neighbours, and streams.
+//! What joins a node to others: datagrams to and from its neighbours, and streams.
 ghost use Rattle.std.specs.Prelude.{◌≡◌, ◌≤◌, List, ℕ, Bool, true, Option, None, IsTrue, OnOk, OnErr};
 ghost use Rattle.grasp_io.specs.Faults.{Rose};
 ghost use Rattle.grasp_io.specs.Told.{Stays, Grows};

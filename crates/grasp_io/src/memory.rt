@@ -1,4 +1,4 @@
-// A source and a sink in memory, in pieces as small as wanted, with calls that fail.
+//! A source and a sink in memory, in pieces as small as wanted, with calls that fail.
 ghost use Rattle.std.specs.Prelude.{◌≡◌, ◌<◌, ◌≤◌, min, [], length, take, drop, Some, IfOk, OnErr, is_err, IsErr, IsTrue};
 ghost use Rattle.std.specs.Io.KnownBytes.{Consumes, Appends, Keeps};
 ghost use Rattle.grasp_io.specs.Faults.{Rose};

@@ -1,4 +1,4 @@
-// A clock in memory.
+//! A clock in memory.
 ghost use Rattle.std.specs.Prelude.{◌≡◌, ◌<◌, [], Some, length, take, min};
 ghost use Rattle.grasp_io.specs.MemoryClock.{highest, readings_of};
 

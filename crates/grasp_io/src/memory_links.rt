@@ -1,4 +1,4 @@
-// Links in memory, with asks that give nothing and sends that fail.
+//! Links in memory, with asks that give nothing and sends that fail.
 ghost use Rattle.std.specs.Prelude.{◌≡◌, ◌≢◌, ◌≤◌, [], ◌∷◌, ◌++◌, Some, true, false, is_some, IsTrue, IsErr, IfSome, OnOk, OnErr};
 ghost use Rattle.grasp_io.specs.Faults.{Rose};
 ghost use Rattle.grasp_io.specs.Links.{IsNext, Gives, Waits, IsAnswer, Hands};

@@ -1,4 +1,4 @@
-// The neighbours of a node by the addresses of their sockets.
+//! The neighbours of a node by the addresses of their sockets.
 use grasp_cbor::OutOfMemory;
 use grasp_types::{Address, LinkLists, Locator};
 use std::alloc::Global;

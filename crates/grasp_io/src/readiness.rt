@@ -1,4 +1,4 @@
-// Whether a socket has something to give.
+//! Whether a socket has something to give.
 
 /// What is known of a socket. The system reports each change once, so what it reported is kept until a call finds nothing more.
 #[derive(Clone, Copy, Debug, PartialEq, Eq)]

@@ -1,4 +1,4 @@
-// What gives bytes, and reading it to its end.
+//! What gives bytes, and reading it to its end.
 ghost use Rattle.std.specs.Prelude.{◌≡◌, ◌<◌, ◌≤◌, List, [], ℕ, Option, Some, length, take, vec_len, IfOk, OnErr, IfSome, IsErrOf};
 ghost use Rattle.std.specs.Io.KnownBytes.{Consumes, Keeps};
 ghost use Rattle.grasp_io.specs.Faults.{Rose};

@@ -1,4 +1,4 @@
-// Links over the sockets of the machine. No contract says what comes or goes.
+//! Links over the sockets of the machine. No contract says what comes or goes.
 ghost use Rattle.std.specs.Prelude.{◌≡◌, ◌≤◌, None, false, is_some};
 ghost use Rattle.grasp_io.specs.Faults.{Rose};
 

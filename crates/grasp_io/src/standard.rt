@@ -1,4 +1,4 @@
-// The standard streams. No contract says which bytes they give or take.
+//! The standard streams. No contract says which bytes they give or take.
 ghost use Rattle.std.specs.Prelude.{◌≡◌, ◌≤◌, length, None, IfOk, IfSome};
 
 use crate::{Failed, Sink, Source};

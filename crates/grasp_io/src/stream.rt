@@ -1,4 +1,4 @@
-// One stream: its socket, what is still to be written, and how far it has ended.
+//! One stream: its socket, what is still to be written, and how far it has ended.
 use crate::readiness::Readiness;
 use grasp_cbor::Octets;
 use mio::net::TcpStream;

@@ -1,4 +1,4 @@
-// The sockets of a node: one for datagrams, one that listens, and one for each stream.
+//! The sockets of a node: one for datagrams, one that listens, and one for each stream.
 ghost use Rattle.grasp_io.specs.Links.{MayCome, GivesNoOpening};
 
 use crate::peers::{Peers, address_of, dial_addr};

@@ -1,4 +1,4 @@
-// What takes bytes, and writing a whole slice to it.
+//! What takes bytes, and writing a whole slice to it.
 ghost use Rattle.std.specs.Prelude.{◌≡◌, ◌<◌, ◌≤◌, List, ℕ, Option, length, take, IfOk, OnOk, OnErr};
 ghost use Rattle.std.specs.Io.KnownBytes.{Appends, Keeps};
 ghost use Rattle.grasp_io.specs.Faults.{Rose};

@@ -1,9 +1,9 @@
-//! The program `grasp_node`: one call of `grasp_daemon` over a file, and over the sockets, the clock, the random source
+//! The program `grasp_node`: one call of `grasp_node_main` over a file, and over the sockets, the clock, the random source
 //! and the standard streams of the machine.
 #![tactic(auto)]
 
-use grasp_daemon::{Status, finish, node_main, print_text, text_for};
 use grasp_io::{FileSource, Links, MioLinks, StdClock, StdSink, random_seed};
+use grasp_node_main::{Status, finish, node_main, print_text, text_for};
 use grasp_trace::Traced;
 use std::env::{self, VarError};
 use std::io::ErrorKind;

@@ -5,6 +5,7 @@ use Rattle.std.proofs.lemmas.Nat.Bits.{and_pow}
 use Rattle.std.specs.Int.Bits.{xor_add_and}
 use Rattle.std.proofs.lemmas.Bool.{cases_eq}
 use Rattle.std.proofs.Math.Nat.{pow-suc, mul-div_cancel}
+use Rattle.grasp_types.proofs.Multiples.{multiple_of_mod}
 use Rattle.grasp_types.specs.Prefix.{AddressBlock as Prefix, IsMultiple}
 use Rattle.grasp_pool.specs.Spans.{size, IsValid}
 use Rattle.grasp_pool.specs.Canonical.{lower, upper}
@@ -52,10 +53,6 @@ parent_valid p r v e some aligned le =
 half_size : (p r : Prefix) → r.length + 1 ≡ p.length → size p ≡ size (lower r)
 half_size p r e = ap (λ n. 2 ^ (128 - n)) (sym e)
 
--- the quotient and no remainder
-aligned_by : (n x : ℕ) → x % n ≡ 0 → IsMultiple n x
-aligned_by n x e = let split : x / n * n + x % n ≡ x = div-add-mod' x n in (x / n, omega arith)
-
 pub lower_case : (p : Prefix) → IsValid p → 2 ≤ p.length → p.address % (size p + size p) ≡ 0
     → AreHalves p (record { parent = record { address = p.address; length = p.length - 1 }; buddy = record { address = p.address + size p; length = p.length } })
 lower_case p v h e =
@@ -63,7 +60,7 @@ lower_case p v h e =
     in let len : r.length + 1 ≡ p.length = omega arith
     in let s : size r ≡ size p + size p = parent_size p r len v.most
     in record {
-      valid = parent_valid p r v len (omega arith) (subst (λ n. IsMultiple n p.address) (sym s) (aligned_by (size p + size p) p.address e)) (omega arith);
+      valid = parent_valid p r v len (omega arith) (subst (λ n. IsMultiple n p.address) (sym s) (multiple_of_mod (size p + size p) p.address e)) (omega arith);
       length = len;
       halves = inl (
         same_prefix p (lower r) refl (sym len),

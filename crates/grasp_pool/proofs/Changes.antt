@@ -4,7 +4,8 @@ use Rattle.grasp_types.specs.Prefix.{AddressBlock as Prefix, span_of}
 use Rattle.grasp_pool.specs.Spans.{IsValid}
 use Rattle.grasp_pool.specs.Canonical.{IsRising, IsFreeIn, IsTidy, IsLowestFree}
 use Rattle.grasp_pool.specs.Holdings.{Holding, IsFree, IsListed, PoolApart, Reserves, GivesBack, Confirms, Doubts, Gains}
-use Rattle.grasp_pool.proofs.Dyadic.{first_in, same_prefix}
+use Rattle.grasp_pool.proofs.Addresses.{first_in}
+use Rattle.grasp_pool.proofs.Dyadic.{same_prefix}
 use Rattle.grasp_pool.proofs.Listed.{reserves_apart, back_apart, gains_apart, confirms_apart, doubts_apart}
 use Rattle.grasp_pool.proofs.Maximal.{clean_canonical}
 use Rattle.grasp_pool.proofs.Unique.{one_canonical, same_members}

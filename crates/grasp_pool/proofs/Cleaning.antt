@@ -4,7 +4,8 @@ use Rattle.std.proofs.lemmas.Bool.{cases_lt}
 use Rattle.grasp_types.specs.Prefix.{AddressBlock as Prefix, span_of, IsMultiple}
 use Rattle.grasp_pool.specs.Spans.{Apart, size, IsValid, Covers}
 use Rattle.grasp_pool.specs.Canonical.{IsRising, lower, upper, IsClean}
-use Rattle.grasp_pool.proofs.Dyadic.{size_pos, first_in, next_multiple, same_prefix, size_halves, upper_valid}
+use Rattle.grasp_pool.proofs.Addresses.{first_in}
+use Rattle.grasp_pool.proofs.Dyadic.{size_pos, next_multiple, same_prefix, size_halves, upper_valid}
 use Rattle.grasp_pool.proofs.Maximal.{cases_prefix}
 use Rattle.grasp_pool.specs.declared.halves.Halves.{Halves}
 use Rattle.grasp_pool.specs.Parts.{ApartFrom}

@@ -3,15 +3,12 @@ use Rattle.std.proofs.Common.{◌≡◌, ℕ, suc, ◌+◌, ◌-◌, ◌*◌, �
 use Rattle.std.proofs.lemmas.Nat.{pow_pos, pow-add, pow_below, mul-le, row_fits}
 use Rattle.std.proofs.Math.Nat.{mul_assoc, pow-suc}
 use Rattle.grasp_types.specs.Prefix.{AddressBlock as Prefix, span_of, IsMultiple}
+use Rattle.grasp_pool.proofs.Addresses.{first_in}
 use Rattle.grasp_pool.specs.Spans.{size, IsValid}
 use Rattle.grasp_pool.specs.Canonical.{IsInside, lower, upper}
 
 pub size_pos : (p : Prefix) → 0 < size p
 size_pos p = pow_pos (128 - p.length)
-
--- a prefix has an address
-pub first_in : (p : Prefix) → span_of p p.address
-first_in p = let h : 0 < size p = size_pos p in (omega arith, omega arith)
 
 pub same_prefix : (p q : Prefix) → p.address ≡ q.address → p.length ≡ q.length → p ≡ q
 same_prefix p q e f = λ i. record { address = e i; length = f i }

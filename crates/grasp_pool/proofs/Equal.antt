@@ -1,6 +1,6 @@
 -- The lists after each change are those that the functions give.
-use Rattle.std.proofs.Common.{◌≡◌, ℕ, zero, suc, ◌+◌, ◌<◌, ◌≤◌, ◌⊎◌, ◌↔◌, inl, inr, List, [], ◌∷◌, length, Contains, slice_index_or, refl, sym, ◌∙◌, ap, subst, arith, Some, None, Bool, true, false, cond, not, nat_eq, nat_lt, nat_le, ◌==◌, ◌&&◌, insert, remove, Option, MatchOption, IsTrue, is_some}
-use Rattle.std.proofs.lemmas.Bool.{cases_lt, cases_eq}
+use Rattle.std.proofs.Common.{◌≡◌, ℕ, zero, suc, ◌+◌, ◌<◌, ◌≤◌, ◌⊎◌, ◌↔◌, inl, inr, List, [], ◌∷◌, length, Contains, slice_index_or, refl, sym, ◌∙◌, ap, subst, arith, Some, None, Bool, true, false, cond, not, nat_eq, nat_lt, nat_le, ◌==◌, ◌&&◌, insert, remove, Option, MatchOption, IsTrue, is_some, lt-ltb}
+use Rattle.std.proofs.lemmas.Bool.{le-ltb}
 use Rattle.std.proofs.lemmas.Bool.Decides.{leb_tells}
 use Rattle.grasp_types.specs.Prefix.{AddressBlock as Prefix}
 use Rattle.grasp_pool.specs.Canonical.{IsRising, lower, upper}
@@ -9,7 +9,7 @@ use Rattle.grasp_pool.specs.Parts.{BeginBelow, BeginFrom, IsNarrow}
 use Rattle.grasp_pool.proofs.Words.{IsAdded, IsRemoved}
 use Rattle.grasp_pool.specs.Functions.{add, without, split, wide, has, joins, merge, parent_of, buddy_of}
 use Rattle.grasp_pool.proofs.Dyadic.{same_prefix}
-use Rattle.grasp_pool.proofs.Lists.{rising_cons, lt_tells, lt_is, lt_not}
+use Rattle.grasp_pool.proofs.Lists.{rising_cons, lt_tells}
 
 pub add_members : (p : Prefix) (ps : List Prefix) → IsAdded ps (add p ps) p
 unfolding add
@@ -67,12 +67,12 @@ insert_is [] (suc i) p le below above other = absurd (omega arith)
 insert_is (x ∷ xs) zero p le below above other =
     let up : p.address ≤ x.address = above 0 x (omega arith) (omega arith)
     in let ne : ¬ (x.address ≡ p.address) = other x (cons_first x xs)
-    in sym (ap (λ b. cond b (p ∷ x ∷ xs) (x ∷ add p xs)) (lt_is p.address x.address (grind arith)))
+    in sym (ap (λ b. cond b (p ∷ x ∷ xs) (x ∷ add p xs)) (lt-ltb p.address x.address (grind arith)))
 insert_is (x ∷ xs) (suc i) p le below above other =
     let lt : x.address < p.address = below 0 x (omega arith)
     in let again : insert xs i p ≡ add p xs
     = insert_is xs i p (omega arith) (λ k d h. below (suc k) d (omega arith)) (λ k d h within. above (suc k) d (omega arith) (omega arith)) (λ q h. other q (cons_more x q xs h))
-    in ap (λ l. x ∷ l) again ∙ sym (ap (λ b. cond b (p ∷ x ∷ xs) (x ∷ add p xs)) (lt_not p.address x.address (omega arith)))
+    in ap (λ l. x ∷ l) again ∙ sym (ap (λ b. cond b (p ∷ x ∷ xs) (x ∷ add p xs)) (le-ltb p.address x.address (omega arith)))
 
 -- two of a rising list with one address are the same
 one_address : (ps : List Prefix) → IsRising ps → (p q : Prefix) → Contains ps p → Contains ps q → p.address ≡ q.address → p ≡ q
@@ -207,8 +207,7 @@ both_same x p h = choose (x.address == p.address) (x.length == p.length) (eq_tel
     choose true true (inl e) (inl f) h = same_prefix x p e.1 f.1
     choose true true (inl e) (inr f) h = absurd (cc)
     choose true true (inr e) f h = absurd (cc)
-    choose true false e f h = absurd (cc)
-    choose false b e f h = absurd (cc)
+    choose _ _ e f h = absurd (cc)
 
 pub has_true : (ps : List Prefix) (p : Prefix) → Contains ps p → has ps p ≡ true
 unfolding has both

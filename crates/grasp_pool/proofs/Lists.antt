@@ -1,5 +1,5 @@
 -- One prefix more or less in a rising list.
-use Rattle.std.proofs.Common.{◌≡◌, ℕ, suc, zero, ◌<◌, ◌≤◌, ◌⊎◌, inl, inr, List, ◌∷◌, length, Contains, sym, ◌∙◌, ap, subst, arith, slice_index_or, nat_lt, true, false}
+use Rattle.std.proofs.Common.{◌≡◌, ℕ, suc, zero, ◌<◌, ◌≤◌, ◌⊎◌, inl, inr, List, ◌∷◌, length, Contains, sym, ◌∙◌, ap, subst, arith, slice_index_or, nat_lt, true, false, lt-ltb, ltb-true}
 use Rattle.std.proofs.lemmas.List.{get_or_default}
 use Rattle.std.proofs.lemmas.List.Elements.{Contains-get_or}
 use Rattle.std.proofs.lemmas.Bool.{cases_eq, cases_lt}
@@ -18,18 +18,6 @@ rising_cons x xs h r (suc i) (suc j) d lt within = r i j d (omega arith) (omega 
 pub lt_tells : (a b : ℕ) → ((nat_lt a b ≡ true) × (a < b)) ⊎ ((nat_lt a b ≡ false) × (b ≤ a))
 lt_tells a b = elim (leb_tells (suc a) b) [ inl h ↦ inl (h.0, h.1) | inr h ↦ inr (h.0, let l : b < suc a = h.1 in omega arith) ]
 
-pub lt_true : (a b : ℕ) → nat_lt a b ≡ true → a < b
-lt_true a b e = elim (lt_tells a b) [ inl h ↦ h.1 | inr h ↦ absurd (cc) ]
-
-pub lt_false : (a b : ℕ) → nat_lt a b ≡ false → b ≤ a
-lt_false a b e = elim (lt_tells a b) [ inl h ↦ absurd (cc) | inr h ↦ h.1 ]
-
-pub lt_not : (a b : ℕ) → b ≤ a → nat_lt a b ≡ false
-lt_not a b le = elim (lt_tells a b) [ inl h ↦ let lt : a < b = h.1 in absurd (omega arith) | inr h ↦ h.0 ]
-
-pub lt_is : (a b : ℕ) → a < b → nat_lt a b ≡ true
-lt_is a b lt = elim (lt_tells a b) [ inl h ↦ h.0 | inr h ↦ let le : b ≤ a = h.1 in absurd (omega arith) ]
-
 -- what comes after an address that isn't below comes there too
 pub rising_parted : (xs : List Prefix) (a : ℕ) → IsRising xs → (i j : ℕ) (d : Prefix) → i ≤ j → j < length xs
     → nat_lt (slice_index_or xs j d).address a ≡ true → nat_lt (slice_index_or xs i d).address a ≡ true
@@ -38,8 +26,8 @@ rising_parted xs a r i j d le within e = elim (cases_eq i j) [
   | inr other ↦
       let lt : i < j = grind arith
       in let up : (slice_index_or xs i d).address < (slice_index_or xs j d).address = r i j d lt within
-      in let below : (slice_index_or xs j d).address < a = lt_true (slice_index_or xs j d).address a e
-      in lt_is (slice_index_or xs i d).address a (omega arith)
+      in let below : (slice_index_or xs j d).address < a = ltb-true (slice_index_or xs j d).address a e
+      in lt-ltb (slice_index_or xs i d).address a (omega arith)
 ]
 
 -- a prefix isn't in the list where it isn't at the first place that isn't below its address

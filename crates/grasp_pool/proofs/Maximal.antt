@@ -4,9 +4,10 @@ use Rattle.std.proofs.lemmas.Bool.{cases_lt, cases_eq}
 use Rattle.grasp_types.specs.Prefix.{AddressBlock as Prefix, span_of}
 use Rattle.grasp_pool.specs.Spans.{size, IsValid, Covers}
 use Rattle.grasp_pool.specs.Canonical.{IsInside, IsFreeIn, IsMaximal, IsRising, IsCanonical, lower, upper, IsClean}
-use Rattle.grasp_pool.proofs.Dyadic.{size_pos, first_in, nested, inside_from, inside_both, size_halves, lower_valid, upper_valid}
+use Rattle.grasp_pool.proofs.Addresses.{first_in}
+use Rattle.grasp_pool.proofs.Dyadic.{size_pos, nested, inside_from, inside_both, size_halves, lower_valid, upper_valid}
 
--- the same or not, by both parts
+-- two prefixes are the same or not, as their addresses and lengths are
 pub cases_prefix : (p q : Prefix) → (p ≡ q) ⊎ (¬ (p ≡ q))
 cases_prefix p q = elim (cases_eq p.address q.address) [
   | inl e ↦ elim (cases_eq p.length q.length) [

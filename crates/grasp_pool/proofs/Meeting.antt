@@ -8,7 +8,8 @@ use Rattle.grasp_types.specs.Prefix.{AddressBlock as Prefix, span_of, Overlap}
 use Rattle.grasp_pool.specs.Spans.{Apart, size}
 use Rattle.grasp_pool.specs.Canonical.{IsRising}
 use Rattle.grasp_pool.specs.Holdings.{Holding, IsListed, IsNew}
-use Rattle.grasp_pool.proofs.Dyadic.{size_pos, first_in}
+use Rattle.grasp_pool.proofs.Addresses.{first_in}
+use Rattle.grasp_pool.proofs.Dyadic.{size_pos}
 use Rattle.grasp_pool.proofs.Maximal.{cases_prefix}
 use Rattle.grasp_pool.specs.Parts.{ApartFrom, ArePairwiseApart, BeginBelow, BeginFrom, IsOverlapAt, IsFirstIn, IsAnswer, lesser_of}
 use Rattle.grasp_pool.proofs.Words.{ApartBelow}
@@ -208,7 +209,7 @@ module _ (ps : List Prefix) (p : Prefix) (i : ℕ) (rising : IsRising ps) (apart
   ]
   answer_after (Some q) before h = subst (IsFirstIn ps p) (sym h.1) (first_at ps p i q rising before h.0 (subst (λ v. Overlap v p) h.1 h.2))
 
-  -- and that at the place before it
+  -- the answer at the place before the first that isn't below, where the prefix there overlaps p
   pub answer_before : (j : ℕ) (q : Prefix) → j + 1 ≡ i → i ≤ length ps → IsOverlapAt ps j p (Some q) → IsAnswer ps p (Some q)
   answer_before j q e le h = subst (IsFirstIn ps p) (sym h.1) (first_at ps p j q rising (before_last j (omega arith) le) h.0 (subst (λ v. Overlap v p) h.1 h.2))
 

@@ -13,7 +13,7 @@ pub record Holding : Type 0 where
 abbrev pub IsFree : Holding → ℕ → Type 0
 IsFree h a = Covers h.free a
 
--- it is reserved or doubtful
+-- the prefix is reserved or doubtful
 abbrev pub IsListed : Holding → Prefix → Type 0
 IsListed h p = Contains h.reserved p ⊎ Contains h.doubtful p
 
@@ -69,9 +69,3 @@ pub record Gains (old new : Holding) (p : Prefix) : Type 0 where
   pub free : (a : ℕ) → IsFree new a ↔ (IsFree old a ⊎ span_of p a)
   pub reserved : new.reserved ≡ old.reserved
   pub doubtful : new.doubtful ≡ old.doubtful
-
--- a pool that begins anew: it holds no more than before, nothing is reserved, and what is doubtful is apart; no call does it yet
-pub record Restarts (old new : Holding) : Type 0 where
-  pub free : (a : ℕ) → IsFree new a → IsFree old a
-  pub reserved : (q : Prefix) → ¬ Contains new.reserved q
-  pub apart : PoolApart new

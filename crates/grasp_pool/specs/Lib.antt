@@ -1,9 +1,8 @@
-pub mod Spans
+pub mod Answers
 pub mod Canonical
+pub mod Functions
 pub mod Holdings
 pub mod Parts
 pub mod Pools
-pub mod Functions
 pub mod Roots
-pub mod Answers
-pub mod Ledger
+pub mod Spans

@@ -13,14 +13,14 @@ pub record IsPool (h : Holding) : Type 0 where
   pub doubtful : IsRising h.doubtful
   -- what is reserved or doubtful is a prefix
   pub valid : (q : Prefix) → IsListed h q → IsValid q
-  -- it overlaps nothing that is free, and nothing else that is reserved or doubtful, and is not both
+  -- a reserved or doubtful prefix overlaps nothing that is free and no other such prefix, and is not both
   pub held : (q : Prefix) (a : ℕ) → IsListed h q → span_of q a → ¬ IsFree h a
   pub apart : (p q : Prefix) → ¬ (p ≡ q) → IsListed h p → IsListed h q → Apart p q
   pub once : (q : Prefix) → Contains h.reserved q → ¬ Contains h.doubtful q
   -- the pool has at most 4096 entries
   pub few : (length h.free + length h.reserved) + length h.doubtful ≤ 4096
 
--- a pool as it is kept: each list has memory for 4096 entries
+-- Inside: a pool as it is kept: each list has memory for 4096 entries
 pub record IsStored (h : Holding) (r d : ℕ) : Type 0 where
   pub pool : IsPool h
   pub reserved_memory : 4096 ≤ r

@@ -2,7 +2,7 @@
 use Rattle.std.specs.Prelude.{ℕ, List, Contains}
 use Rattle.grasp_types.specs.Prefix.{AddressBlock as Prefix, IsPrefix, span_of, size_of}
 
--- its length is 1 to 128, and no bit of its address past the length is set
+-- the prefix's length is 1 to 128, and no bit of its address past the length is set
 abbrev pub IsValid : Prefix → Type 0
 IsValid p = IsPrefix p.address p.length
 

@@ -144,7 +144,9 @@ impl FreeList {
 
     /// Takes the buddy of a prefix out of the list, and returns what both make up.
     fn join_buddy(&mut self, prefix: Prefix) -> Option<Prefix>
-        ensures joined { IfSome result (λ r. (joins self.old prefix ≡ true) × (r ≡ parent_of prefix) × (self.new ≡ without (buddy_of prefix).address self.old)) }
+        ensures joined { IfSome result
+            (λ r. (joins self.old prefix ≡ true) × (r ≡ parent_of prefix)
+            × (self.new ≡ without (buddy_of prefix).address self.old)) }
         ensures alone { IfNone result ((joins self.old prefix ≡ false) × (self.new ≡ self.old)) }
     {
         if prefix.length() < 2 {

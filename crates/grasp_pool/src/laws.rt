@@ -4,15 +4,15 @@ ghost use Rattle.std.specs.Prelude.{◌≡◌, ℕ, ◌↔◌, ◌<◌, ◌≤�
 ghost use Rattle.grasp_types.specs.Prefix.{AddressBlock};
 ghost use Rattle.grasp_pool.specs.Spans.{Covers, IsValid};
 ghost use Rattle.grasp_pool.specs.Canonical.{IsCanonical, IsClean, IsRising, IsTidy, IsLowestFree, HasNoFree};
-ghost use Rattle.grasp_pool.specs.Holdings.{Holding, IsFree, IsNew, PoolApart, GivesBack, Confirms, Doubts, Gains};
+ghost use Rattle.grasp_pool.specs.Holdings.{Holding, IsFree, IsNew, GivesBack, Confirms, Doubts, Gains};
 ghost use Rattle.grasp_pool.specs.Pools.{IsPool, room_of, IsTaken, IsNotTaken};
 ghost use Rattle.grasp_pool.specs.Answers.{IsOpened};
 ghost use Rattle.grasp_pool.specs.Roots.{AllValid, AllApart};
 ghost use Rattle.grasp_pool.specs.declared.roots.RootPrefix.{RootPrefix};
 ghost use Rattle.grasp_pool.specs.Functions.{lowest_free, pool_of, can_gain, take_reply, after_take, after_back, after_confirm, after_doubt, after_gain};
-ghost use Rattle.grasp_pool.specs.Ledger.{Ledger, Move, Step, Follows, IsReached, IsStart, IsRun, last_of, HeldApart, AuthoritiesApart, OffersKept, IsOwned, SamePools, SameTalks};
 
 /// A set of addresses has one list of maximal prefixes in rising order.
+#[tactic(auto, using(crate::proofs::Unique::one_canonical))]
 pub fn one_canonical_list()
     ensures { (xs ys : List AddressBlock) → IsCanonical xs → IsCanonical ys → ((a : ℕ) → Covers xs a ↔ Covers ys a) → xs ≡ ys }
 {}
@@ -25,8 +25,11 @@ pub fn clean_lists_are_canonical()
 {}
 
 /// A pool is its three sets.
+#[tactic(auto, using(crate::proofs::Changes::same_pool))]
 pub fn same_sets_same_pool()
-    ensures { (g h : Holding) → IsPool g → IsPool h → ((a : ℕ) → IsFree g a ↔ IsFree h a) → ((q : AddressBlock) → Contains g.reserved q ↔ Contains h.reserved q) → ((q : AddressBlock) → Contains g.doubtful q ↔ Contains h.doubtful q) → g ≡ h }
+    ensures { (g h : Holding) → IsPool g → IsPool h → ((a : ℕ) → IsFree g a ↔ IsFree h a)
+        → ((q : AddressBlock) → Contains g.reserved q ↔ Contains h.reserved q)
+        → ((q : AddressBlock) → Contains g.doubtful q ↔ Contains h.doubtful q) → g ≡ h }
 {}
 
 /// There is at most one lowest free prefix of a length.
@@ -35,19 +38,24 @@ pub fn one_lowest_free()
 {}
 
 /// The lowest free prefix of a length, as a function of the list, is what its definition by addresses says.
+#[tactic(auto, using(crate::proofs::Meanings::lowest_is))]
 pub fn lowest_free_is_lowest()
-    ensures { (ps : List AddressBlock) (n : ℕ) → IsTidy ps → 1 ≤ n → n ≤ 128 → MatchOption (lowest_free ps n) (HasNoFree ps n) (λ p. IsLowestFree ps n p) }
+    ensures { (ps : List AddressBlock) (n : ℕ) → IsTidy ps → 1 ≤ n → n ≤ 128
+        → MatchOption (lowest_free ps n) (HasNoFree ps n) (λ p. IsLowestFree ps n p) }
 {}
 
 /// At most 1,024 disjoint prefixes open a pool, whose free addresses are theirs.
 pub fn good_roots_open()
-    ensures opened { (roots : List RootPrefix) → length roots ≤ 1024 → AllValid roots (length roots) → AllApart roots (length roots) → IsOpened roots (pool_of roots) }
+    ensures opened { (roots : List RootPrefix) → length roots ≤ 1024 → AllValid roots (length roots)
+        → AllApart roots (length roots) → IsOpened roots (pool_of roots) }
     ensures pool { (roots : List RootPrefix) → IsOpened roots (pool_of roots) → IsPool (pool_of roots) }
 {}
 
 /// What `take` answers and leaves, as functions, is what is said of it by addresses, and a pool stays a pool.
 pub fn take_means()
-    ensures answer { (h : Holding) (n : ℕ) → IsPool h → 1 ≤ n → n ≤ 128 → MatchOption (take_reply h n) (IsNotTaken h (after_take h n (take_reply h n)) n) (λ p. IsTaken h (after_take h n (take_reply h n)) n p) }
+    ensures answer { (h : Holding) (n : ℕ) → IsPool h → 1 ≤ n → n ≤ 128
+        → MatchOption (take_reply h n) (IsNotTaken h (after_take h n (take_reply h n)) n)
+        (λ p. IsTaken h (after_take h n (take_reply h n)) n p) }
     ensures pool { (h : Holding) (n : ℕ) → IsPool h → 1 ≤ n → n ≤ 128 → IsPool (after_take h n (take_reply h n)) }
 {}
 
@@ -66,28 +74,4 @@ pub fn gain_means()
     ensures gainable { (h : Holding) (p : AddressBlock) → IsTrue (can_gain h p) ↔ (IsNew h p × (0 < room_of h)) }
     ensures gained { (h : Holding) (p : AddressBlock) → IsPool h → IsValid p → IsTrue (can_gain h p) → Gains h (after_gain h p) p }
     ensures gained_pool { (h : Holding) (p : AddressBlock) → IsPool h → IsValid p → IsTrue (can_gain h p) → IsPool (after_gain h p) }
-{}
-
-/// Whatever moves are made from disjoint roots: no address is held by two nodes, no authority overlaps what any
-/// node holds or another authority, an offer of unknown outcome stays with its giver, what a pool has reserved or
-/// doubtful is apart, each reserved prefix is kept for exactly one talk, and each doubtful one for at most one.
-pub fn prefixes_stay_apart()
-    ensures held { (ledger : Ledger) (steps : List Step) → IsStart ledger → IsRun ledger steps → HeldApart (last_of ledger steps) }
-    ensures authorities { (ledger : Ledger) (steps : List Step) → IsStart ledger → IsRun ledger steps → AuthoritiesApart (last_of ledger steps) }
-    ensures offers { (ledger : Ledger) (steps : List Step) → IsStart ledger → IsRun ledger steps → OffersKept (last_of ledger steps) }
-    ensures pools { (ledger : Ledger) (steps : List Step) → IsStart ledger → IsRun ledger steps → (n : ℕ) → PoolApart ((last_of ledger steps).pool n) }
-    ensures owned { (ledger : Ledger) (steps : List Step) → IsStart ledger → IsRun ledger steps → (n : ℕ) → IsOwned (last_of ledger steps) n }
-{}
-
-/// A ledger that is reached stays one under each move, and is disjoint as above; one that has the same pools and
-/// the same talks is reached too.
-pub fn moves_go_on()
-    ensures start { (ledger : Ledger) → IsStart ledger → IsReached ledger }
-    ensures more { (old new : Ledger) (move : Move) → IsReached old → Follows old move new → IsReached new }
-    ensures alike { (old new : Ledger) → IsReached old → SamePools old new → SameTalks old new → IsReached new }
-    ensures held { (ledger : Ledger) → IsReached ledger → HeldApart ledger }
-    ensures authorities { (ledger : Ledger) → IsReached ledger → AuthoritiesApart ledger }
-    ensures offers { (ledger : Ledger) → IsReached ledger → OffersKept ledger }
-    ensures pools { (ledger : Ledger) → IsReached ledger → (n : ℕ) → PoolApart (ledger.pool n) }
-    ensures owned { (ledger : Ledger) → IsReached ledger → (n : ℕ) → IsOwned ledger n }
 {}

@@ -13,9 +13,8 @@ mod sorted_list;
 
 pub use fault::{GainFault, PoolFault};
 pub use laws::{
-    clean_lists_are_canonical, gain_means, good_roots_open, lowest_free_is_lowest, moves_go_on,
-    one_canonical_list, one_lowest_free, prefixes_stay_apart, reserved_calls_mean,
-    same_sets_same_pool, take_means,
+    clean_lists_are_canonical, gain_means, good_roots_open, lowest_free_is_lowest,
+    one_canonical_list, one_lowest_free, reserved_calls_mean, same_sets_same_pool, take_means,
 };
 pub use pool::Pool;
 pub use roots::RootPrefix;

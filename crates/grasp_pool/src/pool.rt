@@ -41,7 +41,8 @@ impl Model for Pool {
 
     ghost view = { λ s. record { free = s.free; reserved = s.reserved.items; doubtful = s.doubtful.items } };
 
-    ghost invariant = { λ s. IsStored (record { free = s.free; reserved = s.reserved.items; doubtful = s.doubtful.items }) (vec_capacity s.reserved) (vec_capacity s.doubtful) };
+    ghost invariant = { λ s. IsStored (record { free = s.free; reserved = s.reserved.items; doubtful = s.doubtful.items })
+        (vec_capacity s.reserved) (vec_capacity s.doubtful) };
 }
 
 impl Pool {

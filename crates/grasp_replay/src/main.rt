@@ -1,8 +1,8 @@
-//! The tool `grasp_replay`: one call of `grasp_tasks` over the standard streams.
+//! The tool `grasp_replay`: one call of `grasp_replay_main` over the standard streams.
 #![tactic(auto)]
 
 use grasp_io::{StdSink, StdSource};
-use grasp_tasks::{Status, finish, print_text, replay_main, text_for};
+use grasp_replay_main::{Status, finish, print_text, replay_main, text_for};
 use std::env;
 use std::io::ErrorKind;
 use std::process::ExitCode;

@@ -1,29 +1,27 @@
 -- What is counted of a run.
-use Rattle.std.proofs.Common.{◌≡◌, ◌<◌, ◌≤◌, ◌+◌, ◌-◌, ◌^◌, refl, sym, ap, ◌∙◌, subst, arith, ℕ, cond, Bool, List, [], ◌∷◌, ◌++◌, length, length-append, take, drop, Some, Ok, Err}
+use Rattle.std.proofs.Common.{◌≡◌, ◌<◌, ◌≤◌, ◌+◌, ◌-◌, ◌^◌, refl, sym, subst, arith, ℕ, List, [], ◌∷◌, ◌++◌, length, length-append, take, drop, Some, Ok, Err}
 use Rattle.std.proofs.lemmas.List.{append-nil, take_all}
-use Rattle.std.proofs.lemmas.List.Sums.{sum_by_push, count_by-le-length}
 use Rattle.std.specs.List.{slice_get}
 use Rattle.grasp_text.proofs.Pushed.{one_pushed, some_pushed}
-use Rattle.grasp_network.specs.Runs.{reports_from, world_of}
-use Rattle.grasp_network.specs.Setting.{Setting, script_setting}
-use Rattle.grasp_network.specs.Visits.{Choice, no_choice}
-use Rattle.grasp_network.specs.Plans.{IsNode}
-use Rattle.grasp_network.specs.World.{WorldState}
-use Rattle.grasp_network.specs.declared.event.Event.{Event}
-use Rattle.grasp_network.specs.declared.plan.WorldPlan.{WorldPlan}
-use Rattle.grasp_network.specs.declared.report.Report.{Report}
-use Rattle.grasp_network.specs.declared.report.WorldStop.{WorldStop}
-use Rattle.grasp_network.specs.declared.report.WorldStop.TheVariants as stop
-use Rattle.grasp_network_script.specs.declared.line.Line.{Line}
-use Rattle.grasp_network_script.specs.declared.line.LineAct.{LineAct}
-use Rattle.grasp_network_script.specs.declared.line.LineAct.TheVariants as act
-use Rattle.grasp_network_script.specs.declared.script.Script.{Script}
-use Rattle.grasp_types.specs.declared.session.Outcome.{Outcome}
-use Rattle.grasp_scenarios.proofs.MoreLines.{reports_more}
-use Rattle.grasp_scenarios.specs.LineRuns.{LineRun, placed_event}
+use Rattle.grasp_model_network.specs.Runs.{reports_from, world_of}
+use Rattle.grasp_model_network.specs.Setting.{Setting, script_setting}
+use Rattle.grasp_model_network.specs.Visits.{Choice, no_choice}
+use Rattle.grasp_model_network.specs.Plans.{IsNode}
+use Rattle.grasp_model_network.specs.World.{WorldState}
+use Rattle.grasp_model_network.specs.declared.event.Event.{Event}
+use Rattle.grasp_model_network.specs.declared.plan.WorldPlan.{WorldPlan}
+use Rattle.grasp_model_network.specs.declared.report.Report.{Report}
+use Rattle.grasp_model_network.specs.declared.report.WorldStop.{WorldStop}
+use Rattle.grasp_model_network.specs.declared.report.WorldStop.TheVariants as stop
+use Rattle.grasp_script.specs.declared.line.Line.{Line}
+use Rattle.grasp_script.specs.declared.line.LineAct.{LineAct}
+use Rattle.grasp_script.specs.declared.line.LineAct.TheVariants as act
+use Rattle.grasp_script.specs.declared.script.Script.{Script}
+use Rattle.grasp_model_script.proofs.MoreLines.{reports_more}
+use Rattle.grasp_model_script.specs.LineRuns.{LineRun, placed_event}
 use Rattle.grasp_simulator.specs.Contract.{Reported}
-use Rattle.grasp_scenarios.specs.ScriptRuns.{network_after, happenings_from}
-use Rattle.grasp_scenarios.specs.Summary.{count_ends, has_end, is_agreed, is_broken, is_declined, reports_of, told_end}
+use Rattle.grasp_model_script.specs.ScriptRuns.{network_after, happenings_from}
+use Rattle.grasp_model_script.specs.Summary.{reports_of}
 use Rattle.grasp_simulator.specs.WorldStands.{WorldStands}
 use Rattle.grasp_simulator.specs.declared.world.World.{World}
 use Rattle.grasp_runner.specs.Lines.{MeetsLine, RunsEvent}
@@ -37,45 +35,6 @@ use Rattle.grasp_runner.proofs.Passed.{meets_next, nothing_run, run_next, stops_
 use Rattle.grasp_runner.proofs.Placing.{seats_here}
 
 pub ruleset pushes = (one_pushed, some_pushed)
-
--- ---- reports
-
--- one report more
-ends_more : (kind : Outcome → Bool) (rs : List Report) (r : Report) → count_ends kind (rs ++ r ∷ []) ≡ count_ends kind rs + cond (has_end kind (told_end r)) 1 0
-ends_more kind rs r = sum_by_push (λ (x : Report). cond (has_end kind (told_end x)) 1 0) rs r
-
-pub tally_more : (old new : Tally) (rs : List Report) (r : Report) → IsTally old rs → new.events ≡ old.events + 1 → new.agreed ≡ old.agreed + cond (has_end is_agreed (told_end r)) 1 0
-    → new.declined ≡ old.declined + cond (has_end is_declined (told_end r)) 1 0 → new.broken ≡ old.broken + cond (has_end is_broken (told_end r)) 1 0 → IsTally new (rs ++ r ∷ [])
-tally_more old new rs r h e a d b = record {
-  events = e ∙ ap (λ (n : ℕ). n + 1) h.events ∙ sym (length-append rs (r ∷ []));
-  agreed = a ∙ ap (λ (n : ℕ). n + cond (has_end is_agreed (told_end r)) 1 0) h.agreed ∙ sym (ends_more is_agreed rs r);
-  declined = d ∙ ap (λ (n : ℕ). n + cond (has_end is_declined (told_end r)) 1 0) h.declined ∙ sym (ends_more is_declined rs r);
-  broken = b ∙ ap (λ (n : ℕ). n + cond (has_end is_broken (told_end r)) 1 0) h.broken ∙ sym (ends_more is_broken rs r);
-}
-
-few_ends : (kind : Outcome → Bool) (rs : List Report) → count_ends kind rs ≤ length rs
-few_ends kind rs = count_by-le-length (λ (r : Report). has_end kind (told_end r)) rs
-
--- there are no more ends than reports
-pub record AreFew (t : Tally) (n : ℕ) : Type 0 where
-  pub events : t.events ≤ n
-  pub agreed : t.agreed ≤ n
-  pub declined : t.declined ≤ n
-  pub broken : t.broken ≤ n
-
-pub few_counted : (t : Tally) (rs : List Report) → IsTally t rs → AreFew t (length rs)
-few_counted t rs h = record {
-  events = omega (arith, h.events);
-  agreed = omega (arith, h.agreed, few_ends is_agreed rs);
-  declined = omega (arith, h.declined, few_ends is_declined rs);
-  broken = omega (arith, h.broken, few_ends is_broken rs);
-}
-
-pub few_now : (t : Tally) → CanCount t → AreFew t (2 ^ 64 - 2)
-few_now t h =
-    let few : length h.reports < 2 ^ 64 - 1 = h.few in
-    let at : AreFew t (length h.reports) = few_counted t h.reports h.is in
-    record { events = omega (arith, few, at.events); agreed = omega (arith, few, at.agreed); declined = omega (arith, few, at.declined); broken = omega (arith, few, at.broken) }
 
 -- ---- a line
 

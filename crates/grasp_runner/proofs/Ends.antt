@@ -1,32 +1,24 @@
 -- How the run of a script ends.
-use Rattle.std.proofs.Common.{◌≡◌, refl, ◌∙◌, subst, ℕ, List, [], ◌∷◌, ◌++◌, Option, None, Some, Result, Ok, Err, OnErr}
+use Rattle.std.proofs.Common.{◌≡◌, refl, ◌∙◌, ℕ, List, [], ◌∷◌, ◌++◌, Option, None, Some, Result, Ok, Err, OnErr}
 use Rattle.std.proofs.lemmas.List.{append-nil}
 use Rattle.std.specs.Io.KnownBytes.{Appends}
 use Rattle.grasp_io.specs.Known.{AppendsFront}
 use Rattle.grasp_io.proofs.Streams.{passes_held, passes_then_all, passes_then_held}
-use Rattle.grasp_network.specs.Plans.{IsGoodPlan}
-use Rattle.grasp_network.specs.Runs.{world_of}
-use Rattle.grasp_network.specs.Setting.{script_setting}
-use Rattle.grasp_network.specs.declared.plan.WorldPlan.{WorldPlan}
-use Rattle.grasp_network_script.specs.declared.line.Line.{Line}
-use Rattle.grasp_network_script.specs.declared.script.Script.{Script}
-use Rattle.grasp_scenarios.specs.Laws.{EachRunIsSafe}
-use Rattle.grasp_scenarios.specs.LineRuns.{LineRun}
-use Rattle.grasp_scenarios.specs.ScriptRuns.{MayRunAll, RunsSafely, IsRunText, lines_of, told_of}
-use Rattle.grasp_scenarios.specs.Stops.{SendsTooMuch, IsStoppedText}
-use Rattle.grasp_simulator.specs.Contract.{network_of}
-use Rattle.grasp_simulator.specs.WorldStands.{WorldStands}
-use Rattle.grasp_simulator.specs.declared.world.World.{World}
-use Rattle.grasp_runner.specs.Passing.{AllWritten, BegunWritten, IsReady, StopsSo, StoppedWritten}
+use Rattle.grasp_model_network.specs.Plans.{IsGoodPlan}
+use Rattle.grasp_model_network.specs.Runs.{world_of}
+use Rattle.grasp_model_network.specs.Setting.{script_setting}
+use Rattle.grasp_script.specs.declared.line.Line.{Line}
+use Rattle.grasp_script.specs.declared.script.Script.{Script}
+use Rattle.grasp_model_script.specs.Laws.{EachRunIsSafe}
+use Rattle.grasp_model_script.specs.LineRuns.{LineRun}
+use Rattle.grasp_model_script.specs.ScriptRuns.{MayRunAll, RunsSafely, IsRunText, lines_of, told_of}
+use Rattle.grasp_model_script.specs.Stops.{SendsTooMuch, IsStoppedText}
+use Rattle.grasp_runner.specs.Passing.{AllWritten, BegunWritten, StopsSo, StoppedWritten}
 use Rattle.grasp_runner.specs.Scripts.{IsRead, IsBegun}
 use Rattle.grasp_runner.specs.Written.{Writes, Begins}
 
 pub good_plan : (script : Script) → IsRead script → IsGoodPlan script.plan
 good_plan script read = read.1.is_header.good
-
--- the world was opened for a copy of the plan
-pub ready : (script : Script) (plan : WorldPlan) (code : World) → IsRead script → plan ≡ script.plan → WorldStands code (network_of plan) → IsReady code script
-ready script plan code read same h = record { read = read; opened = subst (λ (p : WorldPlan). WorldStands code (network_of p)) same h }
 
 pub runs_safely : EachRunIsSafe → (script : Script) (run : List LineRun) → IsRead script → MayRunAll (script_setting script.plan) (world_of script.plan) run → RunsSafely script.plan run
 runs_safely safe script run read may = safe script.plan run (good_plan script read) may
@@ -37,7 +29,7 @@ pub begun : EachRunIsSafe → (script : Script) (run : List LineRun) (rest : Lis
 begun safe script run rest a b read is may front =
     record { output = told_of script.plan run; made = (rest, record { run = run; is_run = is; safely = runs_safely safe script run read may; told = refl }); written = front }
 
-nothing_front : (a : Option (List ℕ)) (bytes : List ℕ) → AppendsFront a a bytes
+pub nothing_front : (a : Option (List ℕ)) (bytes : List ℕ) → AppendsFront a a bytes
 nothing_front None bytes = tt
 nothing_front (Some x) bytes = (passes_held (Some x) bytes).0
 

@@ -1,38 +1,30 @@
 -- The events of a script's lines may be asked for.
 use Rattle.std.proofs.Common.{◌≡◌, ◌≢◌, sym, subst, arith, tests, ℕ, ◌==◌, nat_le, true, length}
 use Rattle.grasp_types.specs.declared.call.Call.{Call}
-use Rattle.grasp_types.specs.declared.call.Call.TheVariants.{RegisterAsa, DeregisterAsa, RegisterObjective, DeregisterObjective, Discover, RequestNegotiate, ListenNegotiate, StopListenNegotiate, NegotiateStep, NegotiateWait, EndNegotiate, SendInvalid, Poll, Synchronize, ListenSynchronize, StopListenSynchronize, Flood, GetFlood, ExpireFlood}
-use Rattle.grasp_network.specs.Events.{IsFit, IsFitAmong}
-use Rattle.grasp_network.specs.Ranges as ranges
-use Rattle.grasp_network.specs.Setting.{Setting}
-use Rattle.grasp_network.specs.World.{WorldState}
-use Rattle.grasp_network.specs.declared.event.Event.{Event}
-use Rattle.grasp_network.specs.declared.event.Event.TheVariants as event
-use Rattle.grasp_network_script.specs.Acts.{IsEvent}
-use Rattle.grasp_network_script.specs.Calls.{IsCall, may_call}
-use Rattle.grasp_scenarios.specs.LineRuns.{placed_call, placed_event}
+use Rattle.grasp_types.specs.declared.call.Call.TheVariants.{RegisterAsa, RegisterObjective, Discover, RequestNegotiate, NegotiateStep, NegotiateWait, EndNegotiate, SendInvalid, Synchronize, ListenSynchronize, Flood}
+use Rattle.grasp_model_network.specs.Events.{IsFit, IsFitAmong}
+use Rattle.grasp_model_network.specs.Ranges as ranges
+use Rattle.grasp_model_network.specs.Setting.{Setting}
+use Rattle.grasp_model_network.specs.World.{WorldState}
+use Rattle.grasp_model_network.specs.declared.event.Event.{Event}
+use Rattle.grasp_model_network.specs.declared.event.Event.TheVariants as event
+use Rattle.grasp_script.specs.Acts.{IsEvent}
+use Rattle.grasp_script.specs.Calls.{IsCall, may_call}
+use Rattle.grasp_model_script.specs.LineRuns.{placed_call, placed_event}
 
 -- what a call carries stays within its ranges where its session gets a place
 call_fits : (nodes : ℕ) (w : WorldState) (node : ℕ) (c : Call) → IsCall nodes c → ranges.IsCall (placed_call w node c)
-call_fits nodes w node (RegisterAsa name) h = tt
-call_fits nodes w node DeregisterAsa h = tt
 call_fits nodes w node (RegisterObjective name flags) h = h
-call_fits nodes w node (DeregisterObjective name) h = tt
 call_fits nodes w node (Discover name kind loops timeout) h = (h.0, h.1)
 call_fits nodes w node (RequestNegotiate name value loops timeout dry peer) h = (h.0, h.1, h.2)
-call_fits nodes w node (ListenNegotiate name) h = tt
-call_fits nodes w node (StopListenNegotiate name) h = tt
 call_fits nodes w node (NegotiateStep handle value) h = h.1
 call_fits nodes w node (NegotiateWait handle millis) h = h.1
 call_fits nodes w node (EndNegotiate handle verdict) h = h.1
 call_fits nodes w node (SendInvalid handle detail) h = h.1
-call_fits nodes w node (Poll handle) h = tt
 call_fits nodes w node (Synchronize name loops timeout peer) h = (h.0, h.1)
 call_fits nodes w node (ListenSynchronize name value) h = h.1
-call_fits nodes w node (StopListenSynchronize name) h = tt
 call_fits nodes w node (Flood name value ttl loops) h = h
-call_fits nodes w node (GetFlood name) h = tt
-call_fits nodes w node (ExpireFlood name initiator) h = tt
+call_fits nodes w node _ h = tt
 
 -- ---- no call is made as agent 1
 
@@ -44,24 +36,7 @@ none_yet asa h one = absurd (grind (arith, tests))
 
 not_own : (asa : ℕ) (c : Call) → may_call asa c ≡ true → asa ≢ 1
 not_own asa (RegisterAsa name) h = none_yet asa h
-not_own asa DeregisterAsa h = two_more asa h
-not_own asa (RegisterObjective name flags) h = two_more asa h
-not_own asa (DeregisterObjective name) h = two_more asa h
-not_own asa (Discover name kind loops timeout) h = two_more asa h
-not_own asa (RequestNegotiate name value loops timeout dry peer) h = two_more asa h
-not_own asa (ListenNegotiate name) h = two_more asa h
-not_own asa (StopListenNegotiate name) h = two_more asa h
-not_own asa (NegotiateStep handle value) h = two_more asa h
-not_own asa (NegotiateWait handle millis) h = two_more asa h
-not_own asa (EndNegotiate handle verdict) h = two_more asa h
-not_own asa (SendInvalid handle detail) h = two_more asa h
-not_own asa (Poll handle) h = two_more asa h
-not_own asa (Synchronize name loops timeout peer) h = two_more asa h
-not_own asa (ListenSynchronize name value) h = two_more asa h
-not_own asa (StopListenSynchronize name) h = two_more asa h
-not_own asa (Flood name value ttl loops) h = two_more asa h
-not_own asa (GetFlood name) h = two_more asa h
-not_own asa (ExpireFlood name initiator) h = two_more asa h
+not_own asa _ h = two_more asa h
 
 -- ---- events
 
@@ -70,11 +45,8 @@ event_among n w (event.Clock node millis) h = h.0
 event_among n w (event.Want node least longest peer) h = (h.0, h.2, h.1)
 event_among n w (event.Agent node hold) h = h
 event_among n w (event.Api node asa call hold) h = (h.0, not_own asa call h.3, call_fits n w node call h.2)
-event_among n w (event.Datagram index hold) h = tt
-event_among n w (event.Arrive stream hold) h = tt
-event_among n w (event.Bytes stream far count hold) h = tt
-event_among n w (event.Cut stream far hold) h = tt
 event_among n w (event.Drain node max) h = h.0
+event_among n w _ h = tt
 
 pub event_fits : (s : Setting) (w : WorldState) (e : Event) → length w.seats ≡ length s.members → length s.peers ≡ length s.members → IsEvent (length s.members) e → IsFit s w (placed_event w e)
 event_fits s w e seats peers h =

@@ -6,10 +6,10 @@ use Rattle.std.proofs.lemmas.Option.{slice_get_within, get_or_from_slice_get}
 use Rattle.std.specs.List.{slice_get, sum_by}
 use Rattle.grasp_types.specs.Prefix.{AddressBlock}
 use Rattle.grasp_agent.specs.States.{AgentState}
-use Rattle.grasp_network.proofs.GoodPlans.{not_zero}
-use Rattle.grasp_network.specs.Plans.{IsNode}
-use Rattle.grasp_network.specs.Setting.{Setting}
-use Rattle.grasp_network.specs.World.{Seat, WorldState, seat_at}
+use Rattle.grasp_laws_network.proofs.GoodPlans.{not_zero}
+use Rattle.grasp_model_network.specs.Plans.{IsNode}
+use Rattle.grasp_model_network.specs.Setting.{Setting}
+use Rattle.grasp_model_network.specs.World.{Seat, WorldState, seat_at}
 use Rattle.grasp_simulator.specs.WorldStands.{HasNode, LendsAgent, WorldStands}
 use Rattle.grasp_simulator.specs.declared.world.World.{World}
 use Rattle.grasp_runner.specs.Lines.{network_at}
@@ -18,9 +18,6 @@ use Rattle.grasp_runner.proofs.Placing.{IsThere, has_node, node_there, seats_her
 
 -- ---- one pool
 
-within : (xs : List AddressBlock) (i : ℕ) (x : AddressBlock) → slice_get xs i ≡ Some x → i < length xs
-within xs i x e = slice_get_within xs i x e
-
 -- the list goes on
 pub goes_on : (xs : List AddressBlock) (i : ℕ) → i ≤ length xs → (slice_get xs i ≡ None → ⊥) → i + 1 ≤ length xs
 goes_on [] zero h more = absurd (more refl)
@@ -28,7 +25,7 @@ goes_on [] (suc i) h more = absurd (omega (arith, h))
 goes_on (x ∷ xs) zero h more = omega arith
 goes_on (x ∷ xs) (suc i) h more = let below : i + 1 ≤ length xs = goes_on xs i (omega (arith, h)) more in omega (arith, below)
 
--- it ends here
+-- a place up to the length of a list at which nothing stands is the list's end
 pub ends_here : (xs : List AddressBlock) (i : ℕ) → i ≤ length xs → slice_get xs i ≡ None → i ≡ length xs
 ends_here [] zero h none = refl
 ends_here [] (suc i) h none = absurd (omega (arith, h))

@@ -1,9 +1,9 @@
 -- The text that is drawn from a number is a script.
 use Rattle.std.proofs.Common.{◌≡◌, sym, subst, ℕ, List}
-use Rattle.grasp_generator.specs.Generator.{script_of}
-use Rattle.grasp_generator_laws.specs.Generated.{DrawnTextsAreScripts, IsDrawnScript}
-use Rattle.grasp_network_script.specs.Scripts.{IsScript, IsNoScript}
-use Rattle.grasp_network_script.specs.declared.script.Script.{Script}
+use Rattle.grasp_script_draws.specs.Generator.{script_of}
+use Rattle.grasp_laws_draws.specs.Generated.{DrawnTextsAreScripts, IsDrawnScript}
+use Rattle.grasp_script.specs.Scripts.{IsScript, IsNoScript}
+use Rattle.grasp_script.specs.declared.script.Script.{Script}
 
 pub no_bad_line : DrawnTextsAreScripts → (number : ℕ) (text : List ℕ) → text ≡ script_of number → IsNoScript text → ⊥
 no_bad_line drawn number text same none =

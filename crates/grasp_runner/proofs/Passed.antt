@@ -4,21 +4,21 @@ use Rattle.std.proofs.lemmas.List.{take_all, take_more}
 use Rattle.std.proofs.lemmas.Option.{slice_get_within, get_or_from_slice_get}
 use Rattle.std.specs.List.{slice_get, AllByRecursion}
 use Rattle.grasp_io.specs.Known.{AppendsFront, Passes}
-use Rattle.grasp_io.proofs.Streams.{passes_held, passes_more, passes_then_front, front_of_more}
-use Rattle.grasp_network.specs.Runs.{world_of}
-use Rattle.grasp_network.specs.Setting.{Setting, script_setting}
-use Rattle.grasp_network.specs.Visits.{Choice}
-use Rattle.grasp_network.specs.World.{WorldState}
-use Rattle.grasp_network.specs.declared.plan.WorldPlan.{WorldPlan}
-use Rattle.grasp_network.specs.declared.report.WorldStop.{WorldStop}
-use Rattle.grasp_network.specs.declared.report.WorldStop.TheVariants as stop
-use Rattle.grasp_network_script.specs.Acts.{IsAct}
-use Rattle.grasp_network_script.specs.Scripts.{IsItsLine}
-use Rattle.grasp_network_script.specs.declared.line.Line.{Line}
-use Rattle.grasp_network_script.specs.declared.script.Script.{Script}
-use Rattle.grasp_scenarios.proofs.MoreLines.{lines_more, may_run_more, network_more, told_more}
-use Rattle.grasp_scenarios.specs.LineRuns.{LineRun, MayComeOut, after_act}
-use Rattle.grasp_scenarios.specs.ScriptRuns.{MayRunAll, lines_of, network_after, told_from, told_of}
+use Rattle.grasp_io.proofs.Streams.{passes_held, passes_more, passes_then_front}
+use Rattle.grasp_model_network.specs.Runs.{world_of}
+use Rattle.grasp_model_network.specs.Setting.{Setting, script_setting}
+use Rattle.grasp_model_network.specs.Visits.{Choice}
+use Rattle.grasp_model_network.specs.World.{WorldState}
+use Rattle.grasp_model_network.specs.declared.plan.WorldPlan.{WorldPlan}
+use Rattle.grasp_model_network.specs.declared.report.WorldStop.{WorldStop}
+use Rattle.grasp_model_network.specs.declared.report.WorldStop.TheVariants as stop
+use Rattle.grasp_script.specs.Acts.{IsAct}
+use Rattle.grasp_script.specs.Scripts.{IsItsLine}
+use Rattle.grasp_script.specs.declared.line.Line.{Line}
+use Rattle.grasp_script.specs.declared.script.Script.{Script}
+use Rattle.grasp_model_script.proofs.MoreLines.{lines_more, may_run_more, network_more, told_more}
+use Rattle.grasp_model_script.specs.LineRuns.{LineRun, MayComeOut, after_act}
+use Rattle.grasp_model_script.specs.ScriptRuns.{MayRunAll, lines_of, network_after, told_from, told_of}
 use Rattle.grasp_simulator.specs.Contract.{network_of}
 use Rattle.grasp_simulator.specs.WorldStands.{WorldStands}
 use Rattle.grasp_simulator.specs.declared.world.World.{World}
@@ -41,9 +41,6 @@ line_passes a b c old held later line spelled e p q = subst (Passes a c later) (
 pub line_front : (a b c : Option (List ℕ)) (old held line spelled : List ℕ) → line ≡ spelled → Passes a b held (old ++ line) → AppendsFront b c (held ++ 10 ∷ [])
     → AppendsFront a c (old ++ (spelled ++ 10 ∷ []))
 line_front a b c old held line spelled e p q = subst (AppendsFront a c) (two_pieces old line spelled e) (passes_then_front a b c held (old ++ line) (10 ∷ []) p q)
-
-pub line_begun : (a b : Option (List ℕ)) (old line spelled : List ℕ) → line ≡ spelled → AppendsFront a b (old ++ line) → AppendsFront a b (old ++ (spelled ++ 10 ∷ []))
-line_begun a b old line spelled e p = subst (AppendsFront a b) (two_pieces old line spelled e) (front_of_more a b (old ++ line) (10 ∷ []) p)
 
 -- ---- one line
 
@@ -188,7 +185,7 @@ pub stops_here : (script : Script) (code : World) (run : List LineRun) (i : ℕ)
     → lines_of run ++ line ∷ drop (i + 1) script.lines ≡ script.lines
 stops_here script code run i line h e = ap (λ (ls : List Line). ls ++ line ∷ drop (i + 1) script.lines) h.is_run ∙ split_lines script.lines i line e
 
-passes_front : (a b : Option (List ℕ)) (held bytes : List ℕ) → Passes a b held bytes → AppendsFront a b bytes
+pub passes_front : (a b : Option (List ℕ)) (held bytes : List ℕ) → Passes a b held bytes → AppendsFront a b bytes
 passes_front None b held bytes p = tt
 passes_front (Some x) None held bytes p = absurd p
 passes_front (Some x) (Some y) held bytes p = p.0

@@ -2,21 +2,20 @@
 use Rattle.std.proofs.Common.{◌≡◌, ◌<◌, ◌≤◌, refl, sym, ap, ◌∙◌, subst, arith, ℕ, zero, suc, ◌-◌, Bool, List, [], ◌∷◌, length, Some, Result, Ok, Err}
 use Rattle.std.specs.List.{slice_get}
 use Rattle.grasp_types.specs.declared.call.Call.{Call}
-use Rattle.grasp_network.proofs.GoodPlans.{count_numbers, member_count, not_zero}
-use Rattle.grasp_network.proofs.Opened.{map_length}
-use Rattle.grasp_network.specs.Events.{IsFit, MayStop, Overflows}
-use Rattle.grasp_network.specs.Plans.{IsNode}
-use Rattle.grasp_network.specs.Setting.{Setting, numbers_from, script_locator, script_setting}
-use Rattle.grasp_network.specs.World.{Seat, WorldState, seat_at}
-use Rattle.grasp_network.specs.declared.event.Event.{Event}
-use Rattle.grasp_network.specs.declared.event.Event.TheVariants as event
-use Rattle.grasp_network.specs.declared.plan.WorldPlan.{WorldPlan}
-use Rattle.grasp_network.specs.declared.report.Report.{Report}
-use Rattle.grasp_network.specs.declared.report.WorldStop.{WorldStop}
-use Rattle.grasp_network.specs.declared.report.WorldStop.TheVariants as stop
-use Rattle.grasp_network_script.specs.declared.line.LineAct.TheVariants as act
-use Rattle.grasp_scenarios.specs.LineRuns.{placed_call, placed_event}
-use Rattle.grasp_simulator.proofs.SeatLists.{seats_length}
+use Rattle.grasp_laws_network.proofs.GoodPlans.{member_count, not_zero}
+use Rattle.grasp_model_network.specs.Events.{IsFit, MayStop, Overflows}
+use Rattle.grasp_model_network.specs.Plans.{IsNode}
+use Rattle.grasp_model_network.specs.Setting.{Setting, script_setting}
+use Rattle.grasp_model_network.specs.World.{Seat, WorldState, seat_at}
+use Rattle.grasp_model_network.specs.declared.event.Event.{Event}
+use Rattle.grasp_model_network.specs.declared.event.Event.TheVariants as event
+use Rattle.grasp_model_network.specs.declared.plan.WorldPlan.{WorldPlan}
+use Rattle.grasp_model_network.specs.declared.report.Report.{Report}
+use Rattle.grasp_model_network.specs.declared.report.WorldStop.{WorldStop}
+use Rattle.grasp_model_network.specs.declared.report.WorldStop.TheVariants as stop
+use Rattle.grasp_script.specs.declared.line.LineAct.TheVariants as act
+use Rattle.grasp_model_script.specs.LineRuns.{placed_call, placed_event}
+use Rattle.grasp_simulator.proofs.SeatLists.{seats_length, peers_count}
 use Rattle.grasp_simulator.specs.Contract.{going, Answers, MeetsEvent}
 use Rattle.grasp_simulator.specs.WorldStands.{WorldStands, HasNode, IsSeat}
 use Rattle.grasp_simulator.specs.WorldSteps.{IsAsked, Stepped}
@@ -30,15 +29,11 @@ pub plan_members : (p : WorldPlan) → length (script_setting p).members ≡ p.n
 unfolding script_setting
 plan_members p = member_count p
 
-plan_peers : (p : WorldPlan) → length (script_setting p).peers ≡ p.nodes
-unfolding script_setting
-plan_peers p = map_length script_locator (numbers_from 1 p.nodes) ∙ count_numbers 1 p.nodes
-
 pub seats_here : (code : World) (s : Setting) (w : WorldState) → WorldStands code (network_at s w) → length w.seats ≡ length s.members
 seats_here code s w h = sym (seats_length code.seats.items w.seats h.stands.keeps.seats) ∙ h.count
 
 peers_here : (code : World) (s : Setting) (w : WorldState) → WorldStands code (network_at s w) → length s.peers ≡ length s.members
-peers_here code s w h = subst (λ (x : Setting). length x.peers ≡ length x.members) (sym h.stands.keeps.setting) (plan_peers code.plan ∙ sym (plan_members code.plan))
+peers_here code s w h = subst (λ (x : Setting). length x.peers ≡ length x.members) (sym h.stands.keeps.setting) (peers_count code.plan ∙ sym (plan_members code.plan))
 
 -- ---- nodes
 
@@ -90,10 +85,6 @@ answered new s w e placed (Err why) is h = line_may_stop s w e placed why is h.m
 pub runs_placed : (code new : World) (e placed : Event) (r : Result Report WorldStop) → IsPlaced code e placed → Stepped code new placed r → RunsEvent code new e r
 runs_placed code new e placed r is stepped =
     λ s w h. answered new s w e placed r (is s w h) (stepped (network_at s w) (meets_placed code s w e placed (is s w h) h))
-
--- there was no memory
-pub runs_starved : (code new : World) (e : Event) → RunsEvent code new e (Err stop.OutOfMemory)
-runs_starved code new e = λ s w h. tt
 
 -- a call with the place of its session
 pub placed_api : (code : World) (e : Event) (node asa : ℕ) (call placed : Call) (hold : Bool) → e ≡ event.Api node asa call hold

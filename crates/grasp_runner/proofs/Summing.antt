@@ -1,22 +1,17 @@
 -- The summary of a run.
-use Rattle.std.proofs.Common.{◌≡◌, sym, ap, ◌∙◌, subst, ℕ, List, [], ◌∷◌, ◌++◌, Option}
-use Rattle.std.specs.Io.KnownBytes.{Appends}
-use Rattle.grasp_io.specs.Known.{AppendsFront}
-use Rattle.grasp_network.specs.Runs.{world_of}
-use Rattle.grasp_network.specs.Setting.{script_setting}
-use Rattle.grasp_network.specs.World.{WorldState}
-use Rattle.grasp_network.specs.declared.plan.WorldPlan.{WorldPlan}
-use Rattle.grasp_network.specs.declared.report.Report.{Report}
-use Rattle.grasp_network_script.specs.Scripts.{IsScript}
-use Rattle.grasp_network_script.specs.declared.script.Script.{Script}
-use Rattle.grasp_scenarios.specs.Laws.{EachRunIsSafe}
-use Rattle.grasp_scenarios.specs.ScriptRuns.{network_after}
-use Rattle.grasp_scenarios.specs.Stops.{SendsTooMuch, TextSendsTooMuch}
-use Rattle.grasp_scenarios.specs.Summary.{Counts, IsSummary, counts_line, counts_of, reports_of}
+use Rattle.std.proofs.Common.{◌≡◌, sym, ap, ◌∙◌, subst, ℕ, List}
+use Rattle.grasp_model_network.specs.Runs.{world_of}
+use Rattle.grasp_model_network.specs.Setting.{script_setting}
+use Rattle.grasp_model_network.specs.World.{WorldState}
+use Rattle.grasp_model_network.specs.declared.plan.WorldPlan.{WorldPlan}
+use Rattle.grasp_model_network.specs.declared.report.Report.{Report}
+use Rattle.grasp_script.specs.declared.script.Script.{Script}
+use Rattle.grasp_model_script.specs.Laws.{EachRunIsSafe}
+use Rattle.grasp_model_script.specs.ScriptRuns.{network_after}
+use Rattle.grasp_model_script.specs.Summary.{Counts, counts_of, reports_of}
 use Rattle.grasp_simulator.specs.declared.world.World.{World}
 use Rattle.grasp_runner.specs.Scripts.{IsRead}
-use Rattle.grasp_runner.specs.Tallies.{HasCounted, HasNodes, IsCounted, IsSummaryLine, IsTally, TellsCounts, counted_of}
-use Rattle.grasp_runner.specs.Written.{Writes, Begins}
+use Rattle.grasp_runner.specs.Tallies.{HasCounted, HasNodes, IsCounted, IsTally, TellsCounts, counted_of}
 use Rattle.grasp_runner.specs.declared.summary.Counts.{Counts as CountsCode}
 use Rattle.grasp_runner.specs.declared.tally.Tally.{Tally}
 use Rattle.grasp_runner.proofs.Ends.{runs_safely}
@@ -60,20 +55,3 @@ is_counted safe script code tally c plan read h tells same =
       is = counts_same code tally c script.plan plan.nodes (reports_of script.plan h.run) last h.is tells (ap (λ (p : WorldPlan). p.nodes) same)
           (tells.held (script_setting script.plan) last h.has_run.stands) (tells.doubt (script_setting script.plan) last h.has_run.stands);
     }
-
-pub summary_line : (number : ℕ) (script : Script) (c : CountsCode) (line : List ℕ) → IsCounted script.plan script.lines c → line ≡ counts_line number (counted_of c) ++ 10 ∷ [] → IsSummaryLine number script.plan script.lines line
-summary_line number script c line h told = record { run = h.run; is_run = h.is_run; safely = h.safely; told = told ∙ ap (λ (k : Counts). counts_line number k ++ 10 ∷ []) h.is }
-
-is_summary : (text : List ℕ) (number : ℕ) (script : Script) (line : List ℕ) → IsScript text script.plan script.lines → IsSummaryLine number script.plan script.lines line → IsSummary text number line
-is_summary text number script line read h = record { plan = script.plan; lines = script.lines; script = read; run = h.run; is_run = h.is_run; safely = h.safely; told = h.told }
-
-pub summary_written : (text : List ℕ) (number : ℕ) (script : Script) (line bytes : List ℕ) (a b : Option (List ℕ)) → IsScript text script.plan script.lines → IsSummaryLine number script.plan script.lines line → bytes ≡ line
-    → Appends a b bytes → Writes (IsSummary text number) a b
-summary_written text number script line bytes a b read h same w = record { output = line; made = is_summary text number script line read h; written = subst (Appends a b) same w }
-
-pub summary_begun : (text : List ℕ) (number : ℕ) (script : Script) (line bytes : List ℕ) (a b : Option (List ℕ)) → IsScript text script.plan script.lines → IsSummaryLine number script.plan script.lines line → bytes ≡ line
-    → AppendsFront a b bytes → Begins (IsSummary text number) a b
-summary_begun text number script line bytes a b read h same w = record { output = line; made = is_summary text number script line read h; written = subst (AppendsFront a b) same w }
-
-pub text_stops : (text : List ℕ) (script : Script) → IsScript text script.plan script.lines → SendsTooMuch script.plan script.lines → TextSendsTooMuch text
-text_stops text script read h = record { plan = script.plan; lines = script.lines; script = read; stops = h }

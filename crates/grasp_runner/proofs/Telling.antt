@@ -1,18 +1,18 @@
 -- Lines that are run, and their reports.
 use Rattle.std.proofs.Common.{◌≡◌, sym, ap, ◌∙◌, subst, ℕ, List, length, Some, Result, Ok, Err}
 use Rattle.grasp_agent.specs.States.{AgentState}
-use Rattle.grasp_network.specs.Plans.{IsNode}
-use Rattle.grasp_network.specs.Setting.{Setting}
-use Rattle.grasp_network.specs.Visits.{no_choice}
-use Rattle.grasp_network.specs.World.{Seat, WorldState, seat_at}
-use Rattle.grasp_network.specs.declared.event.Event.{Event}
-use Rattle.grasp_network.specs.declared.report.Report.{Report}
-use Rattle.grasp_network.specs.declared.report.WorldStop.{WorldStop}
-use Rattle.grasp_network.specs.declared.report.WorldStop.TheVariants as stop
-use Rattle.grasp_network_script.specs.Reports.{told_report, told_state}
-use Rattle.grasp_network_script.specs.declared.line.LineAct.{LineAct}
-use Rattle.grasp_network_script.specs.declared.line.LineAct.TheVariants as act
-use Rattle.grasp_scenarios.specs.LineRuns.{event_told, seat_told}
+use Rattle.grasp_model_network.specs.Plans.{IsNode}
+use Rattle.grasp_model_network.specs.Setting.{Setting}
+use Rattle.grasp_model_network.specs.Visits.{no_choice}
+use Rattle.grasp_model_network.specs.World.{Seat, WorldState, seat_at}
+use Rattle.grasp_model_network.specs.declared.event.Event.{Event}
+use Rattle.grasp_model_network.specs.declared.report.Report.{Report}
+use Rattle.grasp_model_network.specs.declared.report.WorldStop.{WorldStop}
+use Rattle.grasp_model_network.specs.declared.report.WorldStop.TheVariants as stop
+use Rattle.grasp_script.specs.Reports.{told_report, told_state}
+use Rattle.grasp_script.specs.declared.line.LineAct.{LineAct}
+use Rattle.grasp_script.specs.declared.line.LineAct.TheVariants as act
+use Rattle.grasp_model_script.specs.LineRuns.{event_told, seat_told}
 use Rattle.grasp_simulator.specs.WorldStands.{LendsAgent}
 use Rattle.grasp_simulator.specs.declared.world.World.{World}
 use Rattle.grasp_runner.specs.Lines.{LineMayStop, MeetsLine, RunsAct, RunsEvent, RunsLook, TellsEvent}
@@ -37,7 +37,7 @@ event_runs code new text e report (Ok told) runs tells = λ s w h.
     record { choice = d.choice; comes = d.occurs; told_is = tells ∙ ap (event_told text) d.report_is; stands = d.stands }
 event_runs code new text e report (Err why) runs tells = λ s w h. stops_so s w (act.Event e) why tells
 
--- it is reported
+-- the event of a line came out, and the text reports it, or there was no memory for that
 pub event_tells : (code new : World) (text : List ℕ) (a : LineAct) (e : Event) (report : Report) (r : Result (List ℕ) WorldStop) → a ≡ act.Event e → RunsEvent code new e (Ok report) → TellsEvent text report r → RunsAct code new text a r
 event_tells code new text a e report r is runs tells = subst (λ (x : LineAct). RunsAct code new text x r) (sym is) (event_runs code new text e report r runs tells)
 

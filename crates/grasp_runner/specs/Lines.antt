@@ -1,18 +1,18 @@
 -- What the code promises of one line of a script.
 use Rattle.std.specs.Prelude.{◌≡◌, ℕ, List, length, Result, Ok, Err}
-use Rattle.grasp_network.specs.Setting.{Setting}
-use Rattle.grasp_network.specs.Visits.{Choice}
-use Rattle.grasp_network.specs.World.{WorldState, seat_at}
-use Rattle.grasp_network.specs.declared.event.Event.{Event}
-use Rattle.grasp_network.specs.declared.report.Report.{Report}
-use Rattle.grasp_network.specs.declared.report.WorldStop.{WorldStop}
-use Rattle.grasp_network.specs.declared.report.WorldStop.TheVariants as stop
-use Rattle.grasp_network_script.specs.Acts.{IsAct}
-use Rattle.grasp_network_script.specs.declared.line.Line.{Line}
-use Rattle.grasp_network_script.specs.declared.line.LineAct.{LineAct}
-use Rattle.grasp_network_script.specs.declared.line.LineAct.TheVariants as act
-use Rattle.grasp_scenarios.specs.LineRuns.{MayComeOut, act_told, after_act, event_told, placed_event, seat_told}
-use Rattle.grasp_scenarios.specs.Stops.{LineOverflows}
+use Rattle.grasp_model_network.specs.Setting.{Setting}
+use Rattle.grasp_model_network.specs.Visits.{Choice}
+use Rattle.grasp_model_network.specs.World.{WorldState, seat_at}
+use Rattle.grasp_model_network.specs.declared.event.Event.{Event}
+use Rattle.grasp_model_network.specs.declared.report.Report.{Report}
+use Rattle.grasp_model_network.specs.declared.report.WorldStop.{WorldStop}
+use Rattle.grasp_model_network.specs.declared.report.WorldStop.TheVariants as stop
+use Rattle.grasp_script.specs.Acts.{IsAct}
+use Rattle.grasp_script.specs.declared.line.Line.{Line}
+use Rattle.grasp_script.specs.declared.line.LineAct.{LineAct}
+use Rattle.grasp_script.specs.declared.line.LineAct.TheVariants as act
+use Rattle.grasp_model_script.specs.LineRuns.{MayComeOut, act_told, after_act, event_told, placed_event, seat_told}
+use Rattle.grasp_model_script.specs.Stops.{LineOverflows}
 use Rattle.grasp_simulator.specs.Contract.{Network, going, Reported}
 use Rattle.grasp_simulator.specs.WorldStands.{WorldStands}
 use Rattle.grasp_simulator.specs.declared.world.World.{World}
@@ -39,12 +39,13 @@ LineMayStop s w a stop.OutOfMemory = Unit {0}
 
 -- ---- an event
 
--- the event came out so, with the places of its sessions, and the code stands for the network after it; or its line may stop the network for this
+-- Inside: the event came out so, with the places of its sessions, and the code stands for the network after it; or its line may
+-- stop the network for this
 abbrev pub EventAnswers : World → Setting → WorldState → Event → Result Report WorldStop → Type 0
 EventAnswers code s w e (Ok report) = Reported (WorldStands code) s w (placed_event w e) report
 EventAnswers code s w e (Err why) = LineMayStop s w (act.Event e) why
 
--- for each network for which the code went on
+-- Inside: for each network for which the code went on
 abbrev pub RunsEvent : World → World → Event → Result Report WorldStop → Type 0
 RunsEvent before after e result = (s : Setting) (w : WorldState) → MeetsLine before s w (act.Event e) → EventAnswers after s w e result
 
@@ -68,18 +69,18 @@ RunsAct before after text a result = (s : Setting) (w : WorldState) → MeetsLin
 abbrev pub RunsLine : World → World → Line → Result (List ℕ) WorldStop → Type 0
 RunsLine before after line result = RunsAct before after line.text line.act result
 
--- ---- the report of a line. Only private calls cite what follows
+-- ---- the report of a line
 
--- the text tells this of an event, or there was no memory
+-- Inside: the text tells this of an event, or there was no memory
 abbrev pub TellsEvent : List ℕ → Report → Result (List ℕ) WorldStop → Type 0
 TellsEvent text report (Ok told) = told ≡ event_told text report
 TellsEvent text report (Err why) = why ≡ stop.OutOfMemory
 
--- it tells this of a node that stands so
+-- Inside: it tells this of a node that stands so
 abbrev pub LookAnswers : WorldState → List ℕ → ℕ → Result (List ℕ) WorldStop → Type 0
 LookAnswers w text node (Ok told) = told ≡ seat_told text (seat_at w node)
 LookAnswers w text node (Err why) = why ≡ stop.OutOfMemory
 
--- for each network for which the code goes on
+-- Inside: for each network for which the code goes on
 abbrev pub RunsLook : World → List ℕ → ℕ → Result (List ℕ) WorldStop → Type 0
 RunsLook code text node result = (s : Setting) (w : WorldState) → MeetsLine code s w (act.State node) → LookAnswers w text node result

@@ -1,16 +1,16 @@
--- What is written of the reports of lines while they run. Only private calls cite it.
+-- Inside: what is written of the reports of lines while they run.
 use Rattle.std.specs.Prelude.{◌≡◌, ℕ, List, [], ◌∷◌, ◌++◌, Option, Result, Ok, Err}
 use Rattle.grasp_io.specs.Known.{AppendsFront, Passes}
-use Rattle.grasp_network.specs.Runs.{world_of}
-use Rattle.grasp_network.specs.Setting.{Setting, script_setting}
-use Rattle.grasp_network.specs.Visits.{Choice}
-use Rattle.grasp_network.specs.World.{WorldState}
-use Rattle.grasp_network.specs.declared.plan.WorldPlan.{WorldPlan}
-use Rattle.grasp_network_script.specs.declared.line.Line.{Line}
-use Rattle.grasp_network_script.specs.declared.script.Script.{Script}
-use Rattle.grasp_scenarios.specs.LineRuns.{LineRun, MayComeOut, act_told, after_act}
-use Rattle.grasp_scenarios.specs.ScriptRuns.{MayRunAll, lines_of, network_after, told_of}
-use Rattle.grasp_scenarios.specs.Stops.{LineOverflows}
+use Rattle.grasp_model_network.specs.Runs.{world_of}
+use Rattle.grasp_model_network.specs.Setting.{Setting, script_setting}
+use Rattle.grasp_model_network.specs.Visits.{Choice}
+use Rattle.grasp_model_network.specs.World.{WorldState}
+use Rattle.grasp_model_network.specs.declared.plan.WorldPlan.{WorldPlan}
+use Rattle.grasp_script.specs.declared.line.Line.{Line}
+use Rattle.grasp_script.specs.declared.script.Script.{Script}
+use Rattle.grasp_model_script.specs.LineRuns.{LineRun, MayComeOut, act_told, after_act}
+use Rattle.grasp_model_script.specs.ScriptRuns.{MayRunAll, lines_of, network_after, told_of}
+use Rattle.grasp_model_script.specs.Stops.{LineOverflows}
 use Rattle.grasp_simulator.specs.Contract.{network_of}
 use Rattle.grasp_simulator.specs.WorldStands.{WorldStands}
 use Rattle.grasp_simulator.specs.declared.world.World.{World}
@@ -61,13 +61,13 @@ pub record IsReady (code : World) (script : Script) : Type 0 where
   pub read : IsRead script
   pub opened : WorldStands code (network_of script.plan)
 
--- these lines were run so, and the code stands for the network after them
+-- the lines of a script came out so one after the other, and the code stands for the network after them
 pub record HasRun (plan : WorldPlan) (lines : List Line) (code : World) (run : List LineRun) : Type 0 where
   pub is_run : lines_of run ≡ lines
   pub may_run : MayRunAll (script_setting plan) (world_of plan) run
   pub stands : WorldStands code (network_at (script_setting plan) (network_after (script_setting plan) (world_of plan) run))
 
--- and of their reports a front was written and the rest is held
+-- the lines were run, and of the bytes of their reports a prefix was written and the rest is held
 pub record HasWritten (plan : WorldPlan) (lines : List Line) (code : World) (before after : Option (List ℕ)) (left : List ℕ) : Type 0 where
   pub run : List LineRun
   pub has_run : HasRun plan lines code run
@@ -89,7 +89,8 @@ pub record StopsSo (plan : WorldPlan) (lines : List Line) : Type 0 where
   pub may_run : MayRunAll (script_setting plan) (world_of plan) run
   pub overflows : LineOverflows (script_setting plan) (network_after (script_setting plan) (world_of plan) run) line.act
 
--- and of the reports of the lines that were run a front was written and the rest is held
+-- the event of some line sends too much, and of the bytes of the reports of the lines that were run before it a prefix was written and the
+-- rest is held
 pub record StoppedWritten (plan : WorldPlan) (lines : List Line) (before after : Option (List ℕ)) (left : List ℕ) : Type 0 where
   pub stops : StopsSo plan lines
   pub passes : Passes before after left (told_of plan stops.run)

@@ -1,17 +1,17 @@
--- What the code counts of a run. Only private calls cite it.
+-- Inside: what the code counts of a run.
 use Rattle.std.specs.Prelude.{◌≡◌, ℕ, ◌<◌, ◌-◌, ◌^◌, List, [], ◌∷◌, ◌++◌, codes, decimal, length, Result, Ok, Err}
-use Rattle.grasp_network.specs.Runs.{reports_from}
-use Rattle.grasp_network.specs.Setting.{Setting}
-use Rattle.grasp_network.specs.Visits.{Choice}
-use Rattle.grasp_network.specs.World.{WorldState}
-use Rattle.grasp_network.specs.declared.plan.WorldPlan.{WorldPlan}
-use Rattle.grasp_network.specs.declared.report.Report.{Report}
-use Rattle.grasp_network_script.specs.declared.line.Line.{Line}
-use Rattle.grasp_network_script.specs.declared.line.LineAct.{LineAct}
-use Rattle.grasp_scenarios.specs.LineRuns.{LineRun, MayComeOut, after_act}
-use Rattle.grasp_scenarios.specs.ScriptRuns.{RunsSafely, happening_of, lines_of}
-use Rattle.grasp_scenarios.specs.Stops.{LineOverflows}
-use Rattle.grasp_scenarios.specs.Summary.{Counts, count_doubt, count_ends, count_held, counts_of, is_agreed, is_broken, is_declined, last_network, reports_of, summary_of}
+use Rattle.grasp_model_network.specs.Runs.{reports_from}
+use Rattle.grasp_model_network.specs.Setting.{Setting}
+use Rattle.grasp_model_network.specs.Visits.{Choice}
+use Rattle.grasp_model_network.specs.World.{WorldState}
+use Rattle.grasp_model_network.specs.declared.plan.WorldPlan.{WorldPlan}
+use Rattle.grasp_model_network.specs.declared.report.Report.{Report}
+use Rattle.grasp_script.specs.declared.line.Line.{Line}
+use Rattle.grasp_script.specs.declared.line.LineAct.{LineAct}
+use Rattle.grasp_model_script.specs.LineRuns.{LineRun, MayComeOut, after_act}
+use Rattle.grasp_model_script.specs.ScriptRuns.{RunsSafely, happening_of, lines_of}
+use Rattle.grasp_model_script.specs.Stops.{LineOverflows}
+use Rattle.grasp_model_script.specs.Summary.{Counts, count_doubt, count_ends, count_held, counts_of, is_agreed, is_broken, is_declined, last_network, reports_of, summary_of}
 use Rattle.grasp_simulator.specs.WorldStands.{WorldStands}
 use Rattle.grasp_simulator.specs.declared.world.World.{World}
 use Rattle.grasp_runner.specs.Lines.{MeetsLine, network_at}
@@ -30,7 +30,7 @@ pub record IsTally (code : Tally) (reports : List Report) : Type 0 where
   pub declined : code.declined ≡ count_ends is_declined reports
   pub broken : code.broken ≡ count_ends is_broken reports
 
--- it is the count of some reports, which are fewer than can be counted
+-- the tally is the count of some reports, which are fewer than can be counted
 pub record CanCount (code : Tally) : Type 0 where
   pub reports : List Report
   pub is : IsTally code reports
@@ -61,7 +61,7 @@ CountsAct code new a before result = (s : Setting) (w : WorldState) → MeetsLin
 
 -- ---- the lines of a script
 
--- these lines were run so, and what is reported of them was counted
+-- the lines of a script were run, and what is reported of them was counted
 pub record HasCounted (plan : WorldPlan) (lines : List Line) (code : World) (tally : Tally) : Type 0 where
   pub run : List LineRun
   pub has_run : HasRun plan lines code run
@@ -92,7 +92,7 @@ TellsDoubt code doubt = (s : Setting) (w : WorldState) → WorldStands code (net
 
 -- ---- the summary
 
--- these are told, and how many prefixes the nodes hold and have in doubt
+-- the counts give this number of nodes and this tally, and how many prefixes the nodes hold and have in doubt
 pub record TellsCounts (code : World) (nodes : ℕ) (tally : Tally) (counts : CountsCode) : Type 0 where
   pub nodes_are : counts.nodes ≡ nodes
   pub tally_is : counts.tally ≡ tally
@@ -122,7 +122,7 @@ pub record IsCounted (plan : WorldPlan) (lines : List Line) (counts : CountsCode
   pub safely : RunsSafely plan run
   pub is : counted_of counts ≡ counts_of plan (reports_of plan run) (last_network plan run)
 
--- and this is the summary of their run
+-- the lines were run, and this is the summary of their run
 pub record IsSummaryLine (number : ℕ) (plan : WorldPlan) (lines : List Line) (written : List ℕ) : Type 0 where
   pub run : List LineRun
   pub is_run : lines_of run ≡ lines

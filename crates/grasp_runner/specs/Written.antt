@@ -9,7 +9,7 @@ pub record Writes (P : List ℕ → Type 0) (before after : Option (List ℕ)) :
   pub made : P output
   pub written : Appends before after output
 
--- the same, but perhaps only a front of the output was written
+-- an output of which P says so was written after what was written before, whole or only a prefix of its bytes
 pub record Begins (P : List ℕ → Type 0) (before after : Option (List ℕ)) : Type 0 where
   pub output : List ℕ
   pub made : P output

@@ -8,7 +8,7 @@ ghost use Rattle.grasp_runner.specs.Tallies.{CanCount, CountsAct, CountsLines};
 use crate::events::run_event;
 use crate::fault::{RunFault, stop_fault};
 use crate::tally::Tally;
-use grasp_network_script::{Line, LineAct, Script};
+use grasp_script::{Line, LineAct, Script};
 use grasp_simulator::World;
 
 /// Runs the lines of the script, and counts what is reported of their events.

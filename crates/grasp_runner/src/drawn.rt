@@ -1,13 +1,13 @@
 //! Scripts that are drawn from a number.
 
 ghost use Rattle.std.specs.Prelude.{◌≡◌, IfOk};
-ghost use Rattle.grasp_generator.specs.Generator.{script_of};
-ghost use Rattle.grasp_network_script.specs.Scripts.{IsScript};
+ghost use Rattle.grasp_script_draws.specs.Generator.{script_of};
+ghost use Rattle.grasp_script.specs.Scripts.{IsScript};
 
 use grasp_cbor::OutOfMemory;
-use grasp_generator::script_of;
-use grasp_generator_laws::drawn_texts_are_scripts;
-use grasp_network_script::{Script, ScriptFault, parse_script};
+use grasp_laws_draws::drawn_texts_are_scripts;
+use grasp_script::{Script, ScriptFault, parse_script};
+use grasp_script_draws::script_of;
 use std::alloc::Global;
 
 /// The script that is drawn from a number.

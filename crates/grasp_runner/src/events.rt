@@ -1,15 +1,15 @@
 //! Events of lines, with the places of the sessions that they name.
 
 ghost use Rattle.std.specs.Prelude.{◌≡◌, IfOk};
-ghost use Rattle.grasp_network.specs.Setting.{Setting};
-ghost use Rattle.grasp_network.specs.World.{Seat, WorldState};
-ghost use Rattle.grasp_network_script.specs.declared.line.LineAct.TheVariants as act;
-ghost use Rattle.grasp_scenarios.specs.LineRuns.{placed_handle, placed_call, placed_event};
+ghost use Rattle.grasp_model_network.specs.Setting.{Setting};
+ghost use Rattle.grasp_model_network.specs.World.{Seat, WorldState};
+ghost use Rattle.grasp_script.specs.declared.line.LineAct.TheVariants as act;
+ghost use Rattle.grasp_model_script.specs.LineRuns.{placed_handle, placed_call, placed_event};
 ghost use Rattle.grasp_simulator.specs.WorldStands.{HasNode, IsSeat};
 ghost use Rattle.grasp_runner.specs.Lines.{MeetsLine, CanRun, RunsEvent};
 
 use grasp_cbor::OutOfMemory;
-use grasp_network::{Event, Report, WorldStop};
+use grasp_model_network::{Event, Report, WorldStop};
 use grasp_simulator::World;
 use grasp_types::{Call, Handle, Plain};
 
@@ -27,7 +27,8 @@ fn placed_handle(world: &World, node: u8, handle: Handle) -> Handle
 /// The call with the place of the session that it names.
 fn placed_call(world: &World, node: u8, call: &Call) -> Result<Call, OutOfMemory>
     requires { HasNode world.now node }
-    ensures { IfOk result (λ placed. (s : Setting) (w : WorldState) (seat : Seat) → IsSeat world.now node s w seat → placed ≡ placed_call w node call.now) }
+    ensures { IfOk result (λ placed. (s : Setting) (w : WorldState) (seat : Seat) → IsSeat world.now node s w seat
+        → placed ≡ placed_call w node call.now) }
 {
     match call {
         Call::NegotiateStep { handle, value } => Ok(Call::NegotiateStep {
@@ -56,7 +57,8 @@ fn placed_call(world: &World, node: u8, call: &Call) -> Result<Call, OutOfMemory
 /// The event with the place of the session that its call names.
 fn placed_event(world: &World, event: &Event) -> Result<Event, OutOfMemory>
     requires { CanRun world.now (act.Event event.now) }
-    ensures { IfOk result (λ placed. (s : Setting) (w : WorldState) → MeetsLine world.now s w (act.Event event.now) → placed ≡ placed_event w event.now) }
+    ensures { IfOk result (λ placed. (s : Setting) (w : WorldState) → MeetsLine world.now s w (act.Event event.now)
+        → placed ≡ placed_event w event.now) }
 {
     match event {
         Event::Api {

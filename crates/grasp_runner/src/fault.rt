@@ -5,7 +5,7 @@ ghost use Rattle.grasp_runner.specs.Scripts.{fault_of};
 
 use grasp_cbor::OutOfMemory;
 use grasp_io::Failed;
-use grasp_network::WorldStop;
+use grasp_model_network::WorldStop;
 
 /// Why the run of a script ended early.
 #[derive(Clone, Copy, Debug, PartialEq, Eq)]

@@ -1,12 +1,12 @@
 //! Lines of scripts that are run.
 
-ghost use Rattle.grasp_network_script.specs.declared.line.LineAct.TheVariants as act;
+ghost use Rattle.grasp_script.specs.declared.line.LineAct.TheVariants as act;
 ghost use Rattle.grasp_runner.specs.Lines.{CanRun, RunsLine, RunsLook, TellsEvent};
 
 use crate::events::run_event;
 use grasp_cbor::{Chars, OutOfMemory};
-use grasp_network::{Report, WorldStop};
-use grasp_network_script::{Line, LineAct, told_report, told_state};
+use grasp_model_network::{Report, WorldStop};
+use grasp_script::{Line, LineAct, told_report, told_state};
 use grasp_simulator::World;
 use std::alloc::Global;
 

@@ -3,8 +3,8 @@
 ghost use Rattle.std.specs.Prelude.{◌≡◌, ◌≤◌, ◌++◌, ◌∷◌, [], OnOk, OnErr, IfErr, IsErrOf};
 ghost use Rattle.grasp_io.specs.Faults.{Rose};
 ghost use Rattle.grasp_io.specs.Known.{AppendsFront, Passes};
-ghost use Rattle.grasp_scenarios.specs.ScriptRuns.{IsRunText};
-ghost use Rattle.grasp_scenarios.specs.Stops.{SendsTooMuch, IsStoppedText};
+ghost use Rattle.grasp_model_script.specs.ScriptRuns.{IsRunText};
+ghost use Rattle.grasp_model_script.specs.Stops.{SendsTooMuch, IsStoppedText};
 ghost use Rattle.grasp_runner.specs.Lines.{CanRun};
 ghost use Rattle.grasp_runner.specs.Passing.{PassesLine, IsReady, WritesLines};
 ghost use Rattle.grasp_runner.specs.Scripts.{IsRead, IsBegun};
@@ -14,8 +14,8 @@ use crate::fault::{RunFault, stop_fault};
 use crate::lines::run_line;
 use grasp_cbor::Chars;
 use grasp_io::{Sink, WriteBuffer};
-use grasp_network_script::{Line, Script};
-use grasp_scenarios::each_run_is_safe;
+use grasp_model_script::each_run_is_safe;
+use grasp_script::{Line, Script};
 use grasp_simulator::World;
 use std::alloc::Global;
 
@@ -28,7 +28,8 @@ pub fn write_reports<K: Sink>(alloc: Global, script: &Script, sink: &mut K) -> R
     ensures done { OnOk result (Writes (IsRunText script.now.plan script.now.lines) (K.written sink.old) (K.written sink.new)) }
     ensures begun { OnErr result (Begins (IsBegun script.now.plan script.now.lines) (K.written sink.old) (K.written sink.new)) }
     ensures too_much { IsErrOf result RunFault.TooMuch → SendsTooMuch script.now.plan script.now.lines }
-    ensures stopped { IsErrOf result RunFault.TooMuch → Writes (IsStoppedText script.now.plan script.now.lines) (K.written sink.old) (K.written sink.new) }
+    ensures stopped { IsErrOf result RunFault.TooMuch
+        → Writes (IsStoppedText script.now.plan script.now.lines) (K.written sink.old) (K.written sink.new) }
     ensures fault { IsErrOf result RunFault.WriteFault → Rose (K.faults sink.old) (K.faults sink.new) }
     ensures never_falls { K.faults sink.old ≤ K.faults sink.new }
 {
@@ -49,7 +50,8 @@ fn run_script<K: Sink>(
     ensures done { OnOk result (Writes (IsRunText script.now.plan script.now.lines) (K.written sink.old) (K.written sink.new)) }
     ensures begun { OnErr result (Begins (IsBegun script.now.plan script.now.lines) (K.written sink.old) (K.written sink.new)) }
     ensures too_much { IsErrOf result RunFault.TooMuch → SendsTooMuch script.now.plan script.now.lines }
-    ensures stopped { IsErrOf result RunFault.TooMuch → Writes (IsStoppedText script.now.plan script.now.lines) (K.written sink.old) (K.written sink.new) }
+    ensures stopped { IsErrOf result RunFault.TooMuch
+        → Writes (IsStoppedText script.now.plan script.now.lines) (K.written sink.old) (K.written sink.new) }
     ensures fault { IsErrOf result RunFault.WriteFault → Rose (K.faults sink.old) (K.faults sink.new) }
     ensures never_falls { K.faults sink.old ≤ K.faults sink.new }
 {

@@ -1,10 +1,10 @@
 //! The summary of the run of a script that is drawn from a number.
 
 ghost use Rattle.std.specs.Prelude.{◌≡◌, ◌≢◌, ◌≤◌, ◌++◌, ◌∷◌, [], OnOk, IfOk, IfErr, IsErrOf, decimal, string_bytes};
-ghost use Rattle.grasp_generator.specs.Generator.{script_of};
+ghost use Rattle.grasp_script_draws.specs.Generator.{script_of};
 ghost use Rattle.grasp_io.specs.Faults.{Rose};
-ghost use Rattle.grasp_scenarios.specs.Stops.{SendsTooMuch, TextSendsTooMuch};
-ghost use Rattle.grasp_scenarios.specs.Summary.{IsSummary, counts_line, counts_words};
+ghost use Rattle.grasp_model_script.specs.Stops.{SendsTooMuch, TextSendsTooMuch};
+ghost use Rattle.grasp_model_script.specs.Summary.{IsSummary, counts_line, counts_words};
 ghost use Rattle.grasp_text.specs.Words.{spaced};
 ghost use Rattle.grasp_runner.specs.Passing.{IsReady};
 ghost use Rattle.grasp_runner.specs.Scripts.{IsRead};
@@ -18,8 +18,8 @@ use crate::holdings::{count_doubt, count_held};
 use crate::tally::Tally;
 use grasp_cbor::OutOfMemory;
 use grasp_io::{Sink, write_all};
-use grasp_network_script::Script;
-use grasp_scenarios::each_run_is_safe;
+use grasp_model_script::each_run_is_safe;
+use grasp_script::Script;
 use grasp_simulator::World;
 use grasp_text::{push_number, push_word};
 use std::alloc::Global;
@@ -103,7 +103,7 @@ fn tell_counts(world: &World, nodes: u8, tally: Tally) -> Counts
 }
 
 /// The line of these counts, ended by LF.
-#[tactic(auto, using(crate::proofs::Counted::pushes), unfolding(grasp_scenarios::specs::Summary::counts_line))]
+#[tactic(auto, using(crate::proofs::Counted::pushes), unfolding(grasp_model_script::specs::Summary::counts_line))]
 fn counts_line(alloc: Global, number: u64, counts: &Counts) -> Result<String, OutOfMemory>
     ensures { IfOk result (λ line. string_bytes line ≡ counts_line number (counted_of counts.now) ++ 10 ∷ []) }
 {

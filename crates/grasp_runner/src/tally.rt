@@ -2,11 +2,11 @@
 
 ghost use Rattle.std.specs.Prelude.{◌≡◌, ◌+◌, ◌<◌, ◌^◌, ◌++◌, ◌∷◌, ◌-◌, [], List, if◌then◌else◌, option_copied};
 ghost use Rattle.grasp_agent.specs.Replies.{answer_in, progress_in};
-ghost use Rattle.grasp_network.specs.declared.report.Report.{Report};
-ghost use Rattle.grasp_scenarios.specs.Summary.{end_in, told_end, has_end, is_agreed, is_declined, is_broken};
+ghost use Rattle.grasp_model_network.specs.declared.report.Report.{Report};
+ghost use Rattle.grasp_model_script.specs.Summary.{end_in, told_end, has_end, is_agreed, is_declined, is_broken};
 ghost use Rattle.grasp_runner.specs.Tallies.{IsTally, CanCount};
 
-use grasp_network::Report;
+use grasp_model_network::Report;
 use grasp_types::{ApiAnswer, By, Outcome, Progress, Reply};
 
 /// How many events were reported, and how many ends of negotiations of each kind.

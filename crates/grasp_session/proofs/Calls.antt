@@ -1,8 +1,9 @@
 -- What each call does to the sessions that a table keeps.
 use Rattle.std.proofs.Common.{◌≡◌, ℕ, zero, suc, ◌+◌, ◌<◌, Bool, true, false, cond, not, ◌&&◌, List, Option, Some, None, Result, Ok, Err, is_some, is_none, IfOk, OnErr, IfSome, Bor, count_by, slice_set, nat_lt, nat_le, ◌==◌, bytes_eq, if◌then◌else◌, refl, sym, ap, ◌∙◌, subst, arith}
-use Rattle.std.proofs.lemmas.Bool.{false≢true, true≢false, and_parts, and_from, and_right, cond-true, cond-false, eq-eqb, eqb-true}
+use Rattle.std.proofs.lemmas.Bool.{false≢true, true≢false, and_parts, cond-true, cond-false, eq-eqb, eqb-true}
 use Rattle.std.specs.List.{position}
 use Rattle.std.proofs.lemmas.List.{length-set}
+use Rattle.grasp_cbor.proofs.Facts.Options.{is_none_is}
 use Rattle.grasp_types.specs.declared.message.Message.{Message}
 use Rattle.grasp_types.specs.declared.message.Verdict.{Verdict}
 use Rattle.grasp_types.specs.declared.objective.Objective.{Objective}
@@ -24,6 +25,7 @@ use Rattle.grasp_session.specs.declared.session.Ending.{Ending}
 use Rattle.grasp_session.specs.Keeps.{Keeps, refusal_in, leaves_in, offer_in, ending_of, ended_with}
 use Rattle.grasp_session.specs.Sessions.{SessionState, Sessions, with_transcript, with_owner, begun_state, if_owner, if_refused, session_at, session_owned, on_stream, due, stream_of, with_place, left, is_leaving, changed, live_count, is_full, start_reply, after_start, MayRefuse, say_reply, after_say, receive_reply, after_receive, poll_reply, IsTurn, MayPoll, after_poll, mark_at, after_mark, expire_reply, after_expire, state_reply, stream_reply, session_reply, last_reply, adopt_reply, after_adopt, after_remove}
 use Rattle.grasp_session.specs.Stands.{Stands, kept_at, kept_owned, answer_in, check_answer, state_at, state_answer, oldest_in, fits_at, full_in, settled, IsUntaken, owner_in}
+use Rattle.grasp_session.proofs.Facts.{end_leaves}
 use Rattle.grasp_session.proofs.Tables.{zip_count, place_same, zip_set, Found, find, oldest_stands, put_back, put_stands, back_stands, left_stands, settled_stands, reply_at, say_stands}
 
 -- what has an answer in every case
@@ -129,9 +131,6 @@ checked_owner t owner h a s e k = by_test (s.owner == owner) refl (subst (λ o. 
   by_test : (b : Bool) → s.owner == owner ≡ b → answer_in a (cond b (Some s) None) ≡ Ok tt → s.owner ≡ owner
   by_test true f g = eqb-true s.owner owner f
   by_test false f g = absurd (cc)
-
-end_leaves : (x : SessionState) (now : ℕ) (verdict : Verdict) → x.owner ≡ 0 → is_leaving (with_transcript x (having_said x.view now (SayEnd verdict))) ≡ true
-end_leaves x now verdict e = and_from (x.owner == 0) (not (is_none x.view.mark && false)) (eq-eqb x.owner 0 e) (ap not (and_right (is_none x.view.mark) false refl))
 
 -- an end, which is kept where an agent has taken the session
 pub end_done : (t u v : Table) (z : Sessions) (h : Handle) (now owner : ℕ) (verdict : Verdict) (ending : Ending) (s r : Session) (m : Message) → Stands t z → check_answer t owner h act.End ≡ Ok tt → kept_at t.places h ≡ Some s
@@ -415,10 +414,6 @@ owner_none owner s x k = subst (λ n. is_none (if_owner (λ r. r.owner) owner (S
   by_test : (b : Bool) → is_none (cond b (Some s) None) ≡ is_none (cond b (Some x) None)
   by_test true = refl
   by_test false = refl
-
-is_none_is : {A : Type 0} (o : Option A) → is_none o ≡ true → o ≡ None
-is_none_is None e = refl
-is_none_is (Some x) e = absurd (false≢true e)
 
 pub poll_none : (t : Table) (z : Sessions) (owner : ℕ) (h : Handle) → Stands t z → None ≡ kept_owned t.places owner h → MayPoll z owner h (Err NoSession) × Stands t (after_poll z h (Err NoSession))
 poll_none t z owner h st e =

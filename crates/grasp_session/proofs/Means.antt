@@ -1,5 +1,5 @@
 -- What each accepting answer of a table means, for the crates above.
-use Rattle.std.proofs.Common.{◌≡◌, ℕ, ◌==◌, Bool, true, false, cond, Option, Some, None, Result, Ok, Err, refl, sym, ◌∙◌}
+use Rattle.std.proofs.Common.{◌≡◌, ℕ, Option, Some, None, Result, Ok, Err, refl, sym, ◌∙◌}
 use Rattle.grasp_types.specs.declared.session.Handle.{Handle}
 use Rattle.grasp_types.specs.declared.message.Message.{Message}
 use Rattle.grasp_session.specs.declared.answer.Act.{Act}
@@ -13,8 +13,9 @@ use Rattle.grasp_session.specs.declared.table.Table.{Table}
 use Rattle.grasp_session.specs.declared.wanted.Wanted.TheVariants.{OnStream}
 use Rattle.grasp_session.specs.Stands.{Stands, kept_at, oldest_in, state_answer}
 use Rattle.grasp_session.proofs.Calls.{state_none, state_some, answer_none, answer_some}
+use Rattle.grasp_session.proofs.Facts.{owned_at}
 use Rattle.grasp_session.proofs.Tables.{oldest_stands, find_none}
-use Rattle.grasp_session.specs.Sessions.{SessionState, Sessions, with_transcript, if_owner, if_refused, session_at, session_owned, found, on_stream, changed, check_reply, say_reply, after_say, receive_reply, after_receive, state_reply}
+use Rattle.grasp_session.specs.Sessions.{SessionState, Sessions, with_transcript, if_refused, session_at, session_owned, found, on_stream, changed, check_reply, say_reply, after_say, receive_reply, after_receive, state_reply}
 
 -- a check that answers Ok: the session is there, this owner's, and nothing refuses the act
 pub record Checked (z : Sessions) (owner : ℕ) (h : Handle) (act : Act) : Type 0 where
@@ -22,13 +23,6 @@ pub record Checked (z : Sessions) (owner : ℕ) (h : Handle) (act : Act) : Type 
   pub at : session_at z h ≡ Some state
   pub owned : session_owned z owner h ≡ Some state
   pub allowed : refusal state.view act ≡ None
-
-owned_at : (owner : ℕ) (o : Option SessionState) (x : SessionState) → if_owner (λ y. y.owner) owner o ≡ Some x → o ≡ Some x
-owned_at owner None x e = absurd (cc)
-owned_at owner (Some y) x e = by_test (y.owner == owner) e where
-  by_test : (b : Bool) → cond b (Some y) None ≡ Some x → Some y ≡ Some x
-  by_test true f = f
-  by_test false f = absurd (cc)
 
 not_refused : (o : Option SessionRefused) → if_refused o ≡ Ok tt → o ≡ None
 not_refused None e = refl

@@ -1,11 +1,12 @@
 -- Of the places from one on, the oldest session that is wanted.
 use Rattle.std.proofs.Common.{◌≡◌, ℕ, ◌+◌, ◌<◌, ◌≤◌, Bool, true, false, cond, ◌&&◌, List, length, drop, Option, Some, None, is_some, is_none, IsSome, IfSome, option_copied, Bor, slice_index_or, nat_lt, nat_le, ◌==◌, refl, sym, ap, ◌∙◌, subst, arith}
 use Rattle.std.specs.List.{position, position_or_len}
-use Rattle.std.proofs.lemmas.Bool.{false≢true, true≢false, and_parts, cond-true, cond-false, lt-ltb, le-ltb, eq-eqb}
+use Rattle.std.proofs.lemmas.Bool.{false≢true, and_parts, cond-true, cond-false, lt-ltb, le-ltb, eq-eqb}
 use Rattle.std.proofs.lemmas.List.{drop_all, drop_more}
 use Rattle.std.proofs.lemmas.List.Sums.{position_or_len_is}
 use borrow.Author.Count.{below_more}
 use Rattle.grasp_types.specs.declared.session.Handle.{Handle}
+use Rattle.grasp_session.proofs.Calls.{some_none, not_some_none}
 use Rattle.grasp_session.specs.declared.session.Session.{Session}
 use Rattle.grasp_session.specs.declared.wanted.Wanted.{Wanted}
 use Rattle.grasp_session.specs.Sessions.{if_number, older, oldest_from}
@@ -80,25 +81,17 @@ pub record AreFilled (l : List (Option Session)) (place : ℕ) : Type 0 where
 pub filled_none : (l : List (Option Session)) → length l ≡ 64 → AreFilled l 0
 filled_none l long = record { below = omega arith; long = long; filled = λ k h. absurd (omega (arith, h)) }
 
-not_none : {A : Type 0} (o : Option A) → is_some o ≡ true → is_none o ≡ false
-not_none None e = absurd (false≢true e)
-not_none (Some x) e = refl
-
 pub filled_more : (l : List (Option Session)) (place : ℕ) → AreFilled l place → place < 64 → is_some (slice_index_or l place None) ≡ true → AreFilled l (place + 1)
-filled_more l place f p e = record { below = omega (arith, p); long = f.long; filled = below_more (λ k. is_none (slice_index_or l k None) ≡ false) place f.filled (not_none (slice_index_or l place None) e) }
+filled_more l place f p e = record { below = omega (arith, p); long = f.long; filled = below_more (λ k. is_none (slice_index_or l k None) ≡ false) place f.filled (some_none (slice_index_or l place None) e) }
 
 at_position : (l : List (Option Session)) (place : ℕ) → position_or_len is_none l ≡ place → place < length l → position is_none l ≡ Some place
 at_position l place e h = rw e (cond-true (nat_lt place (length l)) (Some place) None (lt-ltb place (length l) h))
-
-is_empty : {A : Type 0} (o : Option A) → is_some o ≡ false → is_none o ≡ true
-is_empty None e = refl
-is_empty (Some x) e = absurd (true≢false e)
 
 -- the next place is the least empty one
 pub filled_here : (l : List (Option Session)) (place : ℕ) → AreFilled l place → place < 64 → is_some (slice_index_or l place None) ≡ false → position is_none l ≡ Some place
 filled_here l place f p e =
     let long : place < length l = omega (arith, p, f.long) in
-    at_position l place (position_or_len_is is_none l place None (omega (arith, long)) f.filled (λ h. is_empty (slice_index_or l place None) e)) long
+    at_position l place (position_or_len_is is_none l place None (omega (arith, long)) f.filled (λ h. not_some_none (slice_index_or l place None) e)) long
 
 -- no place is empty
 pub filled_all : (l : List (Option Session)) (place : ℕ) → AreFilled l place → 64 ≤ place → position is_none l ≡ None

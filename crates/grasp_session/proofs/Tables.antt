@@ -171,7 +171,7 @@ state_some n (Some r) x e = by_test (r.number == n) e where
 pub state_slot : (z : Sessions) (h : Handle) (x : SessionState) → session_at z h ≡ Some x → slot z.places h.place ≡ Some x
 state_slot z h x e = state_some h.number (slot z.places h.place) x e
 
--- the same refusals
+-- the code's session refuses the same acts, and for the same reasons, as the session that it stands for
 pub refusal_same : (s : Session) (x : SessionState) → Keeps s x → (a : Act) → refusal_in s a ≡ refusal x.view a
 refusal_same s x h act.Step = rw (h.going, h.turn, h.offer) refl
 refusal_same s x h act.Wait = rw (h.going, h.turn, h.waits) refl
@@ -206,7 +206,7 @@ put_stands t z h s x st k = record {
   places = refilled t z h.place s x st k;
 }
 
--- the same session is put back
+-- where a session is put back unchanged, the table stands for the same sessions as before
 pub back_stands : (t : Table) (z : Sessions) (h : Handle) (s : Session) (x : SessionState) → Stands t z → session_at z h ≡ Some x → Keeps s x
     → Stands (put_back t h (slice_set (slice_set t.places h.place None) h.place (Some s))) z
 back_stands t z h s x st e k =

@@ -14,7 +14,7 @@ pub record AnswersStand (t : Table) (z : Sessions) : Type 0 where
   pub check : (owner : ℕ) (h : Handle) (act : Act) → check_answer t owner h act ≡ check_reply z owner h act
   -- a handle is live exactly where there is a session with it
   pub live : (h : Handle) → IsLive t h ↔ IsSome (session_at z h)
-  -- and untaken exactly where no agent has taken that session
+  -- a handle is untaken exactly where no agent has taken the session with it
   pub untaken : (h : Handle) → IsUntaken t h ↔ (owner_of (session_at z h) ≡ Some 0)
   -- the last offer of a session has its request's name and flags, whatever the peer sends
   pub offers : (h : Handle) (o : Objective) (x : SessionState) → last_reply z h ≡ Some o → session_at z h ≡ Some x → (o.name ≡ (request_of x.view).name) × (o.flags ≡ (request_of x.view).flags)

@@ -1,4 +1,4 @@
--- The same conversation as a grammar, oldest first (RFC 8990, section 2.5.5).
+-- The conversation of the two ends of a negotiation as a grammar, oldest first (RFC 8990, section 2.5.5).
 use Rattle.std.specs.Prelude.{◌≡◌, ℕ, ◌+◌, ◌≤◌, List, [], ◌∷◌, ◌++◌, length, map, reverse, true}
 use Rattle.grasp_types.specs.declared.objective.Objective.{Objective}
 use Rattle.grasp_types.specs.declared.message.Verdict.{Verdict}

@@ -32,7 +32,7 @@ abbrev pub ended_with : Objective → Option Ending → Option Outcome
 ended_with o None = None
 ended_with o (Some e) = Some (outcome_with o e)
 
--- by this end's acceptance or decline
+-- Inside: by this end's acceptance or decline
 abbrev pub ending_of : Verdict → Ending
 ending_of Accept = Agreed Mine
 ending_of (Decline reason) = Declined Mine reason
@@ -45,16 +45,19 @@ offer_or request (Some o) = o
 abbrev pub offer_in : Session → Objective
 offer_in s = offer_or s.request s.offer
 
+-- Inside: a message of this session number may come: it is the other end's turn
 abbrev pub awaits_in : Session → ℕ → Bool
 awaits_in s n = (n == s.session) && not s.my_turn
 
+-- Inside: an objective that may be a step: with the request's name and flags, and fewer loops than the last offer, but some
 abbrev pub steps_in : Session → Objective → Bool
 steps_in s o = bytes_eq o.name s.request.name && (o.flags == s.request.flags) && nat_lt 0 o.loops && nat_lt o.loops (offer_in s).loops
 
--- no agent has taken it, and it has an outcome
+-- Inside: no agent has taken it, and it has an outcome
 abbrev pub leaves_in : Session → Bool
 leaves_in s = (s.owner == 0) && not (is_none s.ending)
 
+-- Inside: what ended a session, as definitions have it
 abbrev pub mark_of : Cause → Mark
 mark_of (cause.Expired now) = Expired now
 mark_of cause.Closed = Closed
@@ -87,6 +90,6 @@ pub record Keeps (s : Session) (x : SessionState) : Type 0 where
   -- who made the last offer
   pub theirs : is_mine x.view ≡ true → peer_offer x.view ≡ last_offer x.view
   pub mine : is_mine x.view ≡ false → my_offer x.view ≡ last_offer x.view
-  -- it has the request's name and flags, whatever the peer sends
+  -- the last offer has the request's name and flags, whatever the peer sends
   pub named : (last_offer x.view).name ≡ (request_of x.view).name
   pub flagged : (last_offer x.view).flags ≡ (request_of x.view).flags

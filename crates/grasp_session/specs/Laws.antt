@@ -100,7 +100,7 @@ BothAgree = (t : Talk) → Reached t → (v w : Transcript) (a b : By) (o p : Ob
 
 -- what an end that offers knows of its offer
 pub record OfferStands (side : Side) (said : List Said) (v : Transcript) : Type 0 where
-  -- its transcript has its last offer
+  -- this side's transcript has this side's last offer
   pub offer : newest_offer_by side (known v) ≡ newest_offer_by side (strip said)
   -- where the other side may answer, this side kept no step and no end after its offer
   pub before : turn (strip said) ≡ other side → ended (strip said) ≡ false → answered side (known v) ≡ false

@@ -1,4 +1,4 @@
--- The places of the sessions over the keys of a slab.
+-- Inside: the places of the sessions over the keys of a slab.
 use Rattle.std.specs.Prelude.{◌≡◌, ℕ, ◌≤◌, List, map, length, Option, Some, None, is_some, IsSome, count_by, slice_index_or}
 use Rattle.slab.specs.Slab.{Slab, get, slab_len}
 use Rattle.grasp_session.specs.declared.session.Session.{Session}

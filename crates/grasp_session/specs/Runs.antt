@@ -68,7 +68,7 @@ pub record HasNumber (z : Sessions) (number : ℕ) : Type 0 where
 pub record AreInOrder (z : Sessions) : Type 0 where
   -- the steps that a session sent and kept are fewer than its request's loop count, and none where that is 0
   pub bounded : (x : SessionState) → WasMade z x → IsBounded (request_of x.view).loops (known x.view)
-  -- its number says how many were made with it
+  -- a session's number is at least 1, and at most how many sessions were made
   pub numbered : (x : SessionState) → WasMade z x → (1 ≤ x.number) × (x.number ≤ z.made)
   -- live sessions have different numbers
   pub apart : (p q : ℕ) (x y : SessionState) → IsAt z p x → IsAt z q y → x.number ≡ y.number → p ≡ q
@@ -78,7 +78,7 @@ pub record AreInOrder (z : Sessions) : Type 0 where
   pub retired : AllPairs (λ x y. x.number ≢ y.number) z.gone
   -- each number up to that of the last was given
   pub given : (number : ℕ) → 1 ≤ number → number ≤ z.made → HasNumber z number
-  -- there are 64 places
+  -- there are 64 places for live sessions
   pub long : length z.places ≡ 64
   -- live sessions lie on different streams
   pub streams : (p q : ℕ) (x y : SessionState) → IsAt z p x → IsAt z q y → x.stream ≡ y.stream → p ≡ q
@@ -93,7 +93,7 @@ pub record Reached (z : Sessions) : Type 0 where
   pub may : AreCalls no_sessions calls
   pub after : z ≡ after_calls no_sessions calls
 
--- so does one more call
+-- after one more call that may be made, sessions that calls reach are again sessions that calls reach
 abbrev pub CallsGoOn : Type 0
 CallsGoOn = (z : Sessions) (call : TableCall) → Reached z → MayCall z call → Reached (after_call z call)
 

@@ -64,7 +64,7 @@ if_number number n (Some x) = if number x == n then Some x else None
 abbrev pub session_at : Sessions → Handle → Option SessionState
 session_at z h = if_number (λ x. x.number) h.number (slice_index_or z.places h.place None)
 
--- the same, if it has this owner
+-- a session, if it has this owner
 abbrev pub if_owner : {A : Type 0} → (A → ℕ) → ℕ → Option A → Option A
 if_owner owner n None = None
 if_owner owner n (Some x) = if owner x == n then Some x else None
@@ -290,7 +290,7 @@ is_used z session = is_some (oldest (λ x. is_side x.view.role Near && (session_
 abbrev pub untaken_reply : Sessions → List ℕ → Option Handle
 untaken_reply z name = oldest (λ x. (x.owner == 0) && bytes_eq (request_of x.view).name name) z
 
--- the same, of the numbers above this one
+-- the session of the least number above this one that no agent has taken and whose objective has this name
 abbrev pub untaken_above_reply : Sessions → List ℕ → ℕ → Option Handle
 untaken_above_reply z name number = oldest (λ x. nat_lt number x.number && (x.owner == 0) && bytes_eq (request_of x.view).name name) z
 

@@ -36,6 +36,7 @@ fits_in (UntakenAbove name number) s = nat_lt number s.number && (s.owner == 0) 
 fits_in (OwnedBy owner) s = s.owner == owner
 fits_in (Requested number) s = s.requester && (s.session == number)
 
+-- Inside: the session at a place is one that is wanted
 abbrev pub fits_at : Wanted → Option Session → Bool
 fits_at wanted None = false
 fits_at wanted (Some s) = fits_in wanted s
@@ -54,14 +55,15 @@ state_at places (Some h) = by_session (kept_at places h) where
 abbrev pub state_answer : Table → ℕ → Option (ℕ × Bool)
 state_answer t stream = state_at t.places (oldest_in (OnStream stream) t.places)
 
--- 64 sessions are live, or no number is left
+-- Inside: 64 sessions are live, or no number is left
 abbrev pub full_in : Table → Bool
 full_in t = nat_le 64 (count_by is_some t.places) || (t.made == 2 ^ 64 - 1)
 
+-- Inside: the handle of this session or the best one so far: that of the lesser number that is wanted
 abbrev pub older_in : Wanted → ℕ → Session → Option Handle → Option Handle
 older_in wanted place s best = older (λ x. x.number) (fits_in wanted) place (Some s) best
 
--- the places after a session is back, unless it leaves
+-- Inside: the places after a session is back, unless it leaves
 abbrev pub settled : List (Option Session) → ℕ → Session → List (Option Session)
 settled places place s = if leaves_in s then places else slice_set places place (Some s)
 

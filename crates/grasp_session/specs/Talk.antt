@@ -50,7 +50,7 @@ handed p m = record { stage = p.stage; inbox = p.inbox ++ m ∷ []; taken = p.ta
 abbrev pub spoke : Talk → Side → Message → Stage → Talk
 spoke t side m stage = talk_of side (says side m ∷ t.said) (in_stage (party t side) stage) (handed (party t (other side)) m)
 
--- this party takes the next message, with which these are left, and is in this stage then
+-- this party takes the next message, with these left in its inbox, and is in this stage then
 abbrev pub having_taken : Party → Message → List Message → Stage → Party
 having_taken p m left stage = record { stage = stage; inbox = left; taken = m ∷ p.taken }
 

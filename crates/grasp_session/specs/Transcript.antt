@@ -77,7 +77,7 @@ request_of v = requested (known v)
 abbrev pub turn_of : Transcript → Side
 turn_of v = turn (known v)
 
--- it is this end's turn
+-- the turn is this end's
 abbrev pub is_mine : Transcript → Bool
 is_mine v = is_side v.role (turn_of v)
 
@@ -102,7 +102,7 @@ abbrev pub is_over : List Entry → Bool
 is_over [] = false
 is_over (e ∷ es) = is_last e.message
 
--- there is no outcome
+-- the session goes on: there is no outcome
 abbrev pub is_going : Transcript → Bool
 is_going v = is_none v.mark && not (is_over v.entries)
 
@@ -245,7 +245,7 @@ after_received v now m Kept = with_kept v now m
 after_received v now m Ignored = v
 after_received v now m Bad = v
 
--- the same, where a bad message ends the session
+-- the transcript after a message that is kept, ignored or bad, where a bad message ends the session
 abbrev pub after_heard : Transcript → ℕ → Message → Received → Transcript
 after_heard v now m Kept = with_kept v now m
 after_heard v now m Ignored = v

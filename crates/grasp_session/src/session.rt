@@ -139,7 +139,8 @@ impl Session {
 
     /// A message that comes. It is kept, or it changes nothing.
     pub(crate) fn receive(&mut self, now: u64, message: Message) -> Received
-        ensures { (x : SessionState) → Keeps self.old x → (result ≡ receive x.view message) × Keeps self.new (with_transcript x (after_received x.view now message result)) }
+        ensures { (x : SessionState) → Keeps self.old x
+            → (result ≡ receive x.view message) × Keeps self.new (with_transcript x (after_received x.view now message result)) }
     {
         if self.ending.is_some() {
             return Received::Ignored;
@@ -187,7 +188,9 @@ impl Session {
     /// An acceptance or a decline that comes.
     fn receive_end(&mut self, now: u64, verdict: Verdict) -> Received
         requires { is_none self.old.ending ≡ true }
-        ensures { (x : SessionState) (n : ℕ) → Keeps self.old x → awaits_in self.old n ≡ true → (result ≡ receive x.view (End n verdict)) × Keeps self.new (with_transcript x (after_received x.view now (End n verdict) result)) }
+        ensures { (x : SessionState) (n : ℕ) → Keeps self.old x → awaits_in self.old n ≡ true
+            → (result ≡ receive x.view (End n verdict))
+            × Keeps self.new (with_transcript x (after_received x.view now (End n verdict) result)) }
     {
         match verdict {
             Verdict::Decline(reason) => {
@@ -207,7 +210,9 @@ impl Session {
     /// A step of this end.
     pub(crate) fn step(&mut self, now: u64, value: Value) -> Result<Message, OutOfMemory>
         requires { refusal_in self.old Act.Step ≡ None }
-        ensures sent { IfOk result (λ message. (x : SessionState) → Keeps self.old x → (message ≡ message_of x.view (SayStep value)) × Keeps self.new (with_transcript x (having_said x.view now (SayStep value)))) }
+        ensures sent { IfOk result (λ message. (x : SessionState) → Keeps self.old x
+            → (message ≡ message_of x.view (SayStep value))
+            × Keeps self.new (with_transcript x (having_said x.view now (SayStep value)))) }
         ensures err { OnErr result (self.new ≡ self.old) }
     {
         let objective = self.next_offer(value)?;
@@ -235,7 +240,9 @@ impl Session {
     /// A wait of this end.
     pub(crate) fn wait(&mut self, now: u64, millis: u32) -> Message
         requires { refusal_in self.old Act.Wait ≡ None }
-        ensures { (x : SessionState) → Keeps self.old x → (result ≡ message_of x.view (SayWait millis)) × Keeps self.new (with_transcript x (having_said x.view now (SayWait millis))) }
+        ensures { (x : SessionState) → Keeps self.old x
+            → (result ≡ message_of x.view (SayWait millis))
+            × Keeps self.new (with_transcript x (having_said x.view now (SayWait millis))) }
     {
         self.allow(now, millis);
         Message::Wait {
@@ -248,7 +255,8 @@ impl Session {
     pub(crate) fn end(&mut self, now: u64, verdict: Verdict, ending: Ending) -> Message
         requires { refusal_in self.old Act.End ≡ None }
         ensures message { (x : SessionState) → Keeps self.old x → result ≡ message_of x.view (SayEnd verdict) }
-        ensures kept { (x : SessionState) → ending ≡ ending_of verdict → Keeps self.old x → Keeps self.new (with_transcript x (having_said x.view now (SayEnd verdict))) }
+        ensures kept { (x : SessionState) → ending ≡ ending_of verdict → Keeps self.old x
+            → Keeps self.new (with_transcript x (having_said x.view now (SayEnd verdict))) }
         ensures over { leaves_in self.new ≡ (self.old.owner == 0) }
     {
         self.finish(now, ending);
@@ -261,7 +269,9 @@ impl Session {
     /// This end gives up.
     pub(crate) fn invalid(&mut self, now: u64, detail: Option<Value>) -> Message
         requires { refusal_in self.old Act.Invalid ≡ None }
-        ensures { (x : SessionState) → Keeps self.old x → (result ≡ message_of x.view (SayInvalid detail)) × Keeps self.new (with_transcript x (having_said x.view now (SayInvalid detail))) }
+        ensures { (x : SessionState) → Keeps self.old x
+            → (result ≡ message_of x.view (SayInvalid detail))
+            × Keeps self.new (with_transcript x (having_said x.view now (SayInvalid detail))) }
     {
         self.finish(now, Ending::Invalid(By::Mine));
         Message::Invalid {
@@ -311,7 +321,12 @@ impl Session {
     /// The objective of a step with this value.
     fn next_offer(&self, value: Value) -> Result<Objective, OutOfMemory>
         requires { refusal_in self.now Act.Step ≡ None }
-        ensures { IfOk result (λ objective. objective ≡ record { name = self.now.request.name; flags = self.now.request.flags; loops = (offer_in self.now).loops - 1; value = Some value }) }
+        ensures { IfOk result (λ objective. objective ≡ record {
+          name = self.now.request.name;
+          flags = self.now.request.flags;
+          loops = (offer_in self.now).loops - 1;
+          value = Some value;
+        }) }
     {
         Ok(Objective {
             name: self.request.name.copy()?,

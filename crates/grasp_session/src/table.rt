@@ -103,7 +103,8 @@ impl Table {
         value: Value,
     ) -> Result<Message, OutOfMemory>
         requires { check_answer self.old owner handle Act.Step ≡ Ok tt }
-        ensures says { IfOk result (λ message. (z : Sessions) → Stands self.old z → (message ≡ say_reply z handle (SayStep value)) × Stands self.new (after_say z now handle (SayStep value))) }
+        ensures says { IfOk result (λ message. (z : Sessions) → Stands self.old z
+            → (message ≡ say_reply z handle (SayStep value)) × Stands self.new (after_say z now handle (SayStep value))) }
         ensures err { OnErr result ((z : Sessions) → Stands self.old z → Stands self.new z) }
     {
         let mut session = self.take(handle);
@@ -115,7 +116,8 @@ impl Table {
     /// Asks for more time by a wait, where `check` answers `Ok` for it. It takes no memory.
     pub fn wait(&mut self, now: u64, owner: u32, handle: Handle, millis: u32) -> Message
         requires { check_answer self.old owner handle Act.Wait ≡ Ok tt }
-        ensures says { (z : Sessions) → Stands self.old z → (result ≡ say_reply z handle (SayWait millis)) × Stands self.new (after_say z now handle (SayWait millis)) }
+        ensures says { (z : Sessions) → Stands self.old z
+            → (result ≡ say_reply z handle (SayWait millis)) × Stands self.new (after_say z now handle (SayWait millis)) }
     {
         let mut session = self.take(handle);
         let message = session.wait(now, millis);
@@ -133,7 +135,8 @@ impl Table {
         verdict: Verdict,
     ) -> Result<Message, OutOfMemory>
         requires { check_answer self.old owner handle Act.End ≡ Ok tt }
-        ensures says { IfOk result (λ message. (z : Sessions) → Stands self.old z → (message ≡ say_reply z handle (SayEnd verdict)) × Stands self.new (after_say z now handle (SayEnd verdict))) }
+        ensures says { IfOk result (λ message. (z : Sessions) → Stands self.old z
+            → (message ≡ say_reply z handle (SayEnd verdict)) × Stands self.new (after_say z now handle (SayEnd verdict))) }
         ensures err { OnErr result ((z : Sessions) → Stands self.old z → Stands self.new z) }
         ensures wanted { OnErr result (MayStarve owner verdict) }
     {
@@ -153,7 +156,8 @@ impl Table {
         detail: Option<Value>,
     ) -> Message
         requires { check_answer self.old owner handle Act.Invalid ≡ Ok tt }
-        ensures says { (z : Sessions) → Stands self.old z → (result ≡ say_reply z handle (SayInvalid detail)) × Stands self.new (after_say z now handle (SayInvalid detail)) }
+        ensures says { (z : Sessions) → Stands self.old z
+            → (result ≡ say_reply z handle (SayInvalid detail)) × Stands self.new (after_say z now handle (SayInvalid detail)) }
     {
         let mut session = self.take(handle);
         let message = session.invalid(now, detail);
@@ -163,7 +167,8 @@ impl Table {
 
     /// A message that comes on a stream. Where it is ignored or bad the table is as before. It takes no memory.
     pub fn receive(&mut self, now: u64, stream: u64, message: Message) -> Received
-        ensures receives { (z : Sessions) → Stands self.old z → (result ≡ receive_reply z stream message) × Stands self.new (after_receive z now stream message result) }
+        ensures receives { (z : Sessions) → Stands self.old z
+            → (result ≡ receive_reply z stream message) × Stands self.new (after_receive z now stream message result) }
     {
         let Some(handle) = self.oldest(Wanted::OnStream(stream)) else {
             return Received::Ignored;
@@ -330,7 +335,9 @@ impl Table {
     pub fn adopt(&mut self, owner: u32, handle: Handle) -> Result<Objective, OutOfMemory>
         requires untaken { IsUntaken self.old handle }
         requires owner { 0 < owner }
-        ensures adopts { IfOk result (λ objective. (z : Sessions) → Stands self.old z → (Some objective ≡ adopt_reply z handle) × Stands self.new (after_adopt z owner handle)) }
+        ensures adopts { IfOk result
+            (λ objective. (z : Sessions) → Stands self.old z
+            → (Some objective ≡ adopt_reply z handle) × Stands self.new (after_adopt z owner handle)) }
         ensures err { OnErr result ((z : Sessions) → Stands self.old z → Stands self.new z) }
     {
         let mut session = self.take(handle);

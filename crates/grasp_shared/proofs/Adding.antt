@@ -3,18 +3,18 @@ use Rattle.std.proofs.Common.{subst, sym, refl, ℕ, ◌<◌, ◌^◌, [], ◌�
 use Rattle.std.proofs.lemmas.List.{append-nil}
 use Rattle.grasp_types.specs.declared.reply.Reply.{Reply}
 use Rattle.grasp_types.specs.declared.traffic.Input.{Input}
-use Rattle.grasp_core.proofs.FedComes.{something_always_comes}
-use Rattle.grasp_core.proofs.FedNodes.{fed_nodes_kept}
-use Rattle.grasp_core.proofs.KeptNodes.{nodes_kept}
+use Rattle.grasp_laws_node.proofs.Divided.Comes.{something_always_comes}
+use Rattle.grasp_laws_node.proofs.Divided.Nodes.{fed_nodes_kept}
+use Rattle.grasp_laws_node.proofs.Bounded.Nodes.{nodes_kept}
 use Rattle.grasp_core.specs.Contract.{Meeting, Meets, Stepped}
-use Rattle.grasp_core.specs.Fed.{HasBytes}
-use Rattle.grasp_core.specs.Node.{NodeState}
+use Rattle.grasp_model_node.specs.Divided.{HasBytes}
+use Rattle.grasp_model_node.specs.Node.{NodeState}
 use Rattle.grasp_core.specs.declared.node_core.NodeCore.{NodeCore}
-use Rattle.grasp_core.specs.declared.plan.NodePlan.{NodePlan}
+use Rattle.grasp_model_node.specs.declared.plan.NodePlan.{NodePlan}
 use Rattle.grasp_shared.specs.Adding.{Adds}
 use Rattle.grasp_shared.specs.Calls.{GoesOn, answered}
 use Rattle.grasp_shared.specs.History.{Entry, History, IsStep, IsLegalHistory, Reaches}
-use Rattle.grasp_shared.proofs.KeptPlan.{step-plan}
+use Rattle.grasp_laws_node.proofs.PlansStay.{step_plan}
 
 -- one more call
 pub legal_more : (from n m : NodeState) (h : History) (e : Entry) → IsLegalHistory from h n → IsStep n e m → IsLegalHistory from (h ++ e ∷ []) m
@@ -33,7 +33,7 @@ step_adds core after now i r s b caller from h x =
       stands = d.stands;
       node = nodes_kept.1 x.to d.after now i c.coming r x.node d.steps;
       fed = fed_nodes_kept.1 x.to d.after now i c.coming r x.node x.fed b d.steps;
-      limit = subst (λ (p : NodePlan). p.limit < 2 ^ 64) (sym (step-plan x.to d.after now i c.coming r d.steps)) x.limit;
+      limit = subst (λ (p : NodePlan). p.limit < 2 ^ 64) (sym (step_plan x.to d.after now i c.coming r d.steps)) x.limit;
     }
 
 pub step_goes : (core after : NodeCore) (now : ℕ) (i : Input) (r : Reply) → ((x : Meeting) → Meets core now i x → Stepped after now i x r) → HasBytes i → GoesOn core (answered now i r) after

@@ -130,7 +130,7 @@ module _ (At : Opened → History → NodeCore → Type 0) (from : Opened) where
             (λ ne. let t = terms_le lives s.views id j v u ne at e in absurd (omega (arith, t, a.live, lu, few))),
       )
 
-  -- it has seen the whole history, and no pass is in its turn
+  -- the root, where it has no other pass, has seen the whole history, and no pass is in its turn
   alone : (s : Board) (r : Rule s) (id : ℕ) (v : View) → get_elem? s.views id ≡ some v → IsAlone v → (v.seen ≡ r.history) × (r.turning ≡ 0)
   alone s r id v at a =
       let only = (lone s r id v at a).1 in
@@ -294,7 +294,7 @@ module _ (At : Opened → History → NodeCore → Type 0) (from : Opened) where
   longer_whole xs ys log p q w true is = ⊎_elim (λ e. let h = prefix_length ys log q in let g : length xs < length ys = grind (arith, ltb-true) in absurd (omega (arith, ap length e))) (λ e. e) w
   longer_whole xs ys log p q w false is = ⊎_elim (λ e. e) (λ e. let g : length ys ≤ length xs = grind arith in prefix_whole xs log p (omega (arith, ap length e))) w
 
-  -- and each begins the longer
+  -- two prefixes of a history are prefixes of the longer of the two
   longer_begins : (xs ys log : History) → IsPrefix xs log → IsPrefix ys log → (b : Bool) → nat_lt (length xs) (length ys) ≡ b → IsPrefix xs (if b then ys else xs) × IsPrefix ys (if b then ys else xs)
   longer_begins xs ys log p q true is = let g : length xs < length ys = grind (arith, ltb-true) in (prefix_shorter xs ys log p q (omega arith), prefix_self ys)
   longer_begins xs ys log p q false is = let g : length ys ≤ length xs = grind arith in (prefix_self xs, prefix_shorter ys xs log q p g)

@@ -1,7 +1,6 @@
-pub mod Sums
-pub mod Prefixes
-pub mod KeptPlan
 pub mod Adding
-pub mod Keeps
-pub mod Turns
 pub mod Crosses
+pub mod Keeps
+pub mod Prefixes
+pub mod Sums
+pub mod Turns

@@ -1,6 +1,6 @@
 -- What calls add to the history of a core.
 use Rattle.std.specs.Prelude.{◌++◌}
-use Rattle.grasp_core.specs.Node.{NodeState}
+use Rattle.grasp_model_node.specs.Node.{NodeState}
 use Rattle.grasp_core.specs.declared.node_core.NodeCore.{NodeCore}
 use Rattle.grasp_shared.specs.History.{History, Reaches}
 

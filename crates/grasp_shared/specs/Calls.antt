@@ -2,7 +2,7 @@
 use Rattle.std.specs.Prelude.{◌≡◌, ℕ, [], ◌∷◌, Option, Some}
 use Rattle.grasp_types.specs.declared.reply.Reply.{Reply}
 use Rattle.grasp_types.specs.declared.traffic.Input.{Input}
-use Rattle.grasp_core.specs.Node.{NodeState}
+use Rattle.grasp_model_node.specs.Node.{NodeState}
 use Rattle.grasp_core.specs.declared.node_core.NodeCore.{NodeCore}
 use Rattle.grasp_shared.specs.Adding.{Adds}
 use Rattle.grasp_shared.specs.History.{Entry, History, IsLegalHistory, Reaches}
@@ -33,10 +33,10 @@ Opened = Option NodeCore
 pub record IsLegalFrom (opened : Opened) (history : History) : Type 0 where
   pub legal : (core : NodeCore) → opened ≡ Some core → (from : NodeState) → Reaches from [] core → (to : NodeState) × IsLegalHistory from history to
 
--- these calls led from the registry's first core to this one
+-- the calls of this history led from the registry's first core to this core
 pub record LedTo (opened : Opened) (history : History) (core : NodeCore) : Type 0 where
   pub led : (first : NodeCore) → opened ≡ Some first → Adds first history core
 
--- the call, whoever makes it, leads from the one core to the other
+-- Inside: the call, whoever makes it, leads from the one core to the other
 pub record GoesOn (old : NodeCore) (c : Answered) (new : NodeCore) : Type 0 where
   pub goes : (caller : ℕ) → Adds old (entry caller c ∷ []) new

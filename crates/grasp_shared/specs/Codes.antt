@@ -1,4 +1,4 @@
--- How the logic stores what passes know.
+-- Inside: how the logic stores what passes know.
 use Rattle.std.specs.Prelude.{ℕ, refl}
 use Rattle.std.specs.Coded.{Coded, code_by, coded×, coded_ℕ, coded_list, coded_option}
 use Rattle.grasp_types.specs.contracts.reply.Reply as reply

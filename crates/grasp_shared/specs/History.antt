@@ -2,11 +2,11 @@
 use Rattle.std.specs.Prelude.{◌≡◌, ◌==◌, ◌<◌, ◌^◌, ℕ, List, [], ◌∷◌, filter}
 use Rattle.grasp_types.specs.declared.reply.Reply.{Reply}
 use Rattle.grasp_types.specs.declared.traffic.Input.{Input}
-use Rattle.grasp_core.specs.Fed.{IsFed}
-use Rattle.grasp_core.specs.Node.{NodeState}
-use Rattle.grasp_core.specs.Sound.{IsNode}
+use Rattle.grasp_model_node.specs.Divided.{IsDivided}
+use Rattle.grasp_model_node.specs.Node.{NodeState}
+use Rattle.grasp_model_node.specs.BoundedNodes.{IsBoundedNode}
 use Rattle.grasp_core.specs.Stands.{NodeStands}
-use Rattle.grasp_core.specs.Step.{Coming, NodeStep}
+use Rattle.grasp_model_node.specs.Step.{Coming, NodeStep}
 use Rattle.grasp_core.specs.declared.node_core.NodeCore.{NodeCore}
 
 -- one call: the number of its caller, the reading that the caller passed, the input, and the reply
@@ -38,6 +38,6 @@ pub record Reaches (from : NodeState) (history : History) (core : NodeCore) : Ty
   pub to : NodeState
   pub legal : IsLegalHistory from history to
   pub stands : NodeStands core to
-  pub node : IsNode to
-  pub fed : IsFed to
+  pub node : IsBoundedNode to
+  pub fed : IsDivided to
   pub limit : to.plan.limit < 2 ^ 64

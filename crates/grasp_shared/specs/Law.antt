@@ -1,4 +1,4 @@
--- The rule of the table: one history, whose length the word tells, and to whose end the core in the slot was led.
+-- Inside: the rule of the table: one history, whose length the word tells, and to whose end the core in the slot was led.
 use Rattle.std.specs.Prelude.{◌≡◌, ◌≢◌, ℕ, ◌+◌, ◌*◌, ◌%◌, ◌<◌, ◌≤◌, ◌⊎◌, List, [], length, slice_index}
 use mathlib.Core.List.{IsPrefix}
 use mathlib.Core.Option.{some}

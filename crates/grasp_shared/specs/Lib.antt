@@ -1,10 +1,10 @@
-pub mod History
 pub mod Adding
 pub mod Calls
 pub mod Codes
-pub mod Totals
-pub mod Passes
-pub mod Law
-pub mod Plays
-pub mod Names
 pub mod Handles
+pub mod History
+pub mod Law
+pub mod Names
+pub mod Passes
+pub mod Plays
+pub mod Totals

@@ -15,7 +15,7 @@ IsIdle m = (m.1 ≡ []) × (m.0.live ≡ 1) × (m.0.turn ≡ 0)
 abbrev pub Began : Sat → Sat → Type 0
 Began m n = (history : History) × (core : NodeCore) × IsPrefix m.0.seen history × LedTo m.0.opened history core × (n ≡ (taking m.0 history, (0, core) ∷ []))
 
--- it holds the core
+-- the seat holds the core
 abbrev pub Holds : Sat → Type 0
 Holds m = (core : NodeCore) × (m.1 ≡ (0, core) ∷ [])
 
@@ -23,10 +23,10 @@ Holds m = (core : NodeCore) × (m.1 ≡ (0, core) ∷ [])
 abbrev pub WentOn : Sat → Sat → Answered → Type 0
 WentOn m n c = (old : NodeCore) × (new : NodeCore) × (m.1 ≡ (0, old) ∷ []) × (n ≡ (m.0, (0, new) ∷ [])) × GoesOn old c new
 
--- it may end its turn with this call
+-- the seat may end its turn with this call
 abbrev pub MayEnd : Sat → Answered → Type 0
 MayEnd m c = (core : NodeCore) × (m.1 ≡ (0, core) ∷ []) × (m.0.live ≡ 1) × (m.0.turn ≡ 1) × LedTo m.0.opened (m.0.seen ++ entry m.0.number c ∷ []) core
 
--- its turn ended with this call
+-- the seat's turn ended with this call
 abbrev pub Ended : Sat → Sat → Answered → Type 0
 Ended m n c = (n ≡ (served m.0 m.0.seen c, [])) × HasJust n.0

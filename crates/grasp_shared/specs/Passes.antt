@@ -26,7 +26,7 @@ view number live turn opened seen mine made out joined was heard = record {
 abbrev pub first : Opened → View
 first opened = view 0 1 0 opened [] [] 1 0 [] [] []
 
--- what is left of a pass that was joined
+-- Inside: what is left of a pass that was joined
 abbrev pub spent : View
 spent = view 0 0 0 None [] [] 0 0 [] [] []
 
@@ -34,7 +34,7 @@ spent = view 0 0 0 None [] [] 0 0 [] [] []
 abbrev pub fresh : View → History → History → ℕ → View
 fresh v history mine turn = view v.number v.live turn v.opened history mine v.made v.out v.joined v.was v.heard
 
--- in its turn, when it has seen the whole history
+-- Inside: in its turn, when it has seen the whole history
 abbrev pub taking : View → History → View
 taking v history = fresh v history v.mine 1
 

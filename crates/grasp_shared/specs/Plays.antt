@@ -1,4 +1,4 @@
--- What each atomic step tells: of the step, the seat before, the word found and the seat after.
+-- Inside: what each atomic step tells: of the step, the seat before, the word found and the seat after.
 use Rattle.std.specs.Prelude.{◌≡◌, ◌≢◌, ℕ, ◌*◌, ◌%◌, ◌∷◌, length}
 use mathlib.Core.List.{IsPrefix}
 use Rattle.atomic_table.specs.Table.{Me, Step, rest}

@@ -1,7 +1,7 @@
 //! The bytes of an input.
 
 ghost use Rattle.grasp_cbor.specs.Bytes.{AllBytes};
-ghost use Rattle.grasp_core.specs.Fed.{HasBytes};
+ghost use Rattle.grasp_model_node.specs.Divided.{HasBytes};
 
 use grasp_types::Input;
 

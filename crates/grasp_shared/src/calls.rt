@@ -17,7 +17,8 @@ impl Shared {
     pub fn try_call(&self, pass: &mut Pass, now: u64, input: Input) -> Result<Reply, Busy>
         requires own { IsPassOf self.now pass.old }
         ensures own { IsPassOf self.now pass.new }
-        ensures call { MatchResult result (λ reply. Served (view_of pass.old) (view_of pass.new) (answered now input reply)) (λ busy. (view_of pass.new ≡ view_of pass.old) × (busy.expected ≢ busy.found) × (busy.input ≡ input)) }
+        ensures call { MatchResult result (λ reply. Served (view_of pass.old) (view_of pass.new) (answered now input reply))
+            (λ busy. (view_of pass.new ≡ view_of pass.old) × (busy.expected ≢ busy.found) × (busy.input ≡ input)) }
     {
         self.turn(&mut pass.seat, now, input)
     }
@@ -26,7 +27,8 @@ impl Shared {
     pub fn root_try_call(&self, root: &mut Root, now: u64, input: Input) -> Result<Reply, Busy>
         requires own { IsRootOf self.now root.old }
         ensures own { IsRootOf self.now root.new × (out_of root.new ≡ out_of root.old) }
-        ensures call { MatchResult result (λ reply. Served (root_view root.old) (root_view root.new) (answered now input reply)) (λ busy. (root_view root.new ≡ root_view root.old) × (busy.expected ≢ busy.found) × (busy.input ≡ input)) }
+        ensures call { MatchResult result (λ reply. Served (root_view root.old) (root_view root.new) (answered now input reply))
+            (λ busy. (root_view root.new ≡ root_view root.old) × (busy.expected ≢ busy.found) × (busy.input ≡ input)) }
         ensures alone { out_of root.old ≡ 0 → IsOk result }
     {
         self.turn(&mut root.seat, now, input)

@@ -111,7 +111,8 @@ impl Shared {
         requires own { IsRootOf self.now root.old × IsPassOf self.now pass }
         ensures own { IsRootOf self.now root.new × (out_of root.new ≡ out_of root.old - 1) }
         ensures root { root_view root.new ≡ both (root_view root.old) (view_of pass) }
-        ensures met { let seen = (root_view root.new).seen in IsPrefix (root_view root.old).seen seen × IsPrefix (view_of pass).seen seen × HasJust (root_view root.new) }
+        ensures met { let seen = (root_view root.new).seen in IsPrefix (root_view root.old).seen seen
+            × IsPrefix (view_of pass).seen seen × HasJust (root_view root.new) }
     {
         let Pass { seat } = pass;
         self.table.shared.join_seat::<Glue>(&mut root.seat, seat);

@@ -70,7 +70,8 @@ impl Shared {
         requires idle { IsIdle seat.old.me }
         ensures own { seat.new.table_id ≡ seat.old.table_id }
         ensures idle { IsIdle seat.new.me }
-        ensures turn { MatchResult result (λ reply. Served seat.old.me.0 seat.new.me.0 (answered now input reply)) (λ busy. (seat.new.me ≡ seat.old.me) × (busy.expected ≢ busy.found) × (busy.input ≡ input)) }
+        ensures turn { MatchResult result (λ reply. Served seat.old.me.0 seat.new.me.0 (answered now input reply))
+            (λ busy. (seat.new.me ≡ seat.old.me) × (busy.expected ≢ busy.found) × (busy.input ≡ input)) }
         ensures alone { IsAlone seat.old.me.0 → IsOk result }
     {
         match self.begin(seat) {

@@ -1,37 +1,37 @@
 -- A stream that is opened at the node that listens where it was dialled to.
-use Rattle.std.proofs.Common.{◌≡◌, ◌≤◌, ◌<◌, refl, sym, ap, ◌∙◌, subst, arith, tests, ℕ, zero, suc, ◌+◌, ◌-◌, ◌*◌, ◌^◌, ◌==◌, cond, Bool, true, false, not, List, [], ◌∷◌, length, map, nat_lt, Option, Some, None, is_some, slice_index_or}
+use Rattle.std.proofs.Common.{◌≡◌, ◌≤◌, ◌<◌, refl, sym, ap, ◌∙◌, subst, arith, tests, ℕ, zero, suc, ◌+◌, ◌-◌, ◌*◌, ◌^◌, cond, Bool, true, false, not, List, ◌∷◌, length, map, nat_lt, Option, Some, None, is_some, slice_index_or}
 use Rattle.std.specs.List.{position, position_or_len}
 use Rattle.std.specs.Vec.{with_item}
-use Rattle.std.proofs.lemmas.Option.{none-some}
+use Rattle.std.proofs.lemmas.Option.{none-some, same_Some}
+use Rattle.grasp_cbor.proofs.Facts.Lists.{length_map}
 use Rattle.grasp_types.specs.Same.{same_locator}
 use Rattle.grasp_types.specs.declared.address.Address.{Address}
 use Rattle.grasp_types.specs.declared.address.Locator.{Locator}
 use Rattle.grasp_types.specs.declared.reply.Reply.{Reply}
 use Rattle.grasp_types.specs.declared.reply.Reply.TheVariants as reply
-use Rattle.grasp_types.specs.declared.traffic.Input.{Input}
 use Rattle.grasp_types.specs.declared.traffic.Input.TheVariants as input
-use Rattle.grasp_network.proofs.Here.{some_same, numbered_within}
-use Rattle.grasp_network.proofs.Opened.{map_length}
-use Rattle.grasp_network.proofs.Staying.{seats_stay}
-use Rattle.grasp_network.specs.Arrivals.{opened_at, open_talk, arrival_visit, arrival_by, after_arrival}
-use Rattle.grasp_network.specs.Events.{visit_of, after_event}
-use Rattle.grasp_network.specs.Plans.{IsNode}
-use Rattle.grasp_network.specs.Reports.{report_of}
-use Rattle.grasp_network.specs.Sending.{stepped}
-use Rattle.grasp_network.specs.Setting.{Member, Setting, numbered, numbers_from, is_at, counted_from_1, member_at, script_locator, script_address, script_member, script_setting}
-use Rattle.grasp_network.specs.Talks.{StreamEnd, Arrival, TalkState, is_waiting, talk_numbered, change_at_end, with_far}
-use Rattle.grasp_network.specs.Visits.{Visit, Choice, MayCome, no_choice, is_starved, visit, visit_seat}
-use Rattle.grasp_network.specs.World.{Seat, WorldState, end_of, seat_at}
-use Rattle.grasp_network.specs.declared.event.Event.{Event}
-use Rattle.grasp_network.specs.declared.event.Event.TheVariants as event
-use Rattle.grasp_network.specs.declared.plan.WorldPlan.{WorldPlan}
-use Rattle.grasp_network.specs.declared.report.Report.TheVariants as report
-use Rattle.grasp_network_streams.specs.Ready.{Every, HasGoodEnds, StreamsAreReady}
+use Rattle.grasp_laws_network.proofs.GoodPlans.{count_numbers}
+use Rattle.grasp_laws_network.proofs.Here.{numbered_within}
+use Rattle.grasp_laws_network.proofs.Staying.{seats_stay}
+use Rattle.grasp_model_network.specs.EventSteps.{opened_at, opened_stream, arrival_visit, after_arrival}
+use Rattle.grasp_model_network.specs.StreamChanges.{arrival_by}
+use Rattle.grasp_model_network.specs.Events.{visit_of, after_event}
+use Rattle.grasp_model_network.specs.Plans.{IsNode}
+use Rattle.grasp_model_network.specs.Reports.{report_of}
+use Rattle.grasp_model_network.specs.Sending.{stepped}
+use Rattle.grasp_model_network.specs.Setting.{Member, Setting, numbered, numbers_from, is_at, counted_from_1, member_at, script_locator, script_address, script_member, script_setting}
+use Rattle.grasp_model_network.specs.Streams.{StreamEnd, Arrival, StreamState, is_waiting, stream_numbered, change_at_end, with_far}
+use Rattle.grasp_model_network.specs.Visits.{Visit, MayCome, no_choice, is_starved, visit, visit_seat}
+use Rattle.grasp_model_network.specs.World.{Seat, WorldState, end_of, seat_at}
+use Rattle.grasp_model_network.specs.declared.event.Event.TheVariants as event
+use Rattle.grasp_model_network.specs.declared.plan.WorldPlan.{WorldPlan}
+use Rattle.grasp_model_network.specs.declared.report.Report.TheVariants as report
+use Rattle.grasp_laws_delivery.specs.Ready.{HasGoodEnds, StreamsAreReady}
 use Rattle.grasp_simulator.specs.Arriving.{listener_from, is_unopened, waiting_by, waiting_in, is_taken, Opens}
 use Rattle.grasp_simulator.specs.Seats.{Sitting, SeatMeets, SeatStepped}
 use Rattle.grasp_simulator.specs.Sends.{SendsBehind}
 use Rattle.grasp_simulator.specs.StreamParts.{standing_by, far_number}
-use Rattle.grasp_simulator.specs.StreamsStand.{end_here, arrival_of, StreamStands, numbers, StreamsStand, IsTalk}
+use Rattle.grasp_simulator.specs.StreamsStand.{end_here, arrival_of, numbers, StreamsStand, IsTalk}
 use Rattle.grasp_simulator.specs.WorldStands.{WorldKeeps, WorldGoes}
 use Rattle.grasp_simulator.specs.WorldSteps.{MayRun, HasRun, Runs, MayStarve}
 use Rattle.grasp_simulator.specs.declared.seat.Seat.{Seat as SeatCode}
@@ -43,7 +43,8 @@ use Rattle.grasp_simulator.specs.declared.world.World.{World}
 use Rattle.grasp_simulator.specs.declared.world_arrivals.Waiting.{Waiting}
 use Rattle.grasp_simulator.proofs.InputsGo.{own_step, Here, node_is, no_seat, Brings, input_runs}
 use Rattle.grasp_simulator.proofs.Puts.{with_streams}
-use Rattle.grasp_simulator.proofs.SeatLists.{numbered_from_1, numbers_count}
+use Rattle.grasp_simulator.proofs.SeatLists.{numbered_from_1}
+use Rattle.grasp_simulator.proofs.SideEnds.{number_is}
 use Rattle.grasp_simulator.proofs.StreamTalks.{Chosen, found_is, talk_at}
 
 -- ---- the node that listens
@@ -88,7 +89,7 @@ from_1 : (o : Option ℕ) → counted_from 1 o ≡ counted_from_1 o
 from_1 None = refl
 from_1 (Some i) = refl
 
--- it is the member at the locator
+-- the first node of a script that listens at the locator is the member at the locator
 listener_is : (p : WorldPlan) (to : Locator) → listener_from 1 p.nodes to ≡ member_at (script_setting p) to
 unfolding script_setting
 listener_is p to = listener_at p to 1 p.nodes ∙ from_1 (position (is_at to) (map (script_member p) (numbers_from 1 p.nodes)))
@@ -110,7 +111,7 @@ unfolding listener_from
 no_listener node zero to none = refl
 no_listener node (suc count) to none = absurd (omega (arith, none))
 
--- it is behind one that doesn't listen there
+-- where a node doesn't listen at the locator, the listener is looked for among the nodes behind it
 pub looked_on : (nodes before : ℕ) (to : Locator) → before < nodes → same_locator to (script_locator (before + 1)) ≡ false → listener_from (before + 1) (nodes - before) to ≡ listener_from ((before + 1) + 1) (nodes - (before + 1)) to
 looked_on nodes before to within other =
     listener_passed (before + 1) (nodes - before) to (omega (arith, within)) other ∙ ap (λ (count : ℕ). listener_from ((before + 1) + 1) count to) (omega arith)
@@ -125,8 +126,8 @@ looked_all nodes before to past = no_listener (before + 1) (nodes - before) to (
 
 -- the stream waits, who dialled it and who listens there are these
 record Found (code : World) (s : Setting) (w : WorldState) (k : ℕ) (x : Waiting) : Type 0 where
-  talk : TalkState
-  got : talk_numbered w.talks k ≡ Some talk
+  talk : StreamState
+  got : stream_numbered w.streams k ≡ Some talk
   waits : is_waiting talk.far_side ≡ true
   member : member_at s talk.to ≡ Some x.node
   near : numbered s.members talk.near.node ≡ Some (script_member code.plan x.near)
@@ -135,9 +136,7 @@ record Found (code : World) (s : Setting) (w : WorldState) (k : ℕ) (x : Waitin
 
 unopened : (x : Standing) → is_waiting (arrival_of x) ≡ is_unopened x
 unopened standing.NotYet = refl
-unopened standing.Lives = refl
-unopened standing.TurnedAway = refl
-unopened standing.ToldClosed = refl
+unopened _ = refl
 
 -- what is kept of a stream that waits
 record IsWaiting (p : WorldPlan) (code : Stream) (x : Waiting) : Type 0 where
@@ -150,7 +149,7 @@ waiting_is p code x is = by_side (is_unopened code.far_side) refl is where
   by_node : (o : Option ℕ) → listener_from 1 p.nodes code.to ≡ o → is_unopened code.far_side ≡ true → waiting_by code.near o ≡ Some x → IsWaiting p code x
   by_node None here side e = absurd (none-some x e)
   by_node (Some node) here side e =
-      let same : record { near = code.near; node = node } ≡ x = some_same (record { near = code.near; node = node }) x e in
+      let same : record { near = code.near; node = node } ≡ x = same_Some (record { near = code.near; node = node }) x e in
       record { side = side; near = ap (λ (y : Waiting). y.near) same; node = here ∙ ap Some (ap (λ (y : Waiting). y.node) same) }
 
   by_side : (b : Bool) → is_unopened code.far_side ≡ b → cond b (waiting_by code.near (listener_from 1 p.nodes code.to)) None ≡ Some x → IsWaiting p code x
@@ -164,16 +163,16 @@ members_are : (p : WorldPlan) → (script_setting p).members ≡ members_of p
 unfolding script_setting
 members_are p = refl
 
-near_is : (law : StreamsAreReady) (code : World) (s : Setting) (w : WorldState) (k near : ℕ) (t : TalkState) → WorldGoes code s w → talk_numbered w.talks k ≡ Some t → t.near.node ≡ near → numbered s.members t.near.node ≡ Some (script_member code.plan near)
+near_is : (law : StreamsAreReady) (code : World) (s : Setting) (w : WorldState) (k near : ℕ) (t : StreamState) → WorldGoes code s w → stream_numbered w.streams k ≡ Some t → t.near.node ≡ near → numbered s.members t.near.node ≡ Some (script_member code.plan near)
 near_is law code s w k near t goes got is =
     let p : WorldPlan = code.plan in
     let members : s.members ≡ members_of p = ap (λ (q : Setting). q.members) goes.keeps.setting ∙ members_are p in
-    let c : Chosen (λ (x : TalkState). HasGoodEnds s (length w.seats) w.dials x.near x.number x.far) (numbers k) t = found_is (λ (x : TalkState). HasGoodEnds s (length w.seats) w.dials x.near x.number x.far) (numbers k) w.talks t got (law.ends s w goes.reached) in
-    let count : length w.seats ≡ p.nodes = seats_stay.all s w goes.reached ∙ (ap (λ (ms : List Member). length ms) members ∙ (map_length (script_member p) (numbers_from 1 p.nodes) ∙ numbers_count 1 p.nodes)) in
+    let c : Chosen (λ (x : StreamState). HasGoodEnds s (length w.seats) w.dials x.near x.number x.far) (numbers k) t = found_is (λ (x : StreamState). HasGoodEnds s (length w.seats) w.dials x.near x.number x.far) (numbers k) w.streams t got (law.ends s w goes.reached) in
+    let count : length w.seats ≡ p.nodes = seats_stay.all s w goes.reached ∙ (ap (λ (ms : List Member). length ms) members ∙ (length_map (script_member p) (numbers_from 1 p.nodes) ∙ count_numbers 1 p.nodes)) in
     let here : IsNode p.nodes t.near.node = subst (λ (n : ℕ). IsNode n t.near.node) count c.holds.member in
     ap (λ (ms : List Member). numbered ms t.near.node) members ∙ (numbered_from_1 (script_member p) p.nodes t.near.node here.least here.most ∙ ap (λ (n : ℕ). Some (script_member p n)) is)
 
-found_by : (law : StreamsAreReady) (code : World) (s : Setting) (w : WorldState) (k : ℕ) (x : Waiting) (co : Option Stream) (to : Option TalkState) → WorldGoes code s w → numbered code.streams.list.items k ≡ co → talk_numbered w.talks k ≡ to → IsTalk k co to
+found_by : (law : StreamsAreReady) (code : World) (s : Setting) (w : WorldState) (k : ℕ) (x : Waiting) (co : Option Stream) (to : Option StreamState) → WorldGoes code s w → numbered code.streams.list.items k ≡ co → stream_numbered w.streams k ≡ to → IsTalk k co to
     → waiting_in code.plan.nodes co ≡ Some x → Found code s w k x
 found_by law code s w k x None to goes is got talk waits = absurd (none-some x waits)
 found_by law code s w k x (Some c) None goes is got talk waits = absurd talk
@@ -195,16 +194,16 @@ found_by law code s w k x (Some c) (Some t) goes is got talk waits =
 
 found : (law : StreamsAreReady) (code : World) (s : Setting) (w : WorldState) (k : ℕ) (x : Waiting) → WorldGoes code s w → waiting_in code.plan.nodes (numbered code.streams.list.items k) ≡ Some x → Found code s w k x
 found law code s w k x goes waits =
-    found_by law code s w k x (numbered code.streams.list.items k) (talk_numbered w.talks k) goes refl refl
-    (talk_at code.streams.list.items code.streams.near.entries w.talks w.dials goes.keeps.streams k) waits
+    found_by law code s w k x (numbered code.streams.list.items k) (stream_numbered w.streams k) goes refl refl
+    (talk_at code.streams.list.items code.streams.near.entries w.streams w.dials goes.keeps.streams k) waits
 
 -- ---- the step
 
-open_is : (s : Setting) (w : WorldState) (k node number : ℕ) (from : Address) (t : TalkState) (m : Member) (o : Option Seat) → talk_numbered w.talks k ≡ Some t → is_waiting t.far_side ≡ true → member_at s t.to ≡ Some node → numbered s.members t.near.node ≡ Some m
+open_is : (s : Setting) (w : WorldState) (k node number : ℕ) (from : Address) (t : StreamState) (m : Member) (o : Option Seat) → stream_numbered w.streams k ≡ Some t → is_waiting t.far_side ≡ true → member_at s t.to ≡ Some node → numbered s.members t.near.node ≡ Some m
     → s.arrives_as node k ≡ number → s.arrives_from k m.plan.address ≡ from → seat_at w node ≡ o → arrival_visit s w k ≡ visit_seat node (input.Opened number from) o
 unfolding arrival_visit
 open_is s w k node number from t m o got waits member near number_as from_as here =
-    ap (open_talk s w k) got
+    ap (opened_stream s w k) got
     ∙ (ap (λ (b : Bool). cond b (opened_at s w k (member_at s t.to) (numbered s.members t.near.node)) None) waits
     ∙ (ap (λ (q : Option ℕ). opened_at s w k q (numbered s.members t.near.node)) member
     ∙ (ap (opened_at s w k (Some node)) near
@@ -234,18 +233,14 @@ visit_is code s w k x o f keeps here =
 
 taken : (r : Reply) → arrival_by r ≡ arrival_of (standing_by (is_taken r))
 taken (reply.Api a) = refl
-taken (reply.Refused a) = refl
-taken (reply.Outputs a) = refl
-taken reply.Taken = refl
-taken reply.Turned = refl
-taken reply.OutOfMemory = refl
+taken _ = refl
 
 -- the streams, of which this one is opened by a visit with this reply
-abbrev talks_then : Setting → WorldState → ℕ → TalkState → Visit → Reply → List TalkState
-talks_then s w k t v r = change_at_end w.talks t.near (with_far (end_of v.node v.seat (s.arrives_as v.node k)) (arrival_by r))
+abbrev talks_then : Setting → WorldState → ℕ → StreamState → Visit → Reply → List StreamState
+talks_then s w k t v r = change_at_end w.streams t.near (with_far (end_of v.node v.seat (s.arrives_as v.node k)) (arrival_by r))
 
-arrive_brings : (s : Setting) (w : WorldState) (k : ℕ) (hold : Bool) (t : TalkState) (v : Visit) (r : Reply) → talk_numbered w.talks k ≡ Some t → arrival_visit s w k ≡ Some v
-    → Brings s w (record w { talks = talks_then s w k t v r }) (event.Arrive k hold) (event.Arrive k true) hold v r (λ c. w.answers)
+arrive_brings : (s : Setting) (w : WorldState) (k : ℕ) (hold : Bool) (t : StreamState) (v : Visit) (r : Reply) → stream_numbered w.streams k ≡ Some t → arrival_visit s w k ≡ Some v
+    → Brings s w (record w { streams = talks_then s w k t v r }) (event.Arrive k hold) (event.Arrive k true) hold v r (λ c. w.answers)
 unfolding after_event after_arrival report_of stepped
 arrive_brings s w k hold t v r got is = record {
   seats = refl;
@@ -256,9 +251,6 @@ arrive_brings s w k hold t v r got is = record {
   after_held = λ c same. rw is (rw got (rw same refl));
   reports = λ c. rw is refl;
 }
-
-number_is : (k : ℕ) → 1 ≤ k → k ≤ 2 ^ 62 → far_number k ≡ 2 * k - 1
-number_is k least most = omega (arith, least, most)
 
 pub arrive_runs : (law : StreamsAreReady) (old new : World) (k : ℕ) (hold : Bool) (x : Waiting) (number : ℕ) (from : Address) (streams : Streams) (i : ℕ) (own after : SeatCode) (r : Reply) → waiting_in old.plan.nodes (numbered old.streams.list.items k) ≡ Some x
     → number ≡ far_number k → from ≡ script_address x.near → Opens old.streams streams k x.node (is_taken r) → IsNode (length old.seats.items) x.node → i ≡ x.node - 1 → own ≡ slice_index_or old.seats.items i own
@@ -276,13 +268,13 @@ arrive_runs law old new k hold x number from streams i own after r waits number_
     ∙ ap (λ (a : Address). Some (own_step x.node there.seat (input.Opened number a))) (sym from_of)) in
     let far : end_here x.node (2 * k - 1) ≡ end_of x.node there.seat (s.arrives_as x.node k) =
     ap (end_here x.node) (sym (arrives_as old s w x.node k keeps)) ∙ ap (λ (l : ℕ). record { node = x.node; life = l; number = s.arrives_as x.node k }) (sym (ap (λ earlier. length earlier) (law.lives s w may.goes.reached x.node there.seat there.here))) in
-    let talks : List TalkState = talks_then s w k f.talk v r in
-    let same : change_at_end w.talks f.talk.near (with_far (end_here x.node (2 * k - 1)) (arrival_of (standing_by (is_taken r)))) ≡ talks =
-    ap (λ (e : StreamEnd). change_at_end w.talks f.talk.near (with_far e (arrival_of (standing_by (is_taken r))))) far
-    ∙ ap (λ (a : Arrival). change_at_end w.talks f.talk.near (with_far (end_of x.node there.seat (s.arrives_as x.node k)) a)) (sym (taken r)) in
-    let kept : WorldKeeps (record old { streams = streams }) s (record w { talks = talks }) =
-    with_streams old s w streams talks w.dials keeps (subst (λ (ts : List TalkState). StreamsStand streams ts w.dials) same (opens w.talks w.dials f.talk f.got keeps.streams)) in
-    input_runs law old (record old { streams = streams }) new s w (record w { talks = talks }) (event.Arrive k hold) (event.Arrive k true) hold v (λ c. w.answers) i own after r may (record { goes = may.goes; fit = tt })
+    let talks : List StreamState = talks_then s w k f.talk v r in
+    let same : change_at_end w.streams f.talk.near (with_far (end_here x.node (2 * k - 1)) (arrival_of (standing_by (is_taken r)))) ≡ talks =
+    ap (λ (e : StreamEnd). change_at_end w.streams f.talk.near (with_far e (arrival_of (standing_by (is_taken r))))) far
+    ∙ ap (λ (a : Arrival). change_at_end w.streams f.talk.near (with_far (end_of x.node there.seat (s.arrives_as x.node k)) a)) (sym (taken r)) in
+    let kept : WorldKeeps (record old { streams = streams }) s (record w { streams = talks }) =
+    with_streams old s w streams talks w.dials keeps (subst (λ (ts : List StreamState). StreamsStand streams ts w.dials) same (opens w.streams w.dials f.talk f.got keeps.streams)) in
+    input_runs law old (record old { streams = streams }) new s w (record w { streams = talks }) (event.Arrive k hold) (event.Arrive k true) hold v (λ c. w.answers) i own after r may (record { goes = may.goes; fit = tt })
     (arrive_brings s w k hold f.talk v r f.got is) refl kept there.here place got tt steps fed sends
 
 -- memory may be wanted for it
@@ -307,7 +299,7 @@ open_none : (s : Setting) (w : WorldState) (k : ℕ) (near : Option Member) → 
 open_none s w k None = refl
 open_none s w k (Some m) = refl
 
-unopened_by : (p : WorldPlan) (s : Setting) (w : WorldState) (k : ℕ) (co : Option Stream) (to : Option TalkState) → s ≡ script_setting p → IsTalk k co to → waiting_in p.nodes co ≡ None → open_talk s w k to ≡ None
+unopened_by : (p : WorldPlan) (s : Setting) (w : WorldState) (k : ℕ) (co : Option Stream) (to : Option StreamState) → s ≡ script_setting p → IsTalk k co to → waiting_in p.nodes co ≡ None → opened_stream s w k to ≡ None
 unopened_by p s w k None None setting talk none = refl
 unopened_by p s w k None (Some t) setting talk none = absurd talk
 unopened_by p s w k (Some c) None setting talk none = absurd talk
@@ -322,7 +314,7 @@ unopened_by p s w k (Some c) (Some t) setting talk none = by_side (is_unopened c
   by_node None is e = ap (λ (q : Option ℕ). opened_at s w k q (numbered s.members t.near.node)) (member ∙ is) ∙ open_none s w k (numbered s.members t.near.node)
   by_node (Some node) is e = absurd (none-some (record { near = c.near; node = node }) (sym e))
 
-  by_side : (b : Bool) → is_unopened c.far_side ≡ b → cond b (waiting_by c.near (listener_from 1 p.nodes c.to)) None ≡ None → open_talk s w k (Some t) ≡ None
+  by_side : (b : Bool) → is_unopened c.far_side ≡ b → cond b (waiting_by c.near (listener_from 1 p.nodes c.to)) None ≡ None → opened_stream s w k (Some t) ≡ None
   by_side true side e =
       ap (λ (b : Bool). cond b (opened_at s w k (member_at s t.to) (numbered s.members t.near.node)) None) (waits ∙ side) ∙ by_node (listener_from 1 p.nodes c.to) refl e
   by_side false side e = ap (λ (b : Bool). cond b (opened_at s w k (member_at s t.to) (numbered s.members t.near.node)) None) (waits ∙ side)
@@ -332,10 +324,10 @@ pub no_arrival : (code : World) (k : ℕ) (hold : Bool) → waiting_in code.plan
 unfolding arrival_visit
 no_arrival code k hold none s w may =
     nothing_arrives code s w k hold may
-    (unopened_by code.plan s w k (numbered code.streams.list.items k) (talk_numbered w.talks k) may.goes.keeps.setting
-    (talk_at code.streams.list.items code.streams.near.entries w.talks w.dials may.goes.keeps.streams k) none)
+    (unopened_by code.plan s w k (numbered code.streams.list.items k) (stream_numbered w.streams k) may.goes.keeps.setting
+    (talk_at code.streams.list.items code.streams.near.entries w.streams w.dials may.goes.keeps.streams k) none)
 
--- nor where the node isn't there
+-- nothing comes of a stream that waits to be opened at a node that isn't there
 pub unseated_arrival : (law : StreamsAreReady) (code : World) (k : ℕ) (hold : Bool) (x : Waiting) → waiting_in code.plan.nodes (numbered code.streams.list.items k) ≡ Some x → (IsNode (length code.seats.items) x.node → ⊥) → Runs code code (event.Arrive k hold) report.Nothing
 unseated_arrival law code k hold x waits none s w may =
     let f : Found code s w k x = found law code s w k x may.goes waits in

@@ -3,32 +3,28 @@ use Rattle.std.proofs.Common.{◌≡◌, ◌≤◌, refl, sym, ap, ◌∙◌, su
 use Rattle.std.specs.Vec.{with_item}
 use Rattle.grasp_agent.specs.Calls.{next_call}
 use Rattle.grasp_agent.specs.Replies.{after_reply}
-use Rattle.grasp_core.specs.Begin.{begin}
-use Rattle.grasp_core.specs.Node.{NodeState}
 use Rattle.grasp_types.specs.declared.call.Call.{Call}
 use Rattle.grasp_types.specs.declared.reply.Reply.{Reply}
-use Rattle.grasp_types.specs.declared.traffic.Input.{Input}
 use Rattle.grasp_types.specs.declared.traffic.Input.TheVariants as input
-use Rattle.grasp_network.specs.AgentCalls.{after_agent_call}
-use Rattle.grasp_network.specs.Agents.{agent_input, agent_visit, replied, after_agent}
-use Rattle.grasp_network.specs.Events.{drained_behind, visit_of, after_event}
-use Rattle.grasp_network.specs.Notes.{noted}
-use Rattle.grasp_network.specs.Offers.{offers_after}
-use Rattle.grasp_network.specs.Reports.{report_of}
-use Rattle.grasp_network.specs.Runs.{IsReached}
-use Rattle.grasp_network.specs.Sending.{seat_with, stepped}
-use Rattle.grasp_network.specs.Setting.{Setting}
-use Rattle.grasp_network.specs.Visits.{Visit, Choice, MayCome, VisitStep, is_starved}
-use Rattle.grasp_network.specs.World.{Seat, WorldState, seat_at}
-use Rattle.grasp_network.specs.declared.event.Event.{Event}
-use Rattle.grasp_network.specs.declared.event.Event.TheVariants as event
-use Rattle.grasp_network.specs.declared.report.Report.TheVariants as report
-use Rattle.grasp_network_streams.specs.Ready.{StreamsAreReady}
+use Rattle.grasp_model_network.specs.EventSteps.{after_agent_call, agent_input, agent_visit, replied, after_agent}
+use Rattle.grasp_model_network.specs.Events.{drained_behind, visit_of, after_event}
+use Rattle.grasp_model_network.specs.Notes.{noted}
+use Rattle.grasp_model_network.specs.Offers.{offers_after}
+use Rattle.grasp_model_network.specs.Reports.{report_of}
+use Rattle.grasp_model_network.specs.Runs.{IsReached}
+use Rattle.grasp_model_network.specs.Sending.{seat_with, stepped}
+use Rattle.grasp_model_network.specs.Setting.{Setting}
+use Rattle.grasp_model_network.specs.Visits.{Visit, Choice, MayCome, VisitStep, is_starved}
+use Rattle.grasp_model_network.specs.World.{Seat, WorldState, seat_at}
+use Rattle.grasp_model_network.specs.declared.event.Event.{Event}
+use Rattle.grasp_model_network.specs.declared.event.Event.TheVariants as event
+use Rattle.grasp_model_network.specs.declared.report.Report.TheVariants as report
+use Rattle.grasp_laws_delivery.specs.Ready.{StreamsAreReady}
 use Rattle.grasp_simulator.specs.PlacesStand.{places_in}
 use Rattle.grasp_simulator.specs.Seats.{SeatStands, Sitting, SeatMeets, SeatStepped, AgentStepped}
 use Rattle.grasp_simulator.specs.Sends.{SendsBehind}
 use Rattle.grasp_simulator.specs.WorldStands.{WorldKeeps}
-use Rattle.grasp_simulator.specs.WorldSteps.{MayRun, Runs}
+use Rattle.grasp_simulator.specs.WorldSteps.{Runs}
 use Rattle.grasp_simulator.specs.declared.places.Places.{Places}
 use Rattle.grasp_simulator.specs.declared.seat.Seat.{Seat as SeatCode}
 use Rattle.grasp_simulator.specs.declared.world.World.{World}
@@ -58,7 +54,7 @@ call_count : (w : WorldState) (node : ℕ) (seat : Seat) (asa : ℕ) (call : Cal
 unfolding noted stepped
 call_count w node seat asa call c = refl
 
-call_talks : (w : WorldState) (node : ℕ) (seat : Seat) (asa : ℕ) (call : Call) (c : Choice) → (called w node seat asa call c).talks ≡ (stepped w (own_step node seat (input.Api asa call)) c.after seat.agent).talks
+call_talks : (w : WorldState) (node : ℕ) (seat : Seat) (asa : ℕ) (call : Call) (c : Choice) → (called w node seat asa call c).streams ≡ (stepped w (own_step node seat (input.Api asa call)) c.after seat.agent).streams
 unfolding noted
 call_talks w node seat asa call c = refl
 
@@ -121,7 +117,7 @@ agent_count : (w : WorldState) (node : ℕ) (seat : Seat) (c : Choice) → (answ
 unfolding noted stepped
 agent_count w node seat c = refl
 
-agent_talks : (w : WorldState) (node : ℕ) (seat : Seat) (c : Choice) → (answered w node seat c).talks ≡ (stepped w (own_call node seat) c.after (after_reply seat.agent c.reply)).talks
+agent_talks : (w : WorldState) (node : ℕ) (seat : Seat) (c : Choice) → (answered w node seat c).streams ≡ (stepped w (own_call node seat) c.after (after_reply seat.agent c.reply)).streams
 unfolding noted
 agent_talks w node seat c = refl
 

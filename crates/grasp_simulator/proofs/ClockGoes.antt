@@ -1,22 +1,22 @@
 -- A clock of a network's node.
 use Rattle.std.proofs.Common.{◌≡◌, refl, sym, ap, ◌∙◌, subst, ℕ, ◌-◌, Some, slice_index_or}
 use Rattle.std.specs.Vec.{with_item}
-use Rattle.grasp_core.specs.Begin.{begin}
-use Rattle.grasp_core.specs.Draining.{drained}
+use Rattle.grasp_model_node.specs.Begin.{begin}
+use Rattle.grasp_model_node.specs.Draining.{drained}
 use Rattle.grasp_types.specs.declared.reply.Reply.TheVariants as reply
 use Rattle.grasp_types.specs.declared.traffic.Input.TheVariants.{Drain}
-use Rattle.grasp_network.specs.Clocks.{after_clock}
-use Rattle.grasp_network.specs.Events.{visit_of, after_event}
-use Rattle.grasp_network.specs.Reports.{report_of}
-use Rattle.grasp_network.specs.Runs.{IsReached}
-use Rattle.grasp_network.specs.Sending.{stepped}
-use Rattle.grasp_network.specs.Setting.{Setting}
-use Rattle.grasp_network.specs.Visits.{Visit, Choice, MayCome}
-use Rattle.grasp_network.specs.World.{Seat, WorldState, seat_at}
-use Rattle.grasp_network.specs.declared.event.Event.{Event}
-use Rattle.grasp_network.specs.declared.event.Event.TheVariants as event
-use Rattle.grasp_network.specs.declared.report.Report.TheVariants as report
-use Rattle.grasp_network_streams.specs.Ready.{StreamsAreReady}
+use Rattle.grasp_model_network.specs.EventSteps.{after_clock}
+use Rattle.grasp_model_network.specs.Events.{visit_of, after_event}
+use Rattle.grasp_model_network.specs.Reports.{report_of}
+use Rattle.grasp_model_network.specs.Runs.{IsReached}
+use Rattle.grasp_model_network.specs.Sending.{stepped}
+use Rattle.grasp_model_network.specs.Setting.{Setting}
+use Rattle.grasp_model_network.specs.Visits.{Visit, Choice, MayCome}
+use Rattle.grasp_model_network.specs.World.{Seat, WorldState, seat_at}
+use Rattle.grasp_model_network.specs.declared.event.Event.{Event}
+use Rattle.grasp_model_network.specs.declared.event.Event.TheVariants as event
+use Rattle.grasp_model_network.specs.declared.report.Report.TheVariants as report
+use Rattle.grasp_laws_delivery.specs.Ready.{StreamsAreReady}
 use Rattle.grasp_simulator.specs.Seats.{SeatStands, clocked}
 use Rattle.grasp_simulator.specs.WorldStands.{WorldKeeps}
 use Rattle.grasp_simulator.specs.WorldSteps.{Runs}
@@ -69,5 +69,5 @@ clock_runs law old node millis i reading own changed place got reads turns s w m
       comes = comes;
       report_is = ap report.Reading (reads seat found.stands) ∙ sym (clock_report s w node millis seat found.here);
       keeps = subst (WorldKeeps new s) (sym after)
-          (stepped_keeps law old s w (after_event s w e c) (clock_step node millis seat) (clocked seat millis).core seat.agent i changed keeps found.first place (turns seat found.stands) reached (ap (λ (x : WorldState). x.talks) after));
+          (stepped_keeps law old s w (after_event s w e c) (clock_step node millis seat) (clocked seat millis).core seat.agent i changed keeps found.first place (turns seat found.stands) reached (ap (λ (x : WorldState). x.streams) after));
     }

@@ -1,24 +1,21 @@
 -- Datagrams that are delivered.
-use Rattle.std.proofs.Common.{◌≡◌, ◌≤◌, refl, sym, ap, ◌∙◌, subst, ℕ, ◌-◌, ◌==◌, ◌++◌, cond, Bool, true, false, List, length, map, Option, Some, None, is_some, option_map, slice_get, slice_index_or}
+use Rattle.std.proofs.Common.{◌≡◌, refl, sym, ap, ◌∙◌, subst, ℕ, ◌-◌, ◌==◌, ◌++◌, cond, Bool, true, false, List, length, map, Option, Some, None, is_some, option_map, slice_get, slice_index_or}
 use Rattle.std.specs.Vec.{with_item}
-use Rattle.std.proofs.lemmas.Option.{none-some, slice_get-map}
+use Rattle.std.proofs.lemmas.Option.{none-some, slice_get-map, same_Some}
 use Rattle.grasp_cbor.specs.Bytes.{AllBytes}
-use Rattle.grasp_core.specs.Queue.{encoding}
+use Rattle.grasp_model_node.specs.Queue.{encoding}
 use Rattle.grasp_types.specs.declared.reply.Reply.{Reply}
-use Rattle.grasp_types.specs.declared.traffic.Input.{Input}
 use Rattle.grasp_types.specs.declared.traffic.Input.TheVariants as input
-use Rattle.grasp_network.proofs.Here.{some_same}
-use Rattle.grasp_network.specs.Deliveries.{datagram_visit, answers_in, after_delivery}
-use Rattle.grasp_network.specs.Events.{visit_of, after_event}
-use Rattle.grasp_network.specs.Plans.{IsNode}
-use Rattle.grasp_network.specs.Reports.{report_of}
-use Rattle.grasp_network.specs.Setting.{Setting, numbered}
-use Rattle.grasp_network.specs.Visits.{Visit, Choice, MayCome, no_choice, is_starved, visit, visit_seat}
-use Rattle.grasp_network.specs.World.{Seat, SentDatagram, WorldState, seat_at}
-use Rattle.grasp_network.specs.declared.event.Event.{Event}
-use Rattle.grasp_network.specs.declared.event.Event.TheVariants as event
-use Rattle.grasp_network.specs.declared.report.Report.TheVariants as report
-use Rattle.grasp_network_streams.specs.Ready.{StreamsAreReady}
+use Rattle.grasp_model_network.specs.EventSteps.{datagram_visit, answers_in, after_delivery}
+use Rattle.grasp_model_network.specs.Events.{visit_of, after_event}
+use Rattle.grasp_model_network.specs.Plans.{IsNode}
+use Rattle.grasp_model_network.specs.Reports.{report_of}
+use Rattle.grasp_model_network.specs.Setting.{Setting, numbered}
+use Rattle.grasp_model_network.specs.Visits.{Visit, MayCome, no_choice, is_starved, visit_seat}
+use Rattle.grasp_model_network.specs.World.{Seat, SentDatagram, WorldState, seat_at}
+use Rattle.grasp_model_network.specs.declared.event.Event.TheVariants as event
+use Rattle.grasp_model_network.specs.declared.report.Report.TheVariants as report
+use Rattle.grasp_laws_delivery.specs.Ready.{StreamsAreReady}
 use Rattle.grasp_simulator.specs.Seats.{Sitting, SeatMeets, SeatStepped}
 use Rattle.grasp_simulator.specs.Sends.{SendsBehind}
 use Rattle.grasp_simulator.specs.WorldStands.{WorldKeeps, parcel_of}
@@ -49,7 +46,7 @@ sent_is code s w index parcel keeps got = by_datagram (numbered w.datagrams inde
 
   by_datagram : (o : Option SentDatagram) → numbered w.datagrams index ≡ o → IsSent w index parcel
   by_datagram None is = absurd (none-some parcel (sym (ap (option_map parcel_of) is) ∙ kept))
-  by_datagram (Some d) is = record { datagram = d; got = is; is = sym (some_same (parcel_of d) parcel (sym (ap (option_map parcel_of) is) ∙ kept)) }
+  by_datagram (Some d) is = record { datagram = d; got = is; is = sym (same_Some (parcel_of d) parcel (sym (ap (option_map parcel_of) is) ∙ kept)) }
 
 not_sent : (code : World) (s : Setting) (w : WorldState) (index : ℕ) → WorldKeeps code s w → numbered code.parcels index ≡ None → numbered w.datagrams index ≡ None
 not_sent code s w index keeps got = by_datagram (numbered w.datagrams index) refl where
@@ -130,7 +127,7 @@ pub no_datagram : (code : World) (index : ℕ) (hold : Bool) → numbered code.p
 unfolding datagram_visit
 no_datagram code index hold got s w may = nothing_delivered code s w index hold may (rw (not_sent code s w index may.goes.keeps got) refl)
 
--- nor of one for a node that isn't there
+-- nothing comes of a datagram for a node that isn't there
 pub unseated_datagram : (code : World) (index : ℕ) (hold : Bool) (parcel : Parcel) (node : ℕ) → numbered code.parcels index ≡ Some parcel → node ≡ parcel.receiver → (IsNode (length code.seats.items) node → ⊥) → Runs code code (event.Datagram index hold) report.Nothing
 unseated_datagram code index hold parcel node got node_of none s w may =
     let sent : IsSent w index parcel = sent_is code s w index parcel may.goes.keeps got in

@@ -1,21 +1,19 @@
 -- A drain of a network's node.
 use Rattle.std.proofs.Common.{◌≡◌, ◌<◌, ◌≤◌, refl, sym, ap, ◌∙◌, subst, arith, ℕ, zero, suc, ◌-◌, List, [], ◌∷◌, length, Some, slice_get}
-use Rattle.grasp_core.specs.Begin.{begin}
-use Rattle.grasp_core.specs.Draining.{after_drain}
-use Rattle.grasp_core.specs.Draining as core
+use Rattle.grasp_model_node.specs.Begin.{begin}
+use Rattle.grasp_model_node.specs.Draining.{after_drain}
+use Rattle.grasp_model_node.specs.Draining as core
 use Rattle.grasp_types.specs.declared.reply.Reply.TheVariants as reply
 use Rattle.grasp_types.specs.declared.traffic.Input.TheVariants.{Drain}
-use Rattle.grasp_network.specs.Drains.{sent_count}
-use Rattle.grasp_network.specs.Events.{visit_of, after_event}
-use Rattle.grasp_network.specs.Plans.{IsNode}
-use Rattle.grasp_network.specs.Reports.{report_of}
-use Rattle.grasp_network.specs.Sending.{drained}
-use Rattle.grasp_network.specs.Setting.{Setting}
-use Rattle.grasp_network.specs.Visits.{Choice, MayCome}
-use Rattle.grasp_network.specs.World.{Seat, WorldState, seat_at}
-use Rattle.grasp_network.specs.declared.event.Event.{Event}
-use Rattle.grasp_network.specs.declared.event.Event.TheVariants as event
-use Rattle.grasp_network.specs.declared.report.Report.TheVariants as report
+use Rattle.grasp_model_network.specs.EventSteps.{sent_count}
+use Rattle.grasp_model_network.specs.Events.{visit_of, after_event}
+use Rattle.grasp_model_network.specs.Reports.{report_of}
+use Rattle.grasp_model_network.specs.Sending.{drained}
+use Rattle.grasp_model_network.specs.Setting.{Setting}
+use Rattle.grasp_model_network.specs.Visits.{Choice, MayCome}
+use Rattle.grasp_model_network.specs.World.{Seat, WorldState, seat_at}
+use Rattle.grasp_model_network.specs.declared.event.Event.TheVariants as event
+use Rattle.grasp_model_network.specs.declared.report.Report.TheVariants as report
 use Rattle.grasp_simulator.specs.Sends.{Sends}
 use Rattle.grasp_simulator.specs.WorldStands.{WorldKeeps}
 use Rattle.grasp_simulator.specs.WorldSteps.{Runs}

@@ -1,22 +1,16 @@
 -- Outputs of a node that are sent in order.
-use Rattle.std.proofs.Common.{◌≡◌, refl, sym, ap, ◌∙◌, subst, arith, ℕ, zero, suc, ◌+◌, List, [], ◌∷◌, ◌++◌, length, map, take, drop, Option, Some, None}
-use Rattle.grasp_core.proofs.Beginning.{beginnings_end}
-use Rattle.grasp_core.specs.Begin.{begin}
-use Rattle.grasp_core.specs.Draining.{closes, after_drain}
-use Rattle.grasp_core.specs.Draining as core
-use Rattle.grasp_core.specs.Node.{NodeState}
-use Rattle.grasp_core.specs.Queue.{Queued, datagram, dial, send, output_of}
+use Rattle.std.proofs.Common.{◌≡◌, refl, sym, ap, ◌∙◌, subst, ℕ, zero, suc, ◌+◌, List, [], ◌∷◌, take, Option, Some, None}
+use Rattle.grasp_model_node.specs.Queue.{Queued, datagram, dial, send}
 use Rattle.grasp_types.specs.declared.message.Message.{Message}
 use Rattle.grasp_types.specs.declared.traffic.Output.{Output}
-use Rattle.grasp_types.specs.declared.traffic.Output.TheVariants.{Close}
-use Rattle.grasp_network.specs.Routes.{Route, route_of}
-use Rattle.grasp_network.specs.Sending.{posted, having_sent, having_closed, handed_over}
-use Rattle.grasp_network.specs.Setting.{Setting}
-use Rattle.grasp_network.specs.Talks.{TalkState, change_at_end, with_number, with_sent}
-use Rattle.grasp_network.specs.World.{Seat, WorldState, end_of}
-use Rattle.grasp_network_streams.specs.Ready.{AreReady}
+use Rattle.grasp_model_network.specs.Routes.{Route, route_of}
+use Rattle.grasp_model_network.specs.Sending.{posted, having_sent, having_closed, handed_over}
+use Rattle.grasp_model_network.specs.Setting.{Setting}
+use Rattle.grasp_model_network.specs.Streams.{StreamState, change_at_end, with_number, with_sent}
+use Rattle.grasp_model_network.specs.World.{Seat, WorldState, end_of}
+use Rattle.grasp_laws_delivery.specs.Ready.{AreReady}
 use Rattle.grasp_simulator.specs.Sends.{CanSend, Puts, outputs_of, MaySend, HandsOver}
-use Rattle.grasp_simulator.specs.WorldStands.{WorldKeeps, IsFirstLife}
+use Rattle.grasp_simulator.specs.WorldStands.{WorldKeeps}
 use Rattle.grasp_simulator.specs.declared.world.World.{World}
 
 -- the code keeps a network from which the rest is to be sent yet
@@ -33,12 +27,9 @@ abbrev pub AllHanding : World → World → ℕ → List Output → List Output 
 AllHanding before code node outputs rest = (s : Setting) (w : WorldState) (seat : Seat) (queued : List Queued) (streams : List ℕ) → MaySend before s w node seat queued → outputs ≡ outputs_of queued streams
     → Handing code s w node seat queued streams rest
 
-pub begins : (before : World) (node : ℕ) (outputs : List Output) → AllHanding before before node outputs outputs
-begins before node outputs s w seat queued streams may is = record { world = w; queue = queued; closing = streams; may = may; left = is; same = refl }
-
 -- ---- one output
 
-same_talks : (w : WorldState) (m : Message) (r : Option Route) → (posted w m r).talks ≡ w.talks
+same_talks : (w : WorldState) (m : Message) (r : Option Route) → (posted w m r).streams ≡ w.streams
 same_talks w m None = refl
 same_talks w m (Some route) = refl
 
@@ -50,12 +41,12 @@ tail_in : List Output → List Output
 tail_in [] = []
 tail_in (x ∷ xs) = xs
 
-can_now : (node : ℕ) (seat : Seat) (q : Queued) (qs : List Queued) (ts : List TalkState) → AreReady node seat (q ∷ qs) ts → CanSend node seat q ts
+can_now : (node : ℕ) (seat : Seat) (q : Queued) (qs : List Queued) (ts : List StreamState) → AreReady node seat (q ∷ qs) ts → CanSend node seat q ts
 can_now node seat (datagram link to m) qs ts h = tt
 can_now node seat (dial stream to) qs ts h = h.0
 can_now node seat (send stream m) qs ts h = (h.0, h.1)
 
-ready_then : (s : Setting) (w : WorldState) (node : ℕ) (seat : Seat) (q : Queued) (qs : List Queued) → AreReady node seat (q ∷ qs) w.talks → AreReady node seat qs (having_sent s node seat w q).talks
+ready_then : (s : Setting) (w : WorldState) (node : ℕ) (seat : Seat) (q : Queued) (qs : List Queued) → AreReady node seat (q ∷ qs) w.streams → AreReady node seat qs (having_sent s node seat w q).streams
 ready_then s w node seat (datagram link to m) qs h = subst (AreReady node seat qs) (sym (same_talks w m (route_of s node link to))) h
 ready_then s w node seat (dial stream to) qs h = h.1 (w.dials + 1)
 ready_then s w node seat (send stream m) qs h = h.2
@@ -68,7 +59,7 @@ hands_queued mid new node output rest s w world seat queued streams closing q qs
   queue = qs;
   closing = closing;
   may = record {
-    keeps = puts.queued s world seat q may.keeps may.first (can_now node seat q qs world.talks may.ready) (ap (head_in output) left);
+    keeps = puts.queued s world seat q may.keeps may.first (can_now node seat q qs world.streams may.ready) (ap (head_in output) left);
     first = may.first;
     ready = ready_then s world node seat q qs may.ready;
   };
@@ -120,7 +111,7 @@ hands_all before after node outputs rest all none s w seat queued streams may is
 
 -- ---- the first of what is queued
 
-pub ready_front : (node : ℕ) (seat : Seat) (max : ℕ) (qs : List Queued) (ts : List TalkState) → AreReady node seat qs ts → AreReady node seat (take max qs) ts
+pub ready_front : (node : ℕ) (seat : Seat) (max : ℕ) (qs : List Queued) (ts : List StreamState) → AreReady node seat qs ts → AreReady node seat (take max qs) ts
 ready_front node seat zero qs ts h = tt
 ready_front node seat (suc max) [] ts h = tt
 ready_front node seat (suc max) (datagram link to m ∷ qs) ts h = ready_front node seat max qs ts h

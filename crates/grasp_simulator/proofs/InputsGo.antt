@@ -1,29 +1,28 @@
 -- An input that an event brings to a node: its step, and the outputs that are sent behind it.
-use Rattle.std.proofs.Common.{◌≡◌, ◌<◌, ◌≤◌, refl, sym, ap, ◌∙◌, subst, arith, ℕ, zero, suc, ◌-◌, ◌^◌, ◌==◌, tests, Bool, true, false, not, List, [], ◌∷◌, length, Option, Some, None, slice_get, slice_index_or, All}
+use Rattle.std.proofs.Common.{◌≡◌, ◌<◌, ◌≤◌, refl, sym, ap, ◌∙◌, subst, arith, ℕ, zero, suc, ◌-◌, ◌^◌, ◌==◌, tests, Bool, false, not, List, [], ◌∷◌, length, Option, Some, None, slice_get, slice_index_or, All}
 use Rattle.std.specs.Vec.{with_item}
-use Rattle.std.proofs.lemmas.Option.{get_or_from_slice_get, slice_get_within}
-use Rattle.grasp_core.specs.Begin.{begin}
-use Rattle.grasp_core.specs.Fed.{HasBytes, Comes}
-use Rattle.grasp_core.specs.Step.{NodeStep}
-use Rattle.grasp_core.specs.declared.plan.NodePlan.{NodePlan}
+use Rattle.std.proofs.lemmas.Option.{get_or_from_slice_get, slice_get_within, same_Some}
+use Rattle.grasp_model_node.specs.Divided.{HasBytes, Comes}
+use Rattle.grasp_model_node.specs.Step.{NodeStep}
+use Rattle.grasp_model_node.specs.declared.plan.NodePlan.{NodePlan}
 use Rattle.grasp_types.specs.declared.reply.Reply.{Reply}
 use Rattle.grasp_types.specs.declared.traffic.Input.{Input}
-use Rattle.grasp_network.proofs.Comings.{something_comes_to_cores}
-use Rattle.grasp_network.proofs.EachNode.{nodes_are_sound}
-use Rattle.grasp_network.proofs.Here.{some_same, numbered_within}
-use Rattle.grasp_network.proofs.Staying.{seats_stay}
-use Rattle.grasp_network.specs.Events.{drained_behind, visit_of, after_event}
-use Rattle.grasp_network.specs.GoodSetting.{IsGoodMember}
-use Rattle.grasp_network.specs.Plans.{IsNode}
-use Rattle.grasp_network.specs.Reports.{report_of}
-use Rattle.grasp_network.specs.Runs.{IsReached}
-use Rattle.grasp_network.specs.Sending.{seat_with, stepped}
-use Rattle.grasp_network.specs.Setting.{Member, Setting, numbered}
-use Rattle.grasp_network.specs.Visits.{Visit, Choice, MayCome, VisitStep, is_starved}
-use Rattle.grasp_network.specs.World.{Seat, DiscoveryAnswer, WorldState, seat_at}
-use Rattle.grasp_network.specs.declared.event.Event.{Event}
-use Rattle.grasp_network.specs.declared.report.Report.TheVariants as report
-use Rattle.grasp_network_streams.specs.Ready.{StreamsAreReady}
+use Rattle.grasp_simulator.proofs.Comings.{something_comes_to_cores}
+use Rattle.grasp_laws_network.proofs.EachNode.{nodes_are_sound}
+use Rattle.grasp_laws_network.proofs.Here.{numbered_within}
+use Rattle.grasp_laws_network.proofs.Staying.{seats_stay}
+use Rattle.grasp_model_network.specs.Events.{drained_behind, visit_of, after_event}
+use Rattle.grasp_model_network.specs.GoodSetting.{IsGoodMember}
+use Rattle.grasp_model_network.specs.Plans.{IsNode}
+use Rattle.grasp_model_network.specs.Reports.{report_of}
+use Rattle.grasp_model_network.specs.Runs.{IsReached}
+use Rattle.grasp_model_network.specs.Sending.{seat_with, stepped}
+use Rattle.grasp_model_network.specs.Setting.{Member, Setting, numbered}
+use Rattle.grasp_model_network.specs.Visits.{Visit, Choice, MayCome, VisitStep, is_starved}
+use Rattle.grasp_model_network.specs.World.{Seat, DiscoveryAnswer, WorldState, seat_at}
+use Rattle.grasp_model_network.specs.declared.event.Event.{Event}
+use Rattle.grasp_model_network.specs.declared.report.Report.TheVariants as report
+use Rattle.grasp_laws_delivery.specs.Ready.{StreamsAreReady}
 use Rattle.grasp_simulator.specs.Seats.{SeatStands, Sitting, SeatMeets, SeatStepped}
 use Rattle.grasp_simulator.specs.Sends.{SendsBehind}
 use Rattle.grasp_simulator.specs.WorldStands.{WorldKeeps}
@@ -131,7 +130,7 @@ input_runs law old mid new s w changed e held hold v answers i own after r may m
     let is_node : IsNode (length w.seats) v.node = numbered_within w.seats v.node v.seat here in
     let there : seat_at changed v.node ≡ Some v.seat = ap (λ (seats : List Seat). numbered seats v.node) brings.seats ∙ here in
     let found : OwnSeat changed v.node own = own_seat mid s changed v.node i own keeps (numbered_within changed.seats v.node v.seat there) place got in
-    let same : found.seat ≡ v.seat = some_same found.seat v.seat (sym found.here ∙ there) in
+    let same : found.seat ≡ v.seat = same_Some found.seat v.seat (sym found.here ∙ there) in
     let stands : SeatStands own v.seat = subst (SeatStands own) same found.stands in
     let first : v.seat.earlier ≡ [] = subst (λ (x : Seat). x.earlier ≡ []) same found.first in
     let come : Comes v.seat.core v.seat.core.reading v.input = input_comes own s w v.node v.seat v.input may.goes.reached here stands bytes in

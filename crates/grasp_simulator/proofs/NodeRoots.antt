@@ -4,17 +4,17 @@ use Rattle.std.proofs.lemmas.List.{get_or_default, length-map}
 use Rattle.std.proofs.lemmas.List.Elements.{All-filter, All-map}
 use Rattle.std.proofs.lemmas.List.Kept.{AllPairs-filter}
 use Rattle.std.proofs.Math.ListN.{get_or-map}
-use Rattle.grasp_asa.proofs.Lists.{length-filter_le}
+use Rattle.grasp_cbor.proofs.Facts.Lists.{length_filter}
 use Rattle.grasp_pool.specs.Answers.{IsRootFault}
 use Rattle.grasp_pool.specs.Roots.{block_of, AllValid, AllApart}
 use Rattle.grasp_pool.specs.Spans.{IsValid, Apart}
 use Rattle.grasp_pool.specs.declared.fault.PoolFault.{PoolFault}
 use Rattle.grasp_pool.specs.declared.fault.PoolFault.TheVariants.{TooMany, BadRoot, Overlap, OutOfMemory}
 use Rattle.grasp_pool.specs.declared.roots.RootPrefix.{RootPrefix}
-use Rattle.grasp_network.specs.Plans.{IsGoodPlan, AreApart}
-use Rattle.grasp_network.specs.Setting.{script_roots}
-use Rattle.grasp_network.specs.declared.plan.RootAt.{RootAt}
-use Rattle.grasp_network.specs.declared.plan.WorldPlan.{WorldPlan}
+use Rattle.grasp_model_network.specs.Plans.{IsGoodPlan, AreApart}
+use Rattle.grasp_model_network.specs.Setting.{script_roots}
+use Rattle.grasp_model_network.specs.declared.plan.RootAt.{RootAt}
+use Rattle.grasp_model_network.specs.declared.plan.WorldPlan.{WorldPlan}
 
 -- the plan's roots at this node
 abbrev kept : WorldPlan → ℕ → List RootAt
@@ -26,7 +26,7 @@ root_at d = record { node = 0; root = d }
 pub roots_few : (p : WorldPlan) (k : ℕ) → IsGoodPlan p → length (script_roots p.roots k) ≤ 1024
 roots_few p k good =
     let a : length (script_roots p.roots k) ≡ length (kept p k) = length-map (kept p k) (λ r. r.root) in
-    let b : length (kept p k) ≤ length p.roots = length-filter_le (λ r. r.node == k) p.roots in
+    let b : length (kept p k) ≤ length p.roots = length_filter (λ r. r.node == k) p.roots in
     let m : length p.roots ≤ 1024 = good.few_roots in omega arith
 
 pub roots_valid : (p : WorldPlan) (k : ℕ) → IsGoodPlan p → AllValid (script_roots p.roots k) (length (script_roots p.roots k))

@@ -9,11 +9,11 @@ use Rattle.grasp_types.specs.declared.reply.ApiAnswer.TheVariants as answer
 use Rattle.grasp_types.specs.declared.reply.Reply.{Reply}
 use Rattle.grasp_types.specs.declared.reply.Reply.TheVariants as reply
 use Rattle.grasp_types.specs.declared.session.Handle.{Handle}
-use Rattle.grasp_network.specs.Notes.{given_by, handles_in, noted}
-use Rattle.grasp_network.specs.Setting.{Setting}
-use Rattle.grasp_network.specs.Visits.{Visit}
-use Rattle.grasp_network.specs.World.{GivenHandle, Offered, WorldState}
-use Rattle.grasp_simulator.specs.PlacesStand.{given_place, PlacesStand, handle_in, places_in}
+use Rattle.grasp_model_network.specs.Notes.{given_by, handles_in, noted}
+use Rattle.grasp_model_network.specs.Setting.{Setting}
+use Rattle.grasp_model_network.specs.Visits.{Visit}
+use Rattle.grasp_model_network.specs.World.{GivenHandle, Offered, WorldState}
+use Rattle.grasp_simulator.specs.PlacesStand.{given_place, places_in}
 use Rattle.grasp_simulator.specs.WorldStands.{WorldKeeps, IsFirstLife, IsFirstGiven}
 use Rattle.grasp_simulator.specs.declared.places.GivenPlace.{GivenPlace}
 use Rattle.grasp_simulator.specs.declared.places.Places.{Places}
@@ -23,24 +23,12 @@ use Rattle.grasp_simulator.specs.declared.world.World.{World}
 answer_places : (v : Visit) (a : ApiAnswer) → map given_place (handles_in v (reply.Api a)) ≡ places_in v.node (reply.Api a)
 unfolding handles_in
 answer_places v (answer.Asa n) = refl
-answer_places v answer.Done = refl
-answer_places v (answer.Started h) = refl
-answer_places v answer.Searching = refl
-answer_places v (answer.Found locators) = refl
-answer_places v answer.Nothing = refl
-answer_places v answer.NotYet = refl
-answer_places v (answer.Incoming h from o) = refl
-answer_places v (answer.Polled p) = refl
-answer_places v (answer.Floods reads) = refl
+answer_places v _ = refl
 
 same_places : (v : Visit) (r : Reply) → map given_place (handles_in v r) ≡ places_in v.node r
 unfolding handles_in
 same_places v (reply.Api a) = answer_places v a
-same_places v (reply.Refused refused) = refl
-same_places v (reply.Outputs outputs) = refl
-same_places v reply.Taken = refl
-same_places v reply.Turned = refl
-same_places v reply.OutOfMemory = refl
+same_places v _ = refl
 
 all_append : (xs ys : List GivenHandle) → All IsFirstGiven xs → All IsFirstGiven ys → All IsFirstGiven (xs ++ ys)
 all_append [] ys h k = k

@@ -1,16 +1,15 @@
 -- A datagram that goes along a node's way.
-use Rattle.std.proofs.Common.{◌≡◌, refl, sym, ap, ◌∙◌, subst, arith, ℕ, ◌+◌, ◌-◌, ◌^◌, min, List, [], ◌∷◌, ◌++◌, length, map, Option, Some, None, option_map}
+use Rattle.std.proofs.Common.{◌≡◌, refl, sym, ap, ◌∙◌, subst, arith, ℕ, ◌+◌, ◌-◌, min, List, [], ◌∷◌, ◌++◌, length, map, Option, Some, None, option_map}
 use Rattle.std.proofs.lemmas.List.{map-append}
-use Rattle.std.proofs.lemmas.Option.{none-some}
-use Rattle.grasp_core.specs.Queue.{encoding}
-use Rattle.grasp_network.proofs.Here.{some_same}
-use Rattle.grasp_network.specs.Plans.{IsGoodPlan}
-use Rattle.grasp_network.specs.Routes.{Route, route_of, route_on}
-use Rattle.grasp_network.specs.Sending.{posted}
-use Rattle.grasp_network.specs.Setting.{Setting, line_of, script_setting}
-use Rattle.grasp_network.specs.World.{SentDatagram, WorldState}
+use Rattle.std.proofs.lemmas.Option.{none-some, same_Some}
+use Rattle.grasp_model_node.specs.Queue.{encoding}
+use Rattle.grasp_model_network.specs.Plans.{IsGoodPlan}
+use Rattle.grasp_model_network.specs.Routes.{Route, route_of, route_on}
+use Rattle.grasp_model_network.specs.Sending.{posted}
+use Rattle.grasp_model_network.specs.Setting.{Setting, line_of, script_setting}
+use Rattle.grasp_model_network.specs.World.{SentDatagram, WorldState}
 use Rattle.grasp_types.specs.declared.message.Message.{Message}
-use Rattle.grasp_network.specs.declared.plan.WorldPlan.{WorldPlan}
+use Rattle.grasp_model_network.specs.declared.plan.WorldPlan.{WorldPlan}
 use Rattle.grasp_simulator.specs.Sends.{way_of, AreGoodLinks, IsWay, Posts}
 use Rattle.grasp_simulator.specs.WorldStands.{WorldKeeps, parcel_of, most_count}
 use Rattle.grasp_simulator.specs.declared.parcel.Parcel.{Parcel}
@@ -29,7 +28,7 @@ posted_none : (w : WorldState) (m : Message) (r : Option Route) → None ≡ opt
 posted_none w m None is = refl
 posted_none w m (Some r) is = absurd (none-some (way_of r) is)
 
--- there is no way
+-- nothing is sent where there is no way for the datagram
 pub posts_nothing : (code : World) (node link to : ℕ) (bytes : List ℕ) → IsWay code.plan.links node link to None → Posts code code node link to bytes
 posts_nothing code node link to bytes is s w m keeps bytes_are = subst (WorldKeeps code s) (sym (posted_none w m (route_of s node link to) (route_is code s w node link to None keeps is))) keeps
 
@@ -41,7 +40,7 @@ posted_by : (code : World) (s : Setting) (w : WorldState) (way : Way) (parcel : 
 posted_by code s w way parcel bytes sent parcels m None keeps is more made bytes_are count = absurd (none-some way (sym is))
 posted_by code s w way parcel bytes sent parcels m (Some r) keeps is more made bytes_are count =
     let d : SentDatagram = record { route = r; message = m } in
-    let same : way ≡ way_of r = some_same way (way_of r) is in
+    let same : way ≡ way_of r = same_Some way (way_of r) is in
     let parcel_is : parcel ≡ parcel_of d = made ∙ (ap (λ (x : Way). record { receiver = x.receiver; link = x.link; from = x.from; bytes = bytes }) same ∙ ap (λ (b : List ℕ). record { receiver = r.receiver; link = r.link; from = r.from; bytes = b }) bytes_are) in
     record {
       good = keeps.good;

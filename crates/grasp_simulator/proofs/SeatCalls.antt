@@ -3,12 +3,12 @@ use Rattle.std.proofs.Common.{◌≡◌, ℕ, false, sym, ◌∙◌, ap, subst, 
 use Rattle.grasp_agent.specs.Calls.{next_call}
 use Rattle.grasp_agent.specs.Replies.{after_reply}
 use Rattle.grasp_agent.specs.States.{AgentState}
-use Rattle.grasp_core.specs.Begin.{begin}
+use Rattle.grasp_model_node.specs.Begin.{begin}
 use Rattle.grasp_core.specs.Contract.{Meeting, Meets, Stepped}
-use Rattle.grasp_core.specs.Draining.{drained}
-use Rattle.grasp_core.specs.Node.{NodeState}
+use Rattle.grasp_model_node.specs.Draining.{drained}
+use Rattle.grasp_model_node.specs.Node.{NodeState}
 use Rattle.grasp_core.specs.Stands.{NodeStands}
-use Rattle.grasp_core.specs.Step.{IsComing, NodeStep}
+use Rattle.grasp_model_node.specs.Step.{IsComing, NodeStep}
 use Rattle.grasp_core.specs.declared.node_core.NodeCore.{NodeCore}
 use Rattle.grasp_types.specs.declared.call.Call.{Call}
 use Rattle.grasp_types.specs.declared.reply.Reply.{Reply}
@@ -16,12 +16,12 @@ use Rattle.grasp_types.specs.declared.reply.Reply.TheVariants.{Outputs}
 use Rattle.grasp_types.specs.declared.traffic.Output.{Output}
 use Rattle.grasp_types.specs.declared.traffic.Input.{Input}
 use Rattle.grasp_types.specs.declared.traffic.Input.TheVariants as input
-use Rattle.grasp_network.specs.Agents.{agent_input}
-use Rattle.grasp_network.specs.Runs.{fresh_seat, first_seat}
+use Rattle.grasp_model_network.specs.EventSteps.{agent_input}
+use Rattle.grasp_model_network.specs.Runs.{fresh_seat, first_seat}
 use Rattle.grasp_simulator.specs.Seats.{SeatStands, Sitting, SeatMeets, SeatStepped, AgentStepped, clocked, drained_seat}
-use Rattle.grasp_network.specs.Setting.{Member}
-use Rattle.grasp_network.specs.Visits.{is_starved}
-use Rattle.grasp_network.specs.World.{Seat}
+use Rattle.grasp_model_network.specs.Setting.{Member}
+use Rattle.grasp_model_network.specs.Visits.{is_starved}
+use Rattle.grasp_model_network.specs.World.{Seat}
 use Rattle.grasp_simulator.specs.declared.seat.Seat.{Seat as SeatCode}
 use Rattle.grasp_simulator.proofs.SeatSteps.{nothing_comes, drain_of_nothing, registered, declared, registers, declares, listens}
 

@@ -1,13 +1,14 @@
 -- Seats of the code and of a network, place by place.
-use Rattle.std.proofs.Common.{◌≡◌, ◌+◌, ◌-◌, ◌<◌, ◌≤◌, ℕ, zero, suc, refl, sym, ap, ◌∙◌, subst, arith, tests, ◌==◌, false, add-one, List, [], ◌∷◌, ◌++◌, Some, length, map, option_map, slice_get, slice_set}
+use Rattle.std.proofs.Common.{◌≡◌, ◌+◌, ◌-◌, ◌<◌, ◌≤◌, ℕ, zero, suc, refl, sym, ap, ◌∙◌, subst, arith, ◌==◌, false, add-one, List, [], ◌∷◌, ◌++◌, Some, length, map, option_map, slice_get, slice_set}
 use Rattle.std.proofs.lemmas.List.{map-append}
 use Rattle.std.proofs.lemmas.Option.{slice_get-map}
-use Rattle.grasp_network.specs.Runs.{first_seat}
+use Rattle.grasp_cbor.proofs.Facts.Lists.{length_map}
+use Rattle.grasp_model_network.specs.Runs.{first_seat}
 use Rattle.grasp_simulator.specs.Seats.{SeatStands, SeatsStand}
-use Rattle.grasp_network.specs.Setting.{numbered, numbers_from, script_locator, script_member, script_setting}
-use Rattle.grasp_network.proofs.Opened.{map_length}
-use Rattle.grasp_network.specs.World.{Seat}
-use Rattle.grasp_network.specs.declared.plan.WorldPlan.{WorldPlan}
+use Rattle.grasp_model_network.specs.Setting.{numbered, numbers_from, script_locator, script_member, script_setting}
+use Rattle.grasp_laws_network.proofs.GoodPlans.{not_zero as is_positive, count_numbers}
+use Rattle.grasp_model_network.specs.World.{Seat}
+use Rattle.grasp_model_network.specs.declared.plan.WorldPlan.{WorldPlan}
 use Rattle.grasp_simulator.specs.declared.seat.Seat.{Seat as SeatCode}
 
 -- one more, at the end
@@ -52,9 +53,6 @@ number_at n zero i h = absurd (omega arith)
 number_at n (suc k) zero h = let e : n ≡ n + 0 = omega arith in ap Some e
 number_at n (suc k) (suc i) h = let e : (n + 1) + i ≡ n + suc i = omega arith in number_at (n + 1) k i (omega arith) ∙ ap Some e
 
-is_positive : (k : ℕ) → 1 ≤ k → (k == 0) ≡ false
-is_positive k h = grind (arith, tests)
-
 -- what is made of each number from 1 on, by its number
 pub numbered_from_1 : {A : Type 0} (f : ℕ → A) (n k : ℕ) → 1 ≤ k → k ≤ n → numbered (map f (numbers_from 1 n)) k ≡ Some (f k)
 numbered_from_1 f n k least most =
@@ -70,15 +68,10 @@ numbers_more n (suc k) =
     let e : (n + 1) + k ≡ n + suc k = omega arith in
     ap (λ (ns : List ℕ). n ∷ ns) (numbers_more (n + 1) k ∙ ap (λ (m : ℕ). numbers_from (n + 1) k ++ m ∷ []) e)
 
-pub numbers_count : (n k : ℕ) → length (numbers_from n k) ≡ k
-unfolding numbers_from
-numbers_count n zero = refl
-numbers_count n (suc k) = ap suc (numbers_count (n + 1) k)
-
 -- a script has as many peers as nodes
 pub peers_count : (p : WorldPlan) → length (script_setting p).peers ≡ p.nodes
 unfolding script_setting
-peers_count p = map_length script_locator (numbers_from 1 p.nodes) ∙ numbers_count 1 p.nodes
+peers_count p = length_map script_locator (numbers_from 1 p.nodes) ∙ count_numbers 1 p.nodes
 
 -- the first seats of so many nodes
 abbrev pub first_seats : WorldPlan → ℕ → List Seat

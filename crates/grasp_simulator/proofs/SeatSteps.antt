@@ -2,15 +2,15 @@
 use Rattle.std.proofs.Common.{◌≡◌, ◌∙◌, inl, inr, ℕ, refl, sym, ap, subst, Bool, true, false, [], None, Ok, Err}
 use Rattle.grasp_agent.specs.Calls.{next_call, agent_name, objective_name}
 use Rattle.grasp_agent.specs.Replies.{after_reply}
-use Rattle.grasp_core.specs.Answered.{IsDone, Is}
-use Rattle.grasp_core.specs.Begin.{begin, expired}
-use Rattle.grasp_core.specs.Draining.{drained, after_drain}
-use Rattle.grasp_core.specs.Moves.{with_reading, with_registrations, with_sessions, with_discoveries, with_floods, begin_closing}
-use Rattle.grasp_core.specs.Node.{NodeState}
-use Rattle.grasp_core.specs.Refusals.{MayAnswer, early, nothing_sent}
-use Rattle.grasp_core.specs.Step.{Coming, NodeStep, MayCall, after_call, Calls}
-use Rattle.grasp_core.specs.Tests.{register_asa_tests, register_objective_tests, negotiation_tests}
-use Rattle.grasp_core.proofs.Beginning.{drains_nothing}
+use Rattle.grasp_model_node.specs.Answered.{IsDone, Is}
+use Rattle.grasp_model_node.specs.Begin.{begin, expired}
+use Rattle.grasp_model_node.specs.Draining.{drained, after_drain}
+use Rattle.grasp_model_node.specs.Moves.{with_reading, with_registrations, with_sessions, with_discoveries, with_floods, begin_closing}
+use Rattle.grasp_model_node.specs.Node.{NodeState}
+use Rattle.grasp_model_node.specs.Refusals.{MayAnswer, early, nothing_sent}
+use Rattle.grasp_model_node.specs.Step.{Coming, NodeStep, MayCall, after_call, Calls}
+use Rattle.grasp_model_node.specs.Tests.{register_asa_tests, register_objective_tests, negotiation_tests}
+use Rattle.grasp_laws_node.proofs.Beginning.{drains_nothing}
 use Rattle.grasp_types.specs.declared.refusal.ApiRefused.{ApiRefused}
 use Rattle.grasp_types.specs.declared.refusal.ApiRefused.TheVariants as refusal
 use Rattle.grasp_types.specs.declared.reply.ApiAnswer.{ApiAnswer}
@@ -19,11 +19,11 @@ use Rattle.grasp_types.specs.declared.reply.Reply.{Reply}
 use Rattle.grasp_types.specs.declared.reply.Reply.TheVariants as reply
 use Rattle.grasp_types.specs.declared.traffic.Input.TheVariants.{Drain}
 use Rattle.grasp_wire.specs.Stream.{waiting}
-use Rattle.grasp_network.specs.Agents.{agent_input}
-use Rattle.grasp_network.specs.Runs.{fresh_seat, answered_seat, first_seat}
-use Rattle.grasp_network.specs.Setting.{Member}
-use Rattle.grasp_network.specs.Visits.{is_starved}
-use Rattle.grasp_network.specs.World.{Seat}
+use Rattle.grasp_model_network.specs.EventSteps.{agent_input}
+use Rattle.grasp_model_network.specs.Runs.{fresh_seat, answered_seat, first_seat}
+use Rattle.grasp_model_network.specs.Setting.{Member}
+use Rattle.grasp_model_network.specs.Visits.{is_starved}
+use Rattle.grasp_model_network.specs.World.{Seat}
 
 -- what comes with an input that isn't bytes
 abbrev pub nothing_comes : Coming
@@ -50,10 +50,7 @@ answered s b x (reply.Api a) after told refused acts fed =
 answered s b x (reply.Refused e) after told refused acts fed =
     let none : e ≡ refusal.OutOfMemory = refused e acts.0 in
     absurd (let lost : true ≡ false = subst (λ (d : ApiRefused). is_starved (reply.Refused d) ≡ false) none fed in cc)
-answered s b x (reply.Outputs o) after told refused acts fed = absurd acts
-answered s b x reply.Taken after told refused acts fed = absurd acts
-answered s b x reply.Turned after told refused acts fed = absurd acts
-answered s b x reply.OutOfMemory after told refused acts fed = absurd acts
+answered s b x _ after told refused acts fed = absurd acts
 
 -- the step of the agent's next call, at the node's own reading
 abbrev pub Makes : Seat → Coming → Reply → NodeState → Type 0
@@ -83,24 +80,11 @@ listens m x r after steps fed = answered (declared m) answer.NotYet x r after (�
 
 -- ---- drains
 
--- a drain gives outputs, or there was no memory for some
-pub drain_gives : (n : NodeState) (now max : ℕ) (x : Coming) (r : Reply) (after : NodeState) → NodeStep n now (Drain max) x r after → is_starved r ≡ false
-    → (r ≡ reply.Outputs (drained (begin n now) max)) × (after ≡ after_drain (begin n now) max)
-drain_gives n now max x (reply.Outputs o) after steps fed = (ap reply.Outputs steps.acts.0, steps.acts.1)
-drain_gives n now max x (reply.Api a) after steps fed = absurd steps.acts
-drain_gives n now max x (reply.Refused e) after steps fed = absurd steps.acts
-drain_gives n now max x reply.Taken after steps fed = absurd steps.acts
-drain_gives n now max x reply.Turned after steps fed = absurd steps.acts
-drain_gives n now max x reply.OutOfMemory after steps fed = absurd (let lost : true ≡ false = fed in cc)
-
 -- a drain of nothing wants no memory
 pub drain_of_nothing : (n : NodeState) (now : ℕ) (x : Coming) (r : Reply) (after : NodeState) → NodeStep n now (Drain 0) x r after → after ≡ after_drain (begin n now) 0
 drain_of_nothing n now x (reply.Outputs o) after steps = steps.acts.1
-drain_of_nothing n now x (reply.Api a) after steps = absurd steps.acts
-drain_of_nothing n now x (reply.Refused e) after steps = absurd steps.acts
-drain_of_nothing n now x reply.Taken after steps = absurd steps.acts
-drain_of_nothing n now x reply.Turned after steps = absurd steps.acts
 drain_of_nothing n now x reply.OutOfMemory after steps = steps.acts.1 ∙ sym (drains_nothing (begin n now))
+drain_of_nothing n now x _ after steps = absurd steps.acts
 
 -- a drain that gives what it is to give is a step
 pub drain_steps : (n : NodeState) (now max : ℕ) (x : Coming) → NodeStep n now (Drain max) x (reply.Outputs (drained (begin n now) max)) (after_drain (begin n now) max)

@@ -1,18 +1,19 @@
 -- Outputs of a node of a network that are sent.
 use Rattle.std.proofs.Common.{◌≡◌, refl, sym, ap, ◌∙◌, subst, ℕ, ◌-◌, Bool, true, false, List, [], length, take, Some, slice_index_or, slice_set}
+use Rattle.std.proofs.lemmas.Option.{same_Some}
 use Rattle.std.specs.Vec.{with_item}
-use Rattle.grasp_core.proofs.Beginning.{beginnings_end}
-use Rattle.grasp_core.specs.Begin.{begin}
-use Rattle.grasp_core.specs.Draining.{closes, after_drain}
-use Rattle.grasp_core.specs.Draining as core
-use Rattle.grasp_core.specs.Node.{NodeState}
-use Rattle.grasp_core.specs.Queue.{Queued}
+use Rattle.grasp_laws_node.proofs.Beginning.{beginnings_end}
+use Rattle.grasp_model_node.specs.Begin.{begin}
+use Rattle.grasp_model_node.specs.Draining.{closes, after_drain}
+use Rattle.grasp_model_node.specs.Draining as core
+use Rattle.grasp_model_node.specs.Node.{NodeState}
+use Rattle.grasp_model_node.specs.Queue.{Queued}
 use Rattle.grasp_types.specs.declared.traffic.Output.{Output}
-use Rattle.grasp_network.proofs.Here.{some_same, numbered_within}
-use Rattle.grasp_network.specs.Sending.{seat_with, handed_over, drained}
-use Rattle.grasp_network.specs.Setting.{Setting}
-use Rattle.grasp_network.specs.World.{Seat, WorldState, seat_at, with_seat}
-use Rattle.grasp_network_streams.specs.Ready.{AreReady, StreamsAreReady}
+use Rattle.grasp_laws_network.proofs.Here.{numbered_within}
+use Rattle.grasp_model_network.specs.Sending.{seat_with, handed_over, drained}
+use Rattle.grasp_model_network.specs.Setting.{Setting}
+use Rattle.grasp_model_network.specs.World.{Seat, WorldState, seat_at, with_seat}
+use Rattle.grasp_laws_delivery.specs.Ready.{AreReady, StreamsAreReady}
 use Rattle.grasp_simulator.specs.Seats.{SeatStands, SeatsStand, drained_seat}
 use Rattle.grasp_simulator.specs.Sends.{MaySend, HandsOver, Sends, SendsBehind}
 use Rattle.grasp_simulator.specs.WorldStands.{WorldKeeps}
@@ -37,7 +38,7 @@ pub send_goes : (law : StreamsAreReady) (before after : World) (node max i count
 send_goes law before after node max i count own changed outputs place got gives turns hands counts s w seat goes here =
     let keeps : WorldKeeps before s w = goes.keeps in
     let found : OwnSeat w node own = own_seat before s w node i own keeps (numbered_within w.seats node seat here) place got in
-    let same : found.seat ≡ seat = some_same found.seat seat (sym found.here ∙ here) in
+    let same : found.seat ≡ seat = same_Some found.seat seat (sym found.here ∙ here) in
     let stands : SeatStands own seat = subst (SeatStands own) same found.stands in
     let n : NodeState = begin seat.core seat.core.reading in
     let next : Seat = seat_with seat (after_drain n max) seat.agent in
@@ -55,16 +56,12 @@ send_goes law before after node max i count own changed outputs place got gives 
       goes = keeps.goes;
     } in
     let queue : n.queue ≡ seat.core.queue = (beginnings_end seat.core seat.core.reading).0.queue in
-    let ready : AreReady node seat n.queue w.talks = subst (λ (qs : List Queued). AreReady node seat qs w.talks) (sym queue) (law.ready s w goes.reached node seat here) in
+    let ready : AreReady node seat n.queue w.streams = subst (λ (qs : List Queued). AreReady node seat qs w.streams) (sym queue) (law.ready s w goes.reached node seat here) in
     let may : MaySend mid s (taken_from w node seat max) node seat (take max n.queue) =
-    record { keeps = kept; first = subst (λ (x : Seat). x.earlier ≡ []) same found.first; ready = ready_front node seat max n.queue w.talks ready } in (
+    record { keeps = kept; first = subst (λ (x : Seat). x.earlier ≡ []) same found.first; ready = ready_front node seat max n.queue w.streams ready } in (
       subst (WorldKeeps after s) (sym (drained_is s w node max seat here)) (hands s (taken_from w node seat max) seat (take max n.queue) (closes n max) may (gives seat stands)),
       counts ∙ ap (λ (l : List Output). length l) (gives seat stands),
     )
-
-pub behind_holds : (code : World) (node : ℕ) (hold : Bool) → hold ≡ true → SendsBehind code code node hold
-behind_holds code node true is s w seat goes here = goes.keeps
-behind_holds code node false is s w seat goes here = absurd (cc)
 
 pub behind_sends : (before after : World) (node count : ℕ) (hold : Bool) → hold ≡ false → Sends before after node 256 count → SendsBehind before after node hold
 behind_sends before after node count false is sends s w seat goes here = (sends s w seat goes here).0

@@ -1,16 +1,16 @@
 -- The side of a stream that an event reaches, in the code and in the network.
-use Rattle.std.proofs.Common.{◌≡◌, ◌≤◌, refl, sym, ap, ◌∙◌, subst, arith, ℕ, ◌+◌, ◌-◌, ◌*◌, ◌^◌, min, Bool, true, false, cond, not, List, [], ◌∷◌, length, Option, Some, None, is_some, slice_get, take, drop}
-use Rattle.std.specs.List.{count_by, find}
+use Rattle.std.proofs.Common.{◌≡◌, ◌≤◌, refl, sym, ap, ◌∙◌, subst, arith, ℕ, ◌+◌, ◌-◌, ◌*◌, ◌^◌, Bool, true, false, cond, List, [], ◌∷◌, length, Option, Some, None, is_some}
 use Rattle.std.proofs.lemmas.List.Sums.{sum_by-cons}
-use Rattle.grasp_session.specs.Messages.{Side, Near, Far, other}
-use Rattle.grasp_network.proofs.Here.{numbered_within}
-use Rattle.grasp_network.specs.Pieces.{Reached, reached_at, reached_in, side_named}
-use Rattle.grasp_network.specs.Plans.{IsNode}
-use Rattle.grasp_network.specs.Setting.{numbered}
-use Rattle.grasp_network.specs.Talks.{StreamEnd, TalkState, is_reached, is_same_end, is_at_end, is_number, has_end, end_at, side_at, next_bytes, count_at_end, talk_numbered}
-use Rattle.grasp_network_streams.specs.Ready.{Every, IsSent, AreSent}
+use Rattle.grasp_session.specs.Messages.{Near, Far, other}
+use Rattle.grasp_laws_network.proofs.Here.{numbered_within}
+use Rattle.grasp_model_network.specs.StreamChanges.{Reached, reached_at, reached_in, side_named}
+use Rattle.grasp_model_network.specs.Plans.{IsNode}
+use Rattle.grasp_model_network.specs.Setting.{numbered}
+use Rattle.grasp_model_network.specs.Streams.{StreamEnd, StreamState, is_reached, is_same_end, is_at_end, is_number, has_end, end_at, side_at, next_bytes, count_at_end, stream_numbered}
+use Rattle.grasp_laws_delivery.proofs.Ends.{end_itself}
+use Rattle.grasp_laws_delivery.specs.Ready.{IsSent, AreSent}
 use Rattle.grasp_simulator.specs.StreamParts.{is_living, far_number, far_side_at, side_end, side_of, piece_at}
-use Rattle.grasp_simulator.specs.StreamsStand.{end_here, arrival_of, far_end, StreamStands, HeldAs, TalkStands, numbers, TableStands, IsTalk}
+use Rattle.grasp_simulator.specs.StreamsStand.{end_here, arrival_of, far_end, StreamStands, numbers, TableStands, IsTalk}
 use Rattle.grasp_simulator.specs.declared.stream.SideEnd.{SideEnd}
 use Rattle.grasp_simulator.specs.declared.stream.Standing.{Standing}
 use Rattle.grasp_simulator.specs.declared.stream.Standing.TheVariants as standing
@@ -18,7 +18,7 @@ use Rattle.grasp_simulator.specs.declared.stream.Stream.{Stream}
 use Rattle.grasp_simulator.specs.declared.streams.NearEnd.{NearEnd}
 use Rattle.grasp_simulator.proofs.StreamMakes.{found_counts}
 use Rattle.grasp_simulator.proofs.StreamMoves.{piece_is}
-use Rattle.grasp_simulator.proofs.StreamPlaces.{end_itself, true_false}
+use Rattle.grasp_simulator.proofs.StreamPlaces.{true_false}
 use Rattle.grasp_simulator.proofs.StreamTalks.{talk_at}
 
 -- the side that is reached has this end, and what comes to it next are these pieces
@@ -35,14 +35,12 @@ IsSide co far (Some e) (Some x) = IsEnd co far e x
 
 living : (x : Standing) → is_reached (arrival_of x) ≡ is_living x
 living standing.NotYet = refl
-living standing.Lives = refl
-living standing.TurnedAway = refl
-living standing.ToldClosed = refl
+living _ = refl
 
-near_has : (t : TalkState) → has_end t.near t ≡ true
+near_has : (t : StreamState) → has_end t.near t ≡ true
 near_has t = ap (λ b. is_some (cond b (Some Near) (cond (is_at_end t.near t.far) (Some Far) None))) (end_itself t.near)
 
-far_has : (t : TalkState) (e : StreamEnd) → t.far ≡ Some e → has_end e t ≡ true
+far_has : (t : StreamState) (e : StreamEnd) → t.far ≡ Some e → has_end e t ≡ true
 far_has t e is = by_near (is_same_end e t.near) where
   at : is_at_end e t.far ≡ true
   at = ap (is_at_end e) is ∙ end_itself e
@@ -51,10 +49,10 @@ far_has t e is = by_near (is_same_end e t.near) where
   by_near true = refl
   by_near false = ap (λ b. is_some (cond b (Some Far) None)) at
 
-number_is : (k : ℕ) → 1 ≤ k → k ≤ 2 ^ 62 → far_number k ≡ 2 * k - 1
+pub number_is : (k : ℕ) → 1 ≤ k → k ≤ 2 ^ 62 → far_number k ≡ 2 * k - 1
 number_is k least most = omega (arith, least, most)
 
-module _ (code : Stream) (k : ℕ) (t : TalkState) (s : StreamStands code k t) (least : 1 ≤ k) (most : k ≤ 2 ^ 62) where
+module _ (code : Stream) (k : ℕ) (t : StreamState) (s : StreamStands code k t) (least : 1 ≤ k) (most : k ≤ 2 ^ 62) where
   near_by : (b : Bool) → IsSide (Some code) false (cond b (Some (record { node = code.near; number = code.number })) None) (reached_at t b (Some t.near))
   near_by true = record { at = s.near; has = near_has t; pieces = λ count. piece_is code.from_far t.from_far count s.from_far }
   near_by false = tt
@@ -75,7 +73,7 @@ module _ (code : Stream) (k : ℕ) (t : TalkState) (s : StreamStands code k t) (
   end_is_side true = subst (λ b. IsSide (Some code) true (side_end code k true) (reached_at t b t.far)) (sym (living code.far_side) ∙ ap is_reached s.far_side) (far_by (is_living code.far_side))
   end_is_side false = subst (λ b. IsSide (Some code) false (side_end code k false) (reached_at t b (Some t.near))) (sym (living code.near_side) ∙ ap is_reached s.near_side) (near_by (is_living code.near_side))
 
-module _ (streams : List Stream) (index : List (NearEnd × ℕ)) (ts : List TalkState) (dials : ℕ) (s : TableStands streams index ts dials) where
+module _ (streams : List Stream) (index : List (NearEnd × ℕ)) (ts : List StreamState) (dials : ℕ) (s : TableStands streams index ts dials) where
   within : (k : ℕ) (code : Stream) → numbered streams k ≡ Some code → (1 ≤ k) × (k ≤ 2 ^ 62)
   within k code is =
       let h : IsNode (length streams) k = numbered_within streams k code is in
@@ -85,22 +83,22 @@ module _ (streams : List Stream) (index : List (NearEnd × ℕ)) (ts : List Talk
       let few : dials ≤ 2 ^ 62 = s.few in
       (least, omega (arith, most, count, few))
 
-  side_by : (k : ℕ) (far : Bool) (co : Option Stream) (to : Option TalkState) → numbered streams k ≡ co → IsTalk k co to → IsSide co far (side_of co k far) (reached_in (side_named far) to)
+  side_by : (k : ℕ) (far : Bool) (co : Option Stream) (to : Option StreamState) → numbered streams k ≡ co → IsTalk k co to → IsSide co far (side_of co k far) (reached_in (side_named far) to)
   side_by k far None None is talk = tt
   side_by k far None (Some t) is talk = absurd talk
   side_by k far (Some code) None is talk = absurd talk
   side_by k far (Some code) (Some t) is talk = let w = within k code is in end_is_side code k t talk w.0 w.1 far
 
   -- the side that an event reaches is the one that the code finds
-  pub side_is : (k : ℕ) (far : Bool) → IsSide (numbered streams k) far (side_of (numbered streams k) k far) (reached_in (side_named far) (talk_numbered ts k))
-  side_is k far = side_by k far (numbered streams k) (talk_numbered ts k) refl (talk_at streams index ts dials s k)
+  pub side_is : (k : ℕ) (far : Bool) → IsSide (numbered streams k) far (side_of (numbered streams k) k far) (reached_in (side_named far) (stream_numbered ts k))
+  side_is k far = side_by k far (numbered streams k) (stream_numbered ts k) refl (talk_at streams index ts dials s k)
 
 -- ---- one stream has the end
 
-none_sent : (e : StreamEnd) (ts : List TalkState) → count_at_end ts e ≡ 0 → AreSent ts e
+none_sent : (e : StreamEnd) (ts : List StreamState) → count_at_end ts e ≡ 0 → AreSent ts e
 none_sent e [] none = tt
 none_sent e (t ∷ ts) none = by_has (has_end e t) refl (none_sent e ts) where
-  one : TalkState → ℕ
+  one : StreamState → ℕ
   one x = cond (has_end e x) 1 0
 
   all : count_at_end (t ∷ ts) e ≡ one t + count_at_end ts e
@@ -113,10 +111,10 @@ none_sent e (t ∷ ts) none = by_has (has_end e t) refl (none_sent e ts) where
       (λ has. absurd (true_false (has_end e t) has is), below (omega (arith, none, all, first)))
 
 -- where one stream at most has the end, and the one of this number has it, each that has it was dialled
-pub alone_sent : (e : StreamEnd) (k : ℕ) (ts : List TalkState) (t : TalkState) → count_at_end ts e ≤ 1 → talk_numbered ts k ≡ Some t → has_end e t ≡ true → AreSent ts e
+pub alone_sent : (e : StreamEnd) (k : ℕ) (ts : List StreamState) (t : StreamState) → count_at_end ts e ≤ 1 → stream_numbered ts k ≡ Some t → has_end e t ≡ true → AreSent ts e
 alone_sent e k [] t few found has = tt
 alone_sent e k (x ∷ xs) t few found has = by_number (is_number k x.number) refl found (alone_sent e k xs t) where
-  one : TalkState → ℕ
+  one : StreamState → ℕ
   one y = cond (has_end e y) 1 0
 
   all : count_at_end (x ∷ xs) e ≡ one x + count_at_end xs e
@@ -126,7 +124,7 @@ alone_sent e k (x ∷ xs) t few found has = by_number (is_number k x.number) ref
   sent_is None h = absurd (cc)
   sent_is (Some j) h = tt
 
-  by_number : (b : Bool) → is_number k x.number ≡ b → cond b (Some x) (talk_numbered xs k) ≡ Some t → (count_at_end xs e ≤ 1 → talk_numbered xs k ≡ Some t → has_end e t ≡ true → AreSent xs e) → AreSent (x ∷ xs) e
+  by_number : (b : Bool) → is_number k x.number ≡ b → cond b (Some x) (stream_numbered xs k) ≡ Some t → (count_at_end xs e ≤ 1 → stream_numbered xs k ≡ Some t → has_end e t ≡ true → AreSent xs e) → AreSent (x ∷ xs) e
   by_number true is got below =
       let same : x ≡ t = cc in
       let first : one x ≡ 1 = ap (λ b. cond b 1 0) (ap (has_end e) same ∙ has) in

@@ -1,33 +1,30 @@
 -- Bytes that come to a side of a stream, and a side that is told that its stream is closed.
-use Rattle.std.proofs.Common.{◌≡◌, ◌≤◌, refl, sym, ap, ◌∙◌, subst, arith, ℕ, ◌-◌, Bool, true, false, not, List, length, Option, Some, None, is_some, slice_index_or}
+use Rattle.std.proofs.Common.{◌≡◌, refl, sym, ap, ◌∙◌, subst, ℕ, ◌-◌, Bool, true, false, List, length, Option, Some, None, is_some, slice_index_or}
 use Rattle.std.specs.Vec.{with_item}
-use Rattle.std.proofs.lemmas.Option.{none-some}
+use Rattle.std.proofs.lemmas.Option.{none-some, same_Some}
 use Rattle.grasp_cbor.specs.Bytes.{AllBytes}
 use Rattle.grasp_session.specs.Messages.{Side, other}
 use Rattle.grasp_types.specs.declared.reply.Reply.{Reply}
-use Rattle.grasp_types.specs.declared.traffic.Input.{Input}
 use Rattle.grasp_types.specs.declared.traffic.Input.TheVariants as input
-use Rattle.grasp_network.proofs.Here.{some_same}
-use Rattle.grasp_network.specs.Cuts.{cut_visit, after_cut}
-use Rattle.grasp_network.specs.Events.{drained_behind, visit_of, after_event}
-use Rattle.grasp_network.specs.Pieces.{Reached, reached_at, reached_in, reached_side, side_named, piece_visit, after_piece}
-use Rattle.grasp_network.specs.Reports.{report_of}
-use Rattle.grasp_network.specs.Plans.{IsNode}
-use Rattle.grasp_network.specs.Setting.{Setting, numbered}
-use Rattle.grasp_network.specs.Sending.{stepped}
-use Rattle.grasp_network.specs.Talks.{StreamEnd, TalkState, told_closed, is_reached, side_at, end_at, next_bytes, talk_numbered, change_at_end, with_delivered, with_side}
-use Rattle.grasp_network.specs.Visits.{Visit, Choice, MayCome, VisitStep, no_choice, is_starved, visit, visit_seat}
-use Rattle.grasp_network.specs.World.{Seat, WorldState, seat_at}
-use Rattle.grasp_network.specs.declared.event.Event.{Event}
-use Rattle.grasp_network.specs.declared.event.Event.TheVariants as event
-use Rattle.grasp_network.specs.declared.report.Report.TheVariants as report
-use Rattle.grasp_network_streams.specs.Ready.{AreSent, StreamsAreReady}
+use Rattle.grasp_model_network.specs.EventSteps.{cut_visit, after_cut, piece_visit, after_piece}
+use Rattle.grasp_model_network.specs.Events.{visit_of, after_event}
+use Rattle.grasp_model_network.specs.StreamChanges.{Reached, reached_at, reached_in, reached_side, side_named}
+use Rattle.grasp_model_network.specs.Reports.{report_of}
+use Rattle.grasp_model_network.specs.Plans.{IsNode}
+use Rattle.grasp_model_network.specs.Setting.{Setting, numbered}
+use Rattle.grasp_model_network.specs.Sending.{stepped}
+use Rattle.grasp_model_network.specs.Streams.{StreamEnd, StreamState, told_closed, is_reached, side_at, end_at, next_bytes, stream_numbered, change_at_end, with_delivered, with_side}
+use Rattle.grasp_model_network.specs.Visits.{Visit, MayCome, no_choice, is_starved, visit, visit_seat}
+use Rattle.grasp_model_network.specs.World.{Seat, WorldState, seat_at}
+use Rattle.grasp_model_network.specs.declared.event.Event.TheVariants as event
+use Rattle.grasp_model_network.specs.declared.report.Report.TheVariants as report
+use Rattle.grasp_laws_delivery.specs.Ready.{AreSent, StreamsAreReady}
 use Rattle.grasp_simulator.specs.Seats.{Sitting, SeatMeets, SeatStepped}
 use Rattle.grasp_simulator.specs.Sends.{SendsBehind}
 use Rattle.grasp_simulator.specs.StreamParts.{side_of, piece_at}
 use Rattle.grasp_simulator.specs.StreamsStand.{end_here, StreamsStand, ChangesAt}
 use Rattle.grasp_simulator.specs.WorldStands.{WorldKeeps, WorldGoes}
-use Rattle.grasp_simulator.specs.WorldSteps.{MayRun, HasRun, Runs, MayStarve}
+use Rattle.grasp_simulator.specs.WorldSteps.{Runs, MayStarve}
 use Rattle.grasp_simulator.specs.declared.seat.Seat.{Seat as SeatCode}
 use Rattle.grasp_simulator.specs.declared.stream.SideEnd.{SideEnd}
 use Rattle.grasp_simulator.specs.declared.stream.Stream.{Stream}
@@ -35,7 +32,7 @@ use Rattle.grasp_simulator.specs.declared.streams.Streams.{Streams}
 use Rattle.grasp_simulator.specs.declared.world.World.{World}
 use Rattle.grasp_simulator.proofs.InputsGo.{own_step, Here, node_is, no_seat, Brings, input_runs}
 use Rattle.grasp_simulator.proofs.Puts.{with_streams}
-use Rattle.grasp_simulator.proofs.SideEnds.{IsEnd, IsSide, side_is, alone_sent}
+use Rattle.grasp_simulator.proofs.SideEnds.{IsSide, side_is, alone_sent}
 
 -- ---- the side
 
@@ -45,18 +42,18 @@ pub record Found (code : World) (w : WorldState) (k : ℕ) (far : Bool) (e : Sid
   pub got : reached_side w k (side_named far) ≡ Some side
   pub at : side.at ≡ end_here e.node e.number
   pub pieces : (count : ℕ) → piece_at (numbered code.streams.list.items k) far count ≡ next_bytes side.talk (other (side_named far)) count
-  pub sent : AreSent w.talks (end_here e.node e.number)
+  pub sent : AreSent w.streams (end_here e.node e.number)
 
 -- the side's stream is the one of this number
-talk_of : (side : Side) (o : Option TalkState) (x : Reached) → reached_in side o ≡ Some x → o ≡ Some x.talk
+talk_of : (side : Side) (o : Option StreamState) (x : Reached) → reached_in side o ≡ Some x → o ≡ Some x.talk
 talk_of side None x e = absurd (none-some x e)
 talk_of side (Some t) x e = by_end (is_reached (side_at t side)) (end_at t side) e where
   by_end : (b : Bool) (p : Option StreamEnd) → reached_at t b p ≡ Some x → Some t ≡ Some x.talk
   by_end true None e = absurd (none-some x e)
-  by_end true (Some q) e = ap Some (ap (λ (y : Reached). y.talk) (some_same (record { talk = t; at = q }) x e))
+  by_end true (Some q) e = ap Some (ap (λ (y : Reached). y.talk) (same_Some (record { talk = t; at = q }) x e))
   by_end false p e = absurd (none-some x e)
 
-found_by : (law : StreamsAreReady) (code : World) (s : Setting) (w : WorldState) (k : ℕ) (far : Bool) (e : SideEnd) (o : Option Reached) → WorldGoes code s w → reached_in (side_named far) (talk_numbered w.talks k) ≡ o → IsSide (numbered code.streams.list.items k) far (Some e) o → Found code w k far e
+found_by : (law : StreamsAreReady) (code : World) (s : Setting) (w : WorldState) (k : ℕ) (far : Bool) (e : SideEnd) (o : Option Reached) → WorldGoes code s w → reached_in (side_named far) (stream_numbered w.streams k) ≡ o → IsSide (numbered code.streams.list.items k) far (Some e) o → Found code w k far e
 unfolding reached_side
 found_by law code s w k far e None goes is side = absurd side
 found_by law code s w k far e (Some x) goes is side = record {
@@ -64,13 +61,13 @@ found_by law code s w k far e (Some x) goes is side = record {
   got = is;
   at = side.at;
   pieces = side.pieces;
-  sent = subst (AreSent w.talks) side.at (alone_sent x.at k w.talks x.talk (law.apart s w goes.reached x.at) (talk_of (side_named far) (talk_numbered w.talks k) x is) side.has);
+  sent = subst (AreSent w.streams) side.at (alone_sent x.at k w.streams x.talk (law.apart s w goes.reached x.at) (talk_of (side_named far) (stream_numbered w.streams k) x is) side.has);
 }
 
 pub found : (law : StreamsAreReady) (code : World) (s : Setting) (w : WorldState) (k : ℕ) (far : Bool) (e : SideEnd) → WorldGoes code s w → side_of (numbered code.streams.list.items k) k far ≡ Some e → Found code w k far e
 found law code s w k far e goes is =
-    found_by law code s w k far e (reached_in (side_named far) (talk_numbered w.talks k)) goes refl
-    (subst (λ o. IsSide (numbered code.streams.list.items k) far o (reached_in (side_named far) (talk_numbered w.talks k))) is (side_is code.streams.list.items code.streams.near.entries w.talks w.dials goes.keeps.streams k far))
+    found_by law code s w k far e (reached_in (side_named far) (stream_numbered w.streams k)) goes refl
+    (subst (λ o. IsSide (numbered code.streams.list.items k) far o (reached_in (side_named far) (stream_numbered w.streams k))) is (side_is code.streams.list.items code.streams.near.entries w.streams w.dials goes.keeps.streams k far))
 
 none_by : (co : Option Stream) (far : Bool) (o : Option Reached) → IsSide co far None o → o ≡ None
 none_by co far None h = refl
@@ -80,8 +77,8 @@ none_by co far (Some x) h = absurd h
 pub none_found : (code : World) (s : Setting) (w : WorldState) (k : ℕ) (far : Bool) → WorldGoes code s w → side_of (numbered code.streams.list.items k) k far ≡ None → reached_side w k (side_named far) ≡ None
 unfolding reached_side
 none_found code s w k far goes is =
-    none_by (numbered code.streams.list.items k) far (reached_in (side_named far) (talk_numbered w.talks k))
-    (subst (λ o. IsSide (numbered code.streams.list.items k) far o (reached_in (side_named far) (talk_numbered w.talks k))) is (side_is code.streams.list.items code.streams.near.entries w.talks w.dials goes.keeps.streams k far))
+    none_by (numbered code.streams.list.items k) far (reached_in (side_named far) (stream_numbered w.streams k))
+    (subst (λ o. IsSide (numbered code.streams.list.items k) far o (reached_in (side_named far) (stream_numbered w.streams k))) is (side_is code.streams.list.items code.streams.near.entries w.streams w.dials goes.keeps.streams k far))
 
 -- ---- bytes
 
@@ -92,7 +89,7 @@ piece_is_at w k far count x node number seat got at here =
     rw got (ap (λ (e : StreamEnd). visit w e.node (input.Bytes e.number (next_bytes x.talk (other (side_named far)) count))) at ∙ ap (visit_seat node (input.Bytes number (next_bytes x.talk (other (side_named far)) count))) here)
 
 bytes_bring : (s : Setting) (w : WorldState) (k : ℕ) (far : Bool) (count : ℕ) (hold : Bool) (x : Reached) (v : Visit) (r : Reply) → reached_side w k (side_named far) ≡ Some x → piece_visit w k (side_named far) count ≡ Some v
-    → Brings s w (record w { talks = change_at_end w.talks x.at (with_delivered count) }) (event.Bytes k far count hold) (event.Bytes k far count true) hold v r (λ c. w.answers)
+    → Brings s w (record w { streams = change_at_end w.streams x.at (with_delivered count) }) (event.Bytes k far count hold) (event.Bytes k far count true) hold v r (λ c. w.answers)
 unfolding after_event after_piece report_of stepped
 bytes_bring s w k far count hold x v r got is = record {
   seats = refl;
@@ -115,10 +112,10 @@ bytes_run law old new k far count hold e bytes streams i own after r finds are a
     let same : bytes ≡ next_bytes f.side.talk (other (side_named far)) count = are ∙ f.pieces count in
     let v : Visit = own_step e.node there.seat (input.Bytes e.number bytes) in
     let is : piece_visit w k (side_named far) count ≡ Some v = piece_is_at w k far count f.side e.node e.number there.seat f.got f.at there.here ∙ ap (λ (b : List ℕ). Some (own_step e.node there.seat (input.Bytes e.number b))) (sym same) in
-    let changed : WorldState = record w { talks = change_at_end w.talks f.side.at (with_delivered count) } in
+    let changed : WorldState = record w { streams = change_at_end w.streams f.side.at (with_delivered count) } in
     let kept : WorldKeeps (record old { streams = streams }) s changed =
-    with_streams old s w streams (change_at_end w.talks f.side.at (with_delivered count)) w.dials keeps
-    (subst (λ (q : StreamEnd). StreamsStand streams (change_at_end w.talks q (with_delivered count)) w.dials) (sym f.at) (changes w.talks w.dials f.sent keeps.streams)) in
+    with_streams old s w streams (change_at_end w.streams f.side.at (with_delivered count)) w.dials keeps
+    (subst (λ (q : StreamEnd). StreamsStand streams (change_at_end w.streams q (with_delivered count)) w.dials) (sym f.at) (changes w.streams w.dials f.sent keeps.streams)) in
     input_runs law old (record old { streams = streams }) new s w changed (event.Bytes k far count hold) (event.Bytes k far count true) hold v (λ c. w.answers) i own after r may (record { goes = may.goes; fit = tt })
     (bytes_bring s w k far count hold f.side v r f.got is) refl kept there.here place got all steps fed sends
 
@@ -150,7 +147,7 @@ cut_is_at w k far x node number seat got at here =
     rw got (ap (λ (e : StreamEnd). visit w e.node (input.Closed e.number)) at ∙ ap (visit_seat node (input.Closed number)) here)
 
 cut_brings : (s : Setting) (w : WorldState) (k : ℕ) (far hold : Bool) (x : Reached) (v : Visit) (r : Reply) → reached_side w k (side_named far) ≡ Some x → cut_visit w k (side_named far) ≡ Some v
-    → Brings s w (record w { talks = change_at_end w.talks x.at (with_side told_closed) }) (event.Cut k far hold) (event.Cut k far true) hold v r (λ c. w.answers)
+    → Brings s w (record w { streams = change_at_end w.streams x.at (with_side told_closed) }) (event.Cut k far hold) (event.Cut k far true) hold v r (λ c. w.answers)
 unfolding after_event after_cut report_of stepped
 cut_brings s w k far hold x v r got is = record {
   seats = refl;
@@ -172,10 +169,10 @@ cut_runs law old new k far hold e streams i own after r finds changes is_node pl
     let there : Here w e.node = node_is old s w e.node keeps is_node in
     let v : Visit = own_step e.node there.seat (input.Closed e.number) in
     let is : cut_visit w k (side_named far) ≡ Some v = cut_is_at w k far f.side e.node e.number there.seat f.got f.at there.here in
-    let changed : WorldState = record w { talks = change_at_end w.talks f.side.at (with_side told_closed) } in
+    let changed : WorldState = record w { streams = change_at_end w.streams f.side.at (with_side told_closed) } in
     let kept : WorldKeeps (record old { streams = streams }) s changed =
-    with_streams old s w streams (change_at_end w.talks f.side.at (with_side told_closed)) w.dials keeps
-    (subst (λ (q : StreamEnd). StreamsStand streams (change_at_end w.talks q (with_side told_closed)) w.dials) (sym f.at) (changes w.talks w.dials f.sent keeps.streams)) in
+    with_streams old s w streams (change_at_end w.streams f.side.at (with_side told_closed)) w.dials keeps
+    (subst (λ (q : StreamEnd). StreamsStand streams (change_at_end w.streams q (with_side told_closed)) w.dials) (sym f.at) (changes w.streams w.dials f.sent keeps.streams)) in
     input_runs law old (record old { streams = streams }) new s w changed (event.Cut k far hold) (event.Cut k far true) hold v (λ c. w.answers) i own after r may (record { goes = may.goes; fit = tt })
     (cut_brings s w k far hold f.side v r f.got is) refl kept there.here place got tt steps fed sends
 

@@ -1,21 +1,16 @@
 -- Events of a node that is there: memory may be wanted for them.
-use Rattle.std.proofs.Common.{◌≤◌, refl, ap, arith, ℕ, ◌-◌, Bool, Option, length, is_some, Result, Ok, Err, OnErr}
+use Rattle.std.proofs.Common.{◌≤◌, refl, ap, arith, ℕ, ◌-◌, Bool, Option, length, is_some}
 use Rattle.grasp_types.specs.declared.call.Call.{Call}
 use Rattle.grasp_types.specs.declared.traffic.Input.TheVariants as input
-use Rattle.grasp_network.specs.Agents.{agent_seat, agent_visit}
-use Rattle.grasp_network.specs.Plans.{IsNode}
-use Rattle.grasp_network.specs.Visits.{visit_seat}
-use Rattle.grasp_network.specs.World.{Seat, WorldState}
-use Rattle.grasp_network.specs.declared.event.Event.TheVariants as event
+use Rattle.grasp_model_network.specs.EventSteps.{agent_seat, agent_visit}
+use Rattle.grasp_model_network.specs.Plans.{IsNode}
+use Rattle.grasp_model_network.specs.Visits.{visit_seat}
+use Rattle.grasp_model_network.specs.World.{Seat, WorldState}
+use Rattle.grasp_model_network.specs.declared.event.Event.TheVariants as event
 use Rattle.grasp_simulator.specs.WorldSteps.{MayStarve}
 use Rattle.grasp_simulator.specs.declared.world.World.{World}
 use Rattle.grasp_simulator.proofs.InputsGo.{At, Here, at_is}
 use Rattle.grasp_simulator.proofs.Turns.{node_here}
-
--- what holds anyhow holds on an error
-pub on_err : {T E P : Type 0} (r : Result T E) → P → OnErr r P
-on_err (Ok x) p = tt
-on_err (Err e) p = p
 
 seat_there : (w : WorldState) (node : ℕ) → IsNode (length w.seats) node → Here w node
 seat_there w node is =

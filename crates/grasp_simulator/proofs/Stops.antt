@@ -1,17 +1,16 @@
 -- A network that is stopped, one that was, and one that goes on.
-use Rattle.std.proofs.Common.{◌≡◌, ◌≤◌, ◌<◌, refl, sym, ap, ◌∙◌, subst, arith, tests, ℕ, ◌-◌, ◌^◌, min, nat_lt, true, false, length, None, Some, Ok, Err, Result}
-use Rattle.std.proofs.lemmas.Option.{none-some}
-use Rattle.grasp_network.proofs.Going.{reached_more}
-use Rattle.grasp_network.proofs.Here.{some_same}
-use Rattle.grasp_network.specs.Events.{IsFit, Occurs, after_event}
-use Rattle.grasp_network.specs.Plans.{IsNode}
-use Rattle.grasp_network.specs.Setting.{Setting}
-use Rattle.grasp_network.specs.World.{WorldState, is_too_much, most_bytes}
-use Rattle.grasp_network.specs.declared.event.Event.{Event}
-use Rattle.grasp_network.specs.declared.report.Report.{Report}
-use Rattle.grasp_network.specs.declared.report.WorldStop.{WorldStop}
-use Rattle.grasp_network.specs.declared.report.WorldStop.TheVariants as stop
-use Rattle.grasp_simulator.specs.Contract.{Standing, going, stopped, Network, IsFitFor, Answers}
+use Rattle.std.proofs.Common.{◌≡◌, ◌≤◌, ◌<◌, refl, sym, ◌∙◌, subst, arith, tests, ℕ, ◌-◌, min, nat_lt, true, false, length, None, Some, Ok, Err, Result}
+use Rattle.std.proofs.lemmas.Option.{none-some, same_Some}
+use Rattle.grasp_laws_network.proofs.Going.{reached_more}
+use Rattle.grasp_model_network.specs.Events.{IsFit, Occurs, after_event}
+use Rattle.grasp_model_network.specs.Plans.{IsNode}
+use Rattle.grasp_model_network.specs.Setting.{Setting}
+use Rattle.grasp_model_network.specs.World.{WorldState, most_bytes}
+use Rattle.grasp_model_network.specs.declared.event.Event.{Event}
+use Rattle.grasp_model_network.specs.declared.report.Report.{Report}
+use Rattle.grasp_model_network.specs.declared.report.WorldStop.{WorldStop}
+use Rattle.grasp_model_network.specs.declared.report.WorldStop.TheVariants as stop
+use Rattle.grasp_simulator.specs.Contract.{Standing, going, stopped, IsFitFor, Answers}
 use Rattle.grasp_simulator.specs.WorldStands.{WorldStands, most_count}
 use Rattle.grasp_simulator.specs.WorldSteps.{IsAsked, MayRun, HasRun, Runs, MayStarve, Ends, Stepped}
 use Rattle.grasp_simulator.specs.declared.world.World.{World}
@@ -22,7 +21,7 @@ use Rattle.grasp_simulator.proofs.SeatLists.{seats_length}
 still : (code : World) (why : WorldStop) (e : Event) → code.stopped ≡ Some why → (s : Setting) (at : Standing) → WorldStands code (record { setting = s; standing = at })
     → Answers (WorldStands code) s at e (Err why)
 still code why e is s (going w) h = absurd (none-some why (sym h.stands.keeps.goes ∙ is))
-still code why e is s (stopped old) h = record { same = some_same why old (sym is ∙ h.stands); stands = h }
+still code why e is s (stopped old) h = record { same = same_Some why old (sym is ∙ h.stands); stands = h }
 
 -- what was stopped answers so again
 pub stays_stopped : (code : World) (why : WorldStop) (e : Event) → code.stopped ≡ Some why → Stepped code code e (Err why)
@@ -98,6 +97,6 @@ asked_node code e node asked goes names =
     asked_at code e (IsNode (length code.seats.items) node) goes s asked.network.standing asked.meets.stands asked.meets.fit
     (λ w h fit. subst (λ (n : ℕ). IsNode n node) (sym (seats_length code.seats.items w.seats h.stands.keeps.seats)) (names s w fit))
 
--- and so it is of what else is asked for
+-- what follows wherever an event fits a network follows for an event that is asked for
 pub asked_of : (code : World) (e : Event) (P : Type 0) → IsAsked code e → code.stopped ≡ None → ((s : Setting) (w : WorldState) → IsFit s w e → P) → P
 asked_of code e P asked goes names = asked_at code e P goes asked.network.setting asked.network.standing asked.meets.stands asked.meets.fit (λ w h fit. names asked.network.setting w fit)

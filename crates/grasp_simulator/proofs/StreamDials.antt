@@ -5,15 +5,18 @@ use Rattle.std.proofs.lemmas.Bool.{cases_Bool, cases_lt, and_parts, eqb-true}
 use Rattle.std.proofs.lemmas.List.{length-append}
 use Rattle.std.proofs.lemmas.List.Sums.{sum_by-cons}
 use Rattle.std.proofs.lemmas.Option.{slice_get_within}
+use Rattle.grasp_cbor.proofs.Facts.Lists.{get_end}
 use Rattle.grasp_session.specs.Messages.{Side, Near, Far}
 use Rattle.grasp_types.specs.declared.address.Locator.{Locator}
 use Rattle.grasp_wire.specs.Laws.{encoded}
-use Rattle.grasp_simulator.proofs.StreamPlaces.{Held, held_of, same_ends, equal_numbers}
-use Rattle.grasp_simulator.proofs.StreamChanges.{every_map}
+use Rattle.grasp_simulator.proofs.StreamPlaces.{Held, held_of}
 use Rattle.grasp_simulator.specs.StreamParts.{first_stream}
-use Rattle.grasp_network_streams.specs.Ready.{Every, WaitsFor, IsDialOf}
+use Rattle.grasp_laws_delivery.proofs.Counts.{every_both, every_map}
+use Rattle.grasp_laws_delivery.proofs.Ends.{same_ends}
+use Rattle.grasp_laws_delivery.specs.Ready.{Every, WaitsFor, IsDialOf}
+use Rattle.grasp_laws_network.proofs.Routing.{is_itself}
 use Rattle.grasp_simulator.specs.StreamsStand.{end_here, key_of, same_near, dial_at, IsQueued, HeldAs, IsDialled, TalkStands, numbers, IsNearOf, TableStands, most_streams}
-use Rattle.grasp_network.specs.Talks.{StreamEnd, TalkState, is_same_end, is_at_end, is_number, side_of_end, has_end, changed_by, at_end, change_at_end, with_number}
+use Rattle.grasp_model_network.specs.Streams.{StreamEnd, StreamState, is_same_end, is_at_end, is_number, side_of_end, has_end, changed_by, at_end, change_at_end, with_number}
 use Rattle.grasp_simulator.specs.declared.stream.Stream.{Stream}
 use Rattle.grasp_simulator.specs.declared.streams.NearEnd.{NearEnd}
 
@@ -23,14 +26,6 @@ append_get : {A : Type 0} (xs : List A) (x a : A) (i : ℕ) → slice_get xs i �
 append_get [] x a i e = absurd (cc)
 append_get (y ∷ ys) x a zero e = e
 append_get (y ∷ ys) x a (suc i) e = append_get ys x a i e
-
-append_last : {A : Type 0} (xs : List A) (x : A) → slice_get (xs ++ x ∷ []) (length xs) ≡ Some x
-append_last [] x = refl
-append_last (y ∷ ys) x = append_last ys x
-
-every_both : {A : Type 0} (P Q : A → Type 0) (xs : List A) → Every P xs → Every Q xs → Every (λ a. P a × Q a) xs
-every_both P Q [] h k = tt
-every_both P Q (x ∷ xs) h k = ((h.0, k.0), every_both P Q xs h.1 k.1)
 
 -- two counts are the same where they are so of each
 counts_same : {A : Type 0} (p q : A → Bool) (g : A → A) (P : A → Type 0) → ((a : A) → P a → p (g a) ≡ q a) → (xs : List A) → Every P xs → count_by p (map g xs) ≡ count_by q xs
@@ -47,26 +42,26 @@ counts_same {A} p q g P each (x ∷ xs) h =
 -- ---- ends
 
 -- a stream without a far end has this end as its near one, or not at all
-no_far : (e : StreamEnd) (t : TalkState) → t.far ≡ None → has_end e t ≡ is_same_end e t.near
+no_far : (e : StreamEnd) (t : StreamState) → t.far ≡ None → has_end e t ≡ is_same_end e t.near
 no_far e t none = by (is_same_end e t.near) (is_at_end e t.far) (ap (is_at_end e) none) where
   by : (b c : Bool) → c ≡ false → is_some (cond b (Some Near) (cond c (Some Far) None)) ≡ b
   by true c is = refl
   by false c is = ap (λ x. is_some (cond x (Some Far) None)) is
 
-near_has : (e : StreamEnd) (t : TalkState) → is_same_end e t.near ≡ true → has_end e t ≡ true
+near_has : (e : StreamEnd) (t : StreamState) → is_same_end e t.near ≡ true → has_end e t ≡ true
 near_has e t same = ap (λ b. is_some (cond b (Some Near) (cond (is_at_end e t.far) (Some Far) None))) same
 
 side_none : (o : Option Side) → is_some o ≡ false → o ≡ None
 side_none None h = refl
 side_none (Some s) h = absurd (cc)
 
--- the same near end in the code, at a life of 0
+-- two near ends that are the same in the code are the same end, where the life is 0
 key_same : (node number : ℕ) (e : StreamEnd) → e.life ≡ 0 → same_near (key_of (end_here node number)) (key_of e) ≡ true → is_same_end (end_here node number) e ≡ true
 key_same node number e life h =
     let a = and_parts (node == e.node) (number == e.number) h in
     ap (λ b. b && ((0 == e.life) && (number == e.number))) a.0 ∙ (ap (λ n. (0 == n) && (number == e.number)) life ∙ a.1)
 
-module _ (streams : List Stream) (index after : List (NearEnd × ℕ)) (node number : ℕ) (to : Locator) (ts : List TalkState) (dials : ℕ) (s : TableStands streams index ts dials)
+module _ (streams : List Stream) (index after : List (NearEnd × ℕ)) (node number : ℕ) (to : Locator) (ts : List StreamState) (dials : ℕ) (s : TableStands streams index ts dials)
     (d : IsDialOf ts (end_here node number) to) (room : dials + 1 ≤ most_streams)
     (looks : (q : StreamEnd) → dial_at after q ≡ cond (same_near (key_of (end_here node number)) (key_of q)) (Some (dials + 1)) (dial_at index q)) where
   abbrev e : StreamEnd
@@ -78,17 +73,17 @@ module _ (streams : List Stream) (index after : List (NearEnd × ℕ)) (node num
   abbrev more : List Stream
   more = streams ++ new ∷ []
 
-  abbrev g : TalkState → TalkState
+  abbrev g : StreamState → StreamState
   g t = at_end e (with_number (dials + 1)) t
 
-  abbrev Before : TalkState → Type 0
+  abbrev Before : StreamState → Type 0
   Before t = TalkStands streams index t t.number × WaitsFor e to t
 
   all : Every Before ts
-  all = every_both (λ (t : TalkState). TalkStands streams index t t.number) (WaitsFor e to) ts s.each d.waits
+  all = every_both (λ (t : StreamState). TalkStands streams index t t.number) (WaitsFor e to) ts s.each d.waits
 
   new_at : slice_get more ((dials + 1) - 1) ≡ Some new
-  new_at = let n : (dials + 1) - 1 ≡ length streams = let h : dials ≡ length streams = s.dialled in omega (arith, h) in ap (slice_get more) n ∙ append_last streams new
+  new_at = let n : (dials + 1) - 1 ≡ length streams = let h : dials ≡ length streams = s.dialled in omega (arith, h) in ap (slice_get more) n ∙ get_end streams new
 
   looks_here : (q : StreamEnd) → same_near (key_of e) (key_of q) ≡ true → dial_at after q ≡ Some (dials + 1)
   looks_here q same = looks q ∙ ap (λ b. cond b (Some (dials + 1)) (dial_at index q)) same
@@ -99,16 +94,16 @@ module _ (streams : List Stream) (index after : List (NearEnd × ℕ)) (node num
   -- ---- the stream of the dial
 
   key_itself : same_near (key_of e) (key_of e) ≡ true
-  key_itself = ap (λ b. b && (number == number)) (equal_numbers node) ∙ equal_numbers number
+  key_itself = ap (λ b. b && (number == number)) (is_itself node) ∙ is_itself number
 
-  is_near : (t : TalkState) → has_end e t ≡ true → IsQueued index t → e ≡ t.near
+  is_near : (t : StreamState) → has_end e t ≡ true → IsQueued index t → e ≡ t.near
   is_near t has q = same_ends e t.near (sym (no_far e t q.far) ∙ has)
 
-  number_given : (t : TalkState) (o : Option Side) → is_some o ≡ true → changed_by (with_number (dials + 1)) t o ≡ record t { number = Some (dials + 1) }
+  number_given : (t : StreamState) (o : Option Side) → is_some o ≡ true → changed_by (with_number (dials + 1)) t o ≡ record t { number = Some (dials + 1) }
   number_given t None h = absurd (cc)
   number_given t (Some side) h = refl
 
-  now_dialled : (t : TalkState) → e ≡ t.near → t.to ≡ to → IsQueued index t → IsDialled more after (dials + 1) (record t { number = Some (dials + 1) })
+  now_dialled : (t : StreamState) → e ≡ t.near → t.to ≡ to → IsQueued index t → IsDialled more after (dials + 1) (record t { number = Some (dials + 1) })
   now_dialled t near goes q = record {
     least = omega arith;
     known = ap (dial_at after) (sym near) ∙ looks_here e key_itself;
@@ -126,16 +121,16 @@ module _ (streams : List Stream) (index after : List (NearEnd × ℕ)) (node num
 
   -- ---- the others
 
-  apart : (t : TalkState) → t.near.life ≡ 0 → has_end e t ≡ false → same_near (key_of e) (key_of t.near) ≡ false
+  apart : (t : StreamState) → t.near.life ≡ 0 → has_end e t ≡ false → same_near (key_of e) (key_of t.near) ≡ false
   apart t life other = elim (cases_Bool (same_near (key_of e) (key_of t.near))) [
     | inr h ↦ h
     | inl h ↦ absurd (let has : has_end e t ≡ true = near_has e t (key_same node number t.near life h) in cc)
   ]
 
-  held_still : (k : ℕ) (t : TalkState) → Held streams k t → HeldAs (slice_get more (k - 1)) k t
+  held_still : (k : ℕ) (t : StreamState) → Held streams k t → HeldAs (slice_get more (k - 1)) k t
   held_still k t h = subst (λ o. HeldAs o k t) (sym (append_get streams new h.code (k - 1) h.got)) h.stands
 
-  other_stands : (t : TalkState) (n : Option ℕ) → has_end e t ≡ false → TalkStands streams index t n → TalkStands more after t n
+  other_stands : (t : StreamState) (n : Option ℕ) → has_end e t ≡ false → TalkStands streams index t n → TalkStands more after t n
   other_stands t None other q = record {
     unknown = looks_other t.near (apart t q.life other) ∙ q.unknown;
     life = q.life;
@@ -155,19 +150,19 @@ module _ (streams : List Stream) (index after : List (NearEnd × ℕ)) (node num
 
   -- ---- each, and each number
 
-  stays_other : (t : TalkState) → has_end e t ≡ false → g t ≡ t
+  stays_other : (t : StreamState) → has_end e t ≡ false → g t ≡ t
   stays_other t other = ap (changed_by (with_number (dials + 1)) t) (side_none (side_of_end e t) other)
 
-  gives : (t : TalkState) → has_end e t ≡ true → g t ≡ record t { number = Some (dials + 1) }
+  gives : (t : StreamState) → has_end e t ≡ true → g t ≡ record t { number = Some (dials + 1) }
   gives t has = number_given t (side_of_end e t) has
 
-  queued : (t : TalkState) → has_end e t ≡ true → Before t → IsQueued index t
+  queued : (t : StreamState) → has_end e t ≡ true → Before t → IsQueued index t
   queued t has b = subst (TalkStands streams index t) (b.1 has).0 b.0
 
-  each : (t : TalkState) → Before t → TalkStands more after (g t) (g t).number
+  each : (t : StreamState) → Before t → TalkStands more after (g t) (g t).number
   each t b = elim (cases_Bool (has_end e t)) [
-    | inl has ↦ subst (λ (x : TalkState). TalkStands more after x x.number) (sym (gives t has)) (now_dialled t (is_near t has (queued t has b)) (b.1 has).1 (queued t has b))
-    | inr other ↦ subst (λ (x : TalkState). TalkStands more after x x.number) (sym (stays_other t other)) (other_stands t t.number other b.0)
+    | inl has ↦ subst (λ (x : StreamState). TalkStands more after x x.number) (sym (gives t has)) (now_dialled t (is_near t has (queued t has b)) (b.1 has).1 (queued t has b))
+    | inr other ↦ subst (λ (x : StreamState). TalkStands more after x x.number) (sym (stays_other t other)) (other_stands t t.number other b.0)
   ]
 
   new_number : (n k : ℕ) → (n ≡ k → ⊥) → (n == k) ≡ false
@@ -176,13 +171,13 @@ module _ (streams : List Stream) (index after : List (NearEnd × ℕ)) (node num
     | inl h ↦ absurd (other (eqb-true n k h))
   ]
 
-  old_count : (k : ℕ) → k ≤ dials → (t : TalkState) → Before t → numbers k (g t) ≡ numbers k t
+  old_count : (k : ℕ) → k ≤ dials → (t : StreamState) → Before t → numbers k (g t) ≡ numbers k t
   old_count k most t b = elim (cases_Bool (has_end e t)) [
     | inr other ↦ ap (numbers k) (stays_other t other)
     | inl has ↦ ap (numbers k) (gives t has) ∙ (new_number (dials + 1) k (λ h. omega (arith, h, most)) ∙ sym (ap (is_number k) (b.1 has).0))
   ]
 
-  not_new : (t : TalkState) (n : Option ℕ) → TalkStands streams index t n → is_number (dials + 1) n ≡ false
+  not_new : (t : StreamState) (n : Option ℕ) → TalkStands streams index t n → is_number (dials + 1) n ≡ false
   not_new t None h = refl
   not_new t (Some k) h =
       let held : Held streams k t = held_of streams index k t h in
@@ -191,10 +186,10 @@ module _ (streams : List Stream) (index after : List (NearEnd × ℕ)) (node num
       let least : 1 ≤ k = h.least in
       new_number k (dials + 1) (λ is. omega (arith, is, within, count, least))
 
-  new_count : (t : TalkState) → Before t → numbers (dials + 1) (g t) ≡ has_end e t
+  new_count : (t : StreamState) → Before t → numbers (dials + 1) (g t) ≡ has_end e t
   new_count t b = elim (cases_Bool (has_end e t)) [
     | inr other ↦ ap (numbers (dials + 1)) (stays_other t other) ∙ (not_new t t.number b.0 ∙ sym other)
-    | inl has ↦ ap (numbers (dials + 1)) (gives t has) ∙ (equal_numbers (dials + 1) ∙ sym has)
+    | inl has ↦ ap (numbers (dials + 1)) (gives t has) ∙ (is_itself (dials + 1) ∙ sym has)
   ]
 
   once : (k : ℕ) → 1 ≤ k → k ≤ dials + 1 → count_by (numbers k) (map g ts) ≡ 1
@@ -225,7 +220,7 @@ module _ (streams : List Stream) (index after : List (NearEnd × ℕ)) (node num
   pub dialled : TableStands more after (change_at_end ts e (with_number (dials + 1))) (dials + 1)
   dialled = record {
     dialled = let a : length more ≡ length streams + 1 = length-append streams (new ∷ []) in let h : dials ≡ length streams = s.dialled in omega (arith, a, h);
-    each = every_map Before (λ (t : TalkState). TalkStands more after t t.number) g each ts all;
+    each = every_map Before (λ (t : StreamState). TalkStands more after t t.number) g each ts all;
     once = once;
     few = room;
     found = found;

@@ -1,10 +1,10 @@
 -- Streams of which bytes are delivered to an end, and of which an end is told that they are closed.
-use Rattle.std.proofs.Common.{◌≡◌, refl, sym, ap, ◌∙◌, subst, ℕ, ◌+◌, Bool, true, false, List, length, Option, Some, None, slice_get, slice_set, take, drop}
+use Rattle.std.proofs.Common.{◌≡◌, refl, sym, ap, ◌∙◌, subst, ℕ, ◌+◌, Bool, true, false, List, length, Some, None, slice_get, slice_set, take, drop}
 use Rattle.grasp_session.specs.Messages.{Side, Near, Far}
 use Rattle.grasp_wire.specs.Laws.{encoded}
-use Rattle.grasp_network.specs.Pieces.{side_named}
-use Rattle.grasp_network.specs.Talks.{Direction, TalkState, told_closed, change_at_end, with_delivered, with_side}
-use Rattle.grasp_network_streams.specs.Ready.{AreSent}
+use Rattle.grasp_model_network.specs.StreamChanges.{side_named}
+use Rattle.grasp_model_network.specs.Streams.{Direction, StreamState, told_closed, change_at_end, with_delivered, with_side}
+use Rattle.grasp_laws_delivery.specs.Ready.{AreSent}
 use Rattle.grasp_simulator.specs.StreamParts.{piece_of, more_delivered, stream_delivered, stream_told}
 use Rattle.grasp_simulator.specs.StreamsStand.{end_here, SentStands, StreamStands, TableStands, place_in}
 use Rattle.grasp_simulator.specs.declared.stream.Sent.{Sent}
@@ -24,7 +24,7 @@ delivered_stands code d count s = record {
   delivered = ap (λ (n : ℕ). n + length (piece_of code count)) s.delivered ∙ ap (λ (piece : List ℕ). d.delivered + length piece) (piece_is code d count s);
 }
 
-delivers : (count : ℕ) (code : Stream) (k : ℕ) (t : TalkState) (far : Bool) → StreamStands code k t → StreamStands (stream_delivered code far count) k (with_delivered count t (side_named far))
+delivers : (count : ℕ) (code : Stream) (k : ℕ) (t : StreamState) (far : Bool) → StreamStands code k t → StreamStands (stream_delivered code far count) k (with_delivered count t (side_named far))
 delivers count code k t true s = record {
   near = s.near;
   even = s.even;
@@ -50,7 +50,7 @@ delivered_number : (count : ℕ) → KeepsNumber (with_delivered count)
 delivered_number count t Near = refl
 delivered_number count t Far = refl
 
-delivered_near : (count : ℕ) (t : TalkState) (side : Side) → (with_delivered count t side).near ≡ t.near
+delivered_near : (count : ℕ) (t : StreamState) (side : Side) → (with_delivered count t side).near ≡ t.near
 delivered_near count t Near = refl
 delivered_near count t Far = refl
 
@@ -64,7 +64,7 @@ number_still count code false = refl
 
 -- ---- an end that is told
 
-tells : (code : Stream) (k : ℕ) (t : TalkState) (far : Bool) → StreamStands code k t → StreamStands (stream_told code far) k (with_side told_closed t (side_named far))
+tells : (code : Stream) (k : ℕ) (t : StreamState) (far : Bool) → StreamStands code k t → StreamStands (stream_told code far) k (with_side told_closed t (side_named far))
 tells code k t true s = record { near = s.near; even = s.even; to = s.to; far = s.far; near_side = s.near_side; far_side = refl; from_near = s.from_near; from_far = s.from_far }
 tells code k t false s = record { near = s.near; even = s.even; to = s.to; far = s.far; near_side = refl; far_side = s.far_side; from_near = s.from_near; from_far = s.from_far }
 
@@ -72,7 +72,7 @@ told_number : KeepsNumber (with_side told_closed)
 told_number t Near = refl
 told_number t Far = refl
 
-told_near : (t : TalkState) (side : Side) → (with_side told_closed t side).near ≡ t.near
+told_near : (t : StreamState) (side : Side) → (with_side told_closed t side).near ≡ t.near
 told_near t Near = refl
 told_near t Far = refl
 
@@ -86,7 +86,7 @@ number_told code false = refl
 
 -- ---- the table
 
-module _ (streams : List Stream) (index : List (NearEnd × ℕ)) (node number : ℕ) (ts : List TalkState) (dials : ℕ) (s : TableStands streams index ts dials) where
+module _ (streams : List Stream) (index : List (NearEnd × ℕ)) (node number : ℕ) (ts : List StreamState) (dials : ℕ) (s : TableStands streams index ts dials) where
   pub delivered_here : (count : ℕ) (p : ℕ × Bool) (code after : Stream) → place_in streams index node number ≡ Some p → slice_get streams p.0 ≡ Some code → after ≡ stream_delivered code p.1 count
       → TableStands (slice_set streams p.0 after) index (change_at_end ts (end_here node number) (with_delivered count)) dials
   delivered_here count p code after placed got new =
@@ -101,5 +101,5 @@ module _ (streams : List Stream) (index : List (NearEnd × ℕ)) (node number : 
       (changed streams index node number p (with_side told_closed) code (stream_told code p.1) told_number told_near placed got (λ t. tells code (p.0 + 1) t p.1) ts dials (near_told code p.1) (number_told code p.1) s)
 
   -- a change by an end that no stream has
-  pub changed_nowhere : (f : TalkState → Side → TalkState) → place_in streams index node number ≡ None → AreSent ts (end_here node number) → TableStands streams index (change_at_end ts (end_here node number) f) dials
-  changed_nowhere f placed sent = subst (λ (l : List TalkState). TableStands streams index l dials) (sym (stays_nowhere streams index node number f ts placed sent s.each)) s
+  pub changed_nowhere : (f : StreamState → Side → StreamState) → place_in streams index node number ≡ None → AreSent ts (end_here node number) → TableStands streams index (change_at_end ts (end_here node number) f) dials
+  changed_nowhere f placed sent = subst (λ (l : List StreamState). TableStands streams index l dials) (sym (stays_nowhere streams index node number f ts placed sent s.each)) s

@@ -1,40 +1,34 @@
 -- The place of an end in the code's table of streams is that of the stream that has it.
 use Rattle.std.proofs.Common.{◌≡◌, inl, inr, refl, sym, ap, ◌∙◌, arith, ℕ, ◌+◌, ◌-◌, ◌*◌, ◌%◌, ◌/◌, ◌≤◌, ◌==◌, ◌&&◌, Bool, true, false, cond, List, Option, Some, None, slice_get}
 use Rattle.std.proofs.lemmas.Bool.{cases_Bool, and_parts, eqb-true, eqb-false}
+use Rattle.grasp_cbor.proofs.Facts.Options.{same_some}
+use Rattle.grasp_laws_delivery.proofs.Ends.{same_ends, end_itself}
+use Rattle.grasp_laws_network.proofs.Routing.{is_itself}
 use Rattle.grasp_session.specs.Messages.{Side, Near, Far}
-use Rattle.grasp_network.specs.Pieces.{side_named}
+use Rattle.grasp_model_network.specs.StreamChanges.{side_named}
 use Rattle.grasp_simulator.specs.StreamsStand.{end_here, dial_at, far_end, StreamStands, IsQueued, HeldAs, IsDialled, near_here, near_place, far_here, place_in}
-use Rattle.grasp_network.specs.Talks.{StreamEnd, TalkState, is_same_end, is_at_end, is_number, side_of_end}
+use Rattle.grasp_model_network.specs.Streams.{StreamEnd, StreamState, is_same_end, is_at_end, is_number, side_of_end}
 use Rattle.grasp_simulator.specs.declared.stream.Stream.{Stream}
 use Rattle.grasp_simulator.specs.declared.streams.NearEnd.{NearEnd}
 
 -- what stands for a stream that was dialled
-pub record Held (streams : List Stream) (k : ℕ) (t : TalkState) : Type 0 where
+pub record Held (streams : List Stream) (k : ℕ) (t : StreamState) : Type 0 where
   pub code : Stream
   pub got : slice_get streams (k - 1) ≡ Some code
   pub stands : StreamStands code k t
 
-held_from : (streams : List Stream) (k : ℕ) (t : TalkState) (o : Option Stream) → slice_get streams (k - 1) ≡ o → HeldAs o k t → Held streams k t
+held_from : (streams : List Stream) (k : ℕ) (t : StreamState) (o : Option Stream) → slice_get streams (k - 1) ≡ o → HeldAs o k t → Held streams k t
 held_from streams k t None e h = absurd h
 held_from streams k t (Some code) e h = record { code = code; got = e; stands = h }
 
-pub held_of : (streams : List Stream) (index : List (NearEnd × ℕ)) (k : ℕ) (t : TalkState) → IsDialled streams index k t → Held streams k t
+pub held_of : (streams : List Stream) (index : List (NearEnd × ℕ)) (k : ℕ) (t : StreamState) → IsDialled streams index k t → Held streams k t
 held_of streams index k t d = held_from streams k t (slice_get streams (k - 1)) refl d.held
-
-pub some_same : {A : Type 0} (o : Option A) (a b : A) → o ≡ Some a → o ≡ Some b → a ≡ b
-some_same o a b e f = cc
 
 none_some : {A : Type 0} (o : Option A) (a : A) → o ≡ None → o ≡ Some a → ⊥
 none_some o a e f = cc
 
 pub true_false : (b : Bool) → b ≡ true → b ≡ false → ⊥
 true_false b e f = cc
-
-pub equal_numbers : (a : ℕ) → (a == a) ≡ true
-equal_numbers a = elim (cases_Bool (a == a)) [
-  | inl h ↦ h
-  | inr h ↦ absurd (eqb-false a a h refl)
-]
 
 -- ---- ends
 
@@ -48,17 +42,6 @@ end_parts e f h =
     let a = and_parts (e.node == f.node) (e.life == f.life && e.number == f.number) h in
     let b = and_parts (e.life == f.life) (e.number == f.number) a.1 in
     record { node = eqb-true e.node f.node a.0; life = eqb-true e.life f.life b.0; number = eqb-true e.number f.number b.1 }
-
-abbrev end_with : ℕ → ℕ → ℕ → StreamEnd
-end_with node life number = record { node = node; life = life; number = number }
-
-pub same_ends : (e f : StreamEnd) → is_same_end e f ≡ true → e ≡ f
-same_ends e f h =
-    let s : SameEnds e f = end_parts e f h in
-    ap (λ n. end_with n e.life e.number) s.node ∙ (ap (λ n. end_with f.node n e.number) s.life ∙ ap (end_with f.node f.life) s.number)
-
-pub end_itself : (e : StreamEnd) → is_same_end e e ≡ true
-end_itself e = rw (equal_numbers e.node, equal_numbers e.life, equal_numbers e.number) refl
 
 -- the far end of a stream has an odd number
 far_is_odd : (node number k : ℕ) (o : Option ℕ) → 1 ≤ k → number % 2 ≡ 0 → is_at_end (end_here node number) (far_end o k) ≡ false
@@ -79,7 +62,7 @@ abbrev pub side_in : Option (ℕ × Bool) → ℕ → Option Side
 side_in None k = None
 side_in (Some p) k = side_at_place p.1 ((p.0 + 1) == k)
 
-module _ (streams : List Stream) (index : List (NearEnd × ℕ)) (node number k : ℕ) (t : TalkState) (d : IsDialled streams index k t) where
+module _ (streams : List Stream) (index : List (NearEnd × ℕ)) (node number k : ℕ) (t : StreamState) (d : IsDialled streams index k t) where
   abbrev e : StreamEnd
   e = end_here node number
 
@@ -98,7 +81,7 @@ module _ (streams : List Stream) (index : List (NearEnd × ℕ)) (node number k 
   place_again : side_in (Some (k - 1, false)) k ≡ Some Near
   place_again =
       let n : (k - 1) + 1 ≡ k = omega (arith, d.least) in
-      ap (λ m. side_at_place false (m == k)) n ∙ ap (side_at_place false) (equal_numbers k)
+      ap (λ m. side_at_place false (m == k)) n ∙ ap (side_at_place false) (is_itself k)
 
   near_other_here : (j : ℕ) (o : Option Stream) → slice_get streams j ≡ o → is_same_end e t.near ≡ false → side_in (near_here o e j) k ≡ None
   near_other_here j None got other = refl
@@ -109,7 +92,7 @@ module _ (streams : List Stream) (index : List (NearEnd × ℕ)) (node number k 
       | inl is ↦ absurd (
           let n : j + 1 ≡ k = eqb-true (j + 1) k is in
           let m : j ≡ k - 1 = omega (arith, n) in
-          let same : code ≡ h.code = some_same (slice_get streams j) code h.code got (ap (slice_get streams) m ∙ h.got) in
+          let same : code ≡ h.code = same_some (slice_get streams j) code h.code got (ap (slice_get streams) m ∙ h.got) in
           let near : t.near ≡ end_here code.near code.number = h.stands.near ∙ ap (λ (c : Stream). end_here c.near c.number) (sym same) in
           true_false (is_same_end e t.near) (ap (is_same_end e) near ∙ good) other)
     ]
@@ -130,7 +113,7 @@ module _ (streams : List Stream) (index : List (NearEnd × ℕ)) (node number k 
   -- ---- a far end
 
   far_again : (i : ℕ) → i + 1 ≡ k → side_in (Some (i, true)) k ≡ Some Far
-  far_again i n = ap (λ m. side_at_place true (m == k)) n ∙ ap (side_at_place true) (equal_numbers k)
+  far_again i n = ap (λ m. side_at_place true (m == k)) n ∙ ap (side_at_place true) (is_itself k)
 
   far_same : (o : Option ℕ) → h.code.far ≡ o → is_at_end e (far_end o k) ≡ true → side_in (far_here (slice_get streams (number / 2)) node (number / 2)) k ≡ Some Far
   far_same None is same = absurd (true_false false same refl)
@@ -138,7 +121,7 @@ module _ (streams : List Stream) (index : List (NearEnd × ℕ)) (node number k 
       let s : SameEnds e (end_here n (2 * k - 1)) = end_parts e (end_here n (2 * k - 1)) same in
       let m : number / 2 ≡ k - 1 = omega (arith, s.number, d.least) in
       let got : slice_get streams (number / 2) ≡ Some h.code = ap (slice_get streams) m ∙ h.got in
-      let good : is_number node h.code.far ≡ true = ap (is_number node) is ∙ (ap (λ x. n == x) s.node ∙ equal_numbers n) in
+      let good : is_number node h.code.far ≡ true = ap (is_number node) is ∙ (ap (λ x. n == x) s.node ∙ is_itself n) in
       let next : number / 2 + 1 ≡ k = omega (arith, m, d.least) in
       ap (λ q. side_in (far_here q node (number / 2)) k) got ∙ (ap (λ b. side_in (cond b (Some (number / 2, true)) None) k) good ∙ far_again (number / 2) next)
 
@@ -159,7 +142,7 @@ module _ (streams : List Stream) (index : List (NearEnd × ℕ)) (node number k 
           let n : number / 2 + 1 ≡ k = eqb-true (number / 2 + 1) k is in
           let m : number / 2 ≡ k - 1 = omega (arith, n) in
           let w : number ≡ 2 * k - 1 = omega (arith, n, odd) in
-          let same : code ≡ h.code = some_same (slice_get streams (number / 2)) code h.code got (ap (slice_get streams) m ∙ h.got) in
+          let same : code ≡ h.code = same_some (slice_get streams (number / 2)) code h.code got (ap (slice_get streams) m ∙ h.got) in
           let far : t.far ≡ far_end code.far k = h.stands.far ∙ ap (λ (c : Stream). far_end c.far k) (sym same) in
           true_false (is_at_end e t.far) (ap (is_at_end e) far ∙ far_is code.far good w) other)
     ]
@@ -185,7 +168,7 @@ module _ (streams : List Stream) (index : List (NearEnd × ℕ)) (node number k 
   ]
 
 -- an end that has a place is no end of a stream whose dial is queued
-pub side_of_queued : (streams : List Stream) (index : List (NearEnd × ℕ)) (node number : ℕ) (t : TalkState) (p : ℕ × Bool) → IsQueued index t → place_in streams index node number ≡ Some p
+pub side_of_queued : (streams : List Stream) (index : List (NearEnd × ℕ)) (node number : ℕ) (t : StreamState) (p : ℕ × Bool) → IsQueued index t → place_in streams index node number ≡ Some p
     → side_of_end (end_here node number) t ≡ None
 side_of_queued streams index node number t p q placed =
     let e : StreamEnd = end_here node number in

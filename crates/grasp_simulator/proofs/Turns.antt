@@ -1,22 +1,22 @@
 -- What the events of a network share: the code's seat of a node, networks in which nothing was sent, and a step with what it makes.
-use Rattle.std.proofs.Common.{◌≡◌, ◌<◌, ◌≤◌, refl, sym, ap, ◌∙◌, subst, arith, tests, ℕ, zero, suc, ◌-◌, ◌==◌, cond, Bool, true, false, nat_lt, Some, None, List, [], ◌∷◌, length, slice_get, slice_index_or, slice_set, All}
+use Rattle.std.proofs.Common.{◌≡◌, ◌<◌, ◌≤◌, refl, sym, ap, ◌∙◌, subst, arith, ℕ, zero, suc, ◌-◌, ◌==◌, cond, Bool, true, false, nat_lt, Some, None, List, [], ◌∷◌, length, slice_get, slice_index_or, slice_set, All}
 use Rattle.std.specs.Vec.{with_item}
 use Rattle.std.proofs.lemmas.List.Elements.{All-head, All-tail, All-cons}
 use Rattle.std.proofs.lemmas.Option.{none-some, get_or_from_slice_get, slice_get_within}
-use Rattle.grasp_core.specs.Node.{NodeState}
+use Rattle.grasp_model_node.specs.Node.{NodeState}
 use Rattle.grasp_agent.specs.States.{AgentState}
-use Rattle.grasp_network.specs.Events.{Occurs, visit_of, after_event}
-use Rattle.grasp_network.specs.Plans.{IsNode}
-use Rattle.grasp_network.specs.Runs.{IsReached}
-use Rattle.grasp_network.specs.Sending.{gained, talks_made, seat_with, stepped}
-use Rattle.grasp_network.specs.Setting.{Setting}
-use Rattle.grasp_network.specs.Talks.{TalkState, count_at_end}
-use Rattle.grasp_network.specs.Visits.{Visit, Choice, MayCome}
-use Rattle.grasp_network.specs.World.{Seat, WorldState, seat_at, is_too_much, most_bytes}
-use Rattle.grasp_network.specs.declared.event.Event.{Event}
-use Rattle.grasp_network.proofs.Going.{not_too_much, reached_more}
-use Rattle.grasp_network.proofs.Here.{some_same}
-use Rattle.grasp_network_streams.specs.Ready.{Every, StreamsAreReady}
+use Rattle.grasp_model_network.specs.Events.{visit_of, after_event}
+use Rattle.grasp_model_network.specs.Plans.{IsNode}
+use Rattle.grasp_model_network.specs.Runs.{IsReached}
+use Rattle.grasp_model_network.specs.Sending.{gained, seat_with, stepped}
+use Rattle.grasp_model_network.specs.Setting.{Setting}
+use Rattle.grasp_model_network.specs.Streams.{StreamState, count_at_end}
+use Rattle.grasp_model_network.specs.Visits.{Visit, Choice, MayCome}
+use Rattle.grasp_model_network.specs.World.{Seat, WorldState, seat_at, most_bytes}
+use Rattle.grasp_model_network.specs.declared.event.Event.{Event}
+use Rattle.grasp_laws_network.proofs.Going.{not_too_much, reached_more}
+use Rattle.grasp_laws_network.proofs.GoodPlans.{not_zero}
+use Rattle.grasp_laws_delivery.specs.Ready.{Every, StreamsAreReady}
 use Rattle.grasp_simulator.specs.Seats.{SeatStands, SeatsStand}
 use Rattle.grasp_simulator.specs.StreamsStand.{StreamsStand}
 use Rattle.grasp_simulator.specs.WorldStands.{WorldKeeps, IsFirstLife}
@@ -34,17 +34,9 @@ seats_index (a ∷ l) (b ∷ bs) h zero code within got = record { seat = b; got
 seats_index (a ∷ l) (b ∷ bs) h (suc i) code within got =
     let below : StandsAt code bs i = seats_index l bs h.1 i code (omega (arith, within)) got in record { seat = below.seat; got = below.got; stands = below.stands }
 
-is_positive : (k : ℕ) → 1 ≤ k → (k == 0) ≡ false
-is_positive k h = grind (arith, tests)
-
 -- the seat at the place before a node's number is the node's
 pub node_here : (seats : List Seat) (node : ℕ) (seat : Seat) → 1 ≤ node → slice_get seats (node - 1) ≡ Some seat → cond (node == 0) None (slice_get seats (node - 1)) ≡ Some seat
-node_here seats node seat least got = rw (is_positive node least) got
-
-pub set_length : (xs : List SeatCode) (i : ℕ) (x : SeatCode) → length (slice_set xs i x) ≡ length xs
-set_length [] i x = refl
-set_length (y ∷ ys) zero x = refl
-set_length (y ∷ ys) (suc i) x = ap suc (set_length ys i x)
+node_here seats node seat least got = rw (not_zero node least) got
 
 pub set_lives : (xs : List Seat) (i : ℕ) (x : Seat) → IsFirstLife x → All IsFirstLife xs → All IsFirstLife (slice_set xs i x)
 set_lives [] i x h all = all
@@ -76,17 +68,17 @@ quiet_reached s w e c code may comes same =
     reached_more s w e c may.goes.reached (record { fit = may.fit; comes = comes; enough = ap (λ (n : ℕ). nat_lt most_bytes n) same ∙ not_too_much s w may.goes.reached })
 
 -- the code's table stands for the streams after a step of a node, where events lead to a network with these
-made_keeps : (law : StreamsAreReady) (code : World) (s : Setting) (w x : WorldState) (v : Visit) (core : NodeState) (agent : AgentState) → WorldKeeps code s w → IsFirstLife v.seat → IsReached s x → x.talks ≡ (stepped w v core agent).talks
-    → StreamsStand code.streams (stepped w v core agent).talks w.dials
+made_keeps : (law : StreamsAreReady) (code : World) (s : Setting) (w x : WorldState) (v : Visit) (core : NodeState) (agent : AgentState) → WorldKeeps code s w → IsFirstLife v.seat → IsReached s x → x.streams ≡ (stepped w v core agent).streams
+    → StreamsStand code.streams (stepped w v core agent).streams w.dials
 unfolding stepped
 made_keeps law code s w x v core agent keeps first reached same =
-    made_stands code.streams.list.items code.streams.near.entries v.node v.seat w.dials s (length x.seats) x.dials first (gained v.seat.core core) w.talks
-    (λ e. subst (λ (ts : List TalkState). count_at_end ts e ≤ 1) same (law.apart s x reached e))
+    made_stands code.streams.list.items code.streams.near.entries v.node v.seat w.dials s (length x.seats) x.dials first (gained v.seat.core core) w.streams
+    (λ e. subst (λ (ts : List StreamState). count_at_end ts e ≤ 1) same (law.apart s x reached e))
     (subst (Every (GoodEnds s (length x.seats) x.dials)) same (law.ends s x reached)) keeps.streams
 
 -- the code keeps the network after a step of a node, with what the step makes
 pub stepped_keeps : (law : StreamsAreReady) (old : World) (s : Setting) (w x : WorldState) (v : Visit) (core : NodeState) (agent : AgentState) (i : ℕ) (changed : SeatCode) → WorldKeeps old s w → IsFirstLife v.seat → i ≡ v.node - 1
-    → SeatStands changed (seat_with v.seat core agent) → IsReached s x → x.talks ≡ (stepped w v core agent).talks → WorldKeeps (record old { seats = with_item old.seats i changed }) s (stepped w v core agent)
+    → SeatStands changed (seat_with v.seat core agent) → IsReached s x → x.streams ≡ (stepped w v core agent).streams → WorldKeeps (record old { seats = with_item old.seats i changed }) s (stepped w v core agent)
 unfolding stepped
 stepped_keeps law old s w x v core agent i changed keeps first place stands reached same =
     let new : Seat = seat_with v.seat core agent in

@@ -1,21 +1,19 @@
 -- A want of a node's agent.
-use Rattle.std.proofs.Common.{◌≡◌, ◌≤◌, refl, sym, ap, ◌∙◌, subst, ℕ, ◌-◌, ◌==◌, Option, Some, None, Result, length, slice_index_or, slice_set}
+use Rattle.std.proofs.Common.{◌≡◌, ◌≤◌, refl, sym, ap, ◌∙◌, subst, ℕ, ◌-◌, Some, Result, length, slice_index_or, slice_set}
 use Rattle.std.specs.Vec.{with_item}
 use Rattle.grasp_agent.specs.Replies.{want_reply}
 use Rattle.grasp_agent.specs.declared.want.WantFault.{WantFault}
 use Rattle.grasp_types.specs.declared.address.Locator.{Locator}
-use Rattle.grasp_network.specs.Clocks.{after_wanting}
-use Rattle.grasp_network.specs.Events.{after_event}
-use Rattle.grasp_network.specs.Reports.{report_of}
-use Rattle.grasp_network.specs.Setting.{Setting, numbered, script_locator, script_setting}
-use Rattle.grasp_network.specs.Visits.{Choice, no_choice}
-use Rattle.grasp_network.specs.World.{Seat, WorldState, seat_at, with_seat}
-use Rattle.grasp_network.specs.declared.event.Event.{Event}
-use Rattle.grasp_network.specs.declared.event.Event.TheVariants as event
-use Rattle.grasp_network.specs.declared.plan.WorldPlan.{WorldPlan}
-use Rattle.grasp_network.specs.declared.report.Report.TheVariants as report
-use Rattle.grasp_network.specs.Plans.{IsNode}
-use Rattle.grasp_network.proofs.Opened.{map_length}
+use Rattle.grasp_model_network.specs.EventSteps.{after_wanting}
+use Rattle.grasp_model_network.specs.Events.{after_event}
+use Rattle.grasp_model_network.specs.Reports.{report_of}
+use Rattle.grasp_model_network.specs.Setting.{Setting, numbered, script_locator, script_setting}
+use Rattle.grasp_model_network.specs.Visits.{Choice, no_choice}
+use Rattle.grasp_model_network.specs.World.{Seat, WorldState, seat_at, with_seat}
+use Rattle.grasp_model_network.specs.declared.event.Event.TheVariants as event
+use Rattle.grasp_model_network.specs.declared.plan.WorldPlan.{WorldPlan}
+use Rattle.grasp_model_network.specs.declared.report.Report.TheVariants as report
+use Rattle.grasp_model_network.specs.Plans.{IsNode}
 use Rattle.grasp_simulator.specs.Seats.{SeatStands, SeatsStand, wanted}
 use Rattle.grasp_simulator.specs.WorldStands.{WorldKeeps}
 use Rattle.grasp_simulator.specs.WorldSteps.{Runs}

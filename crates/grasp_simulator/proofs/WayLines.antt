@@ -1,16 +1,15 @@
 -- The ways of datagrams, in the code and in the network.
-use Rattle.std.proofs.Common.{◌≡◌, ◌<◌, ◌≤◌, refl, sym, ap, ◌∙◌, subst, arith, tests, ℕ, zero, suc, ◌+◌, ◌-◌, ◌==◌, cond, Bool, true, false, not, List, [], ◌∷◌, length, filter, take, drop, get_or, Option, Some, None, option_map, unwrap_or, slice_get, All}
+use Rattle.std.proofs.Common.{◌≡◌, ◌<◌, ◌≤◌, refl, sym, ap, ◌∙◌, subst, arith, tests, ℕ, zero, suc, ◌+◌, ◌-◌, ◌==◌, cond, Bool, true, false, not, List, [], ◌∷◌, length, filter, take, drop, get_or, Option, Some, None, unwrap_or, slice_get, All}
 use Rattle.std.specs.List.{position}
 use Rattle.std.proofs.lemmas.List.Elements.{All-head, All-tail}
 use Rattle.std.proofs.lemmas.List.Quantifiers.{position-Some}
-use Rattle.std.proofs.lemmas.Option.{none-some, get_or_from_slice_get, slice_get_within}
-use Rattle.grasp_asa.proofs.Lists.{length-filter_le}
-use Rattle.grasp_network.proofs.Here.{some_same}
-use Rattle.grasp_network.specs.Plans.{IsNode, IsGoodLink}
-use Rattle.grasp_network.specs.Routes.{place_among, route_on}
-use Rattle.grasp_network.specs.Setting.{is_on, others_on, lines_of, line_from, line_of, link_of}
-use Rattle.grasp_simulator.specs.Sends.{way_of, made_way, AreGoodLinks, IsWay}
-use Rattle.grasp_simulator.specs.declared.ways.Way.{Way}
+use Rattle.std.proofs.lemmas.Option.{none-some, get_or_from_slice_get, slice_get_within, same_Some}
+use Rattle.grasp_cbor.proofs.Facts.Lists.{length_filter}
+use Rattle.grasp_laws_network.proofs.GoodPlans.{not_zero}
+use Rattle.grasp_model_network.specs.Plans.{IsNode, IsGoodLink}
+use Rattle.grasp_model_network.specs.Routes.{place_among}
+use Rattle.grasp_model_network.specs.Setting.{is_on, others_on, lines_of, line_from, line_of, link_of}
+use Rattle.grasp_simulator.specs.Sends.{made_way, AreGoodLinks, IsWay}
 
 -- ---- the line
 
@@ -22,20 +21,17 @@ at_drop (y ∷ ys) (suc i) x within is = let e : suc (i + 1) ≡ suc i + 1 = ome
 is_zero : (n : ℕ) → n ≡ 0 → (n == 0) ≡ true
 is_zero n h = grind (arith, tests)
 
-is_more : (n : ℕ) → 1 ≤ n → (n == 0) ≡ false
-is_more n h = grind (arith, tests)
-
 -- the line is the one that is looked for
 pub line_here : (links : List (List ℕ)) (node i left : ℕ) (line : List ℕ) → i < length links → line ≡ get_or links i line → is_on node line ≡ true → left ≡ 0 → line_from i node (drop i links) left ≡ Some i
 unfolding line_from
 line_here links node i left line within is on none = rw (at_drop links i line within is) (rw on (rw (is_zero left none) refl))
 
--- it is on the line, and further ones are to be passed
+-- the node is on the line, but the line that is looked for comes later
 pub line_passed : (links : List (List ℕ)) (node i left : ℕ) (line : List ℕ) → i < length links → line ≡ get_or links i line → is_on node line ≡ true → 1 ≤ left → line_from i node (drop i links) left ≡ line_from (i + 1) node (drop (i + 1) links) (left - 1)
 unfolding line_from
-line_passed links node i left line within is on some = rw (at_drop links i line within is) (rw on (rw (is_more left some) refl))
+line_passed links node i left line within is on some = rw (at_drop links i line within is) (rw on (rw (not_zero left some) refl))
 
--- it isn't on the line
+-- the node isn't on the line, so the line that is looked for comes later
 pub line_off : (links : List (List ℕ)) (node i left : ℕ) (line : List ℕ) → i < length links → line ≡ get_or links i line → is_on node line ≡ false → line_from i node (drop i links) left ≡ line_from (i + 1) node (drop (i + 1) links) left
 unfolding line_from
 line_off links node i left line within is on = rw (at_drop links i line within is) (rw on refl)
@@ -46,7 +42,7 @@ drop_all [] (suc i) h = refl
 drop_all (x ∷ xs) zero h = absurd (omega (arith, h))
 drop_all (x ∷ xs) (suc i) h = drop_all xs i (omega (arith, h))
 
--- there are no more lines
+-- no line is left, so none is found
 pub line_none : (links : List (List ℕ)) (node i left : ℕ) → length links ≤ i → line_from i node (drop i links) left ≡ None
 unfolding line_from
 line_none links node i left all = rw (drop_all links i all) refl
@@ -65,7 +61,7 @@ filter_all : (P : ℕ → Type 0) (p : ℕ → Bool) (xs : List ℕ) (i x : ℕ)
 filter_all P p [] i x got all = absurd (none-some x got)
 filter_all P p (y ∷ ys) i x got all = by_test (p y) refl got (λ j e. filter_all P p ys j x e (All-tail P y ys all)) where
   by_place : (j : ℕ) → slice_get (y ∷ filter p ys) j ≡ Some x → ((k : ℕ) → slice_get (filter p ys) k ≡ Some x → P x) → P x
-  by_place zero e below = subst P (some_same y x e) (All-head P y ys all)
+  by_place zero e below = subst P (same_Some y x e) (All-head P y ys all)
   by_place (suc j) e below = below j e
 
   by_test : (b : Bool) → p y ≡ b → slice_get (cond b (y ∷ filter p ys) (filter p ys)) i ≡ Some x → ((k : ℕ) → slice_get (filter p ys) k ≡ Some x → P x) → P x
@@ -86,7 +82,7 @@ few_links nodes lines node to place receiver line good got there =
     let is_node : IsNode nodes receiver = filter_all (IsNode nodes) (λ n. not (n == node)) line to receiver there link.members in
     let all : length (lines_of receiver lines) ≤ 16 = good.few receiver is_node in
     let some : length (lines_of receiver (take place lines)) ≤ length (lines_of receiver lines) = take_filter (is_on receiver) lines place in
-    let others : length (others_on receiver line) ≤ length line = length-filter_le (λ n. not (n == receiver)) line in
+    let others : length (others_on receiver line) ≤ length line = length_filter (λ n. not (n == receiver)) line in
     let most : length line ≤ 17 = link.most in
     let at : place_among node (others_on receiver line) ≤ length (others_on receiver line) = place_few node (others_on receiver line) in
     (omega (arith, all, some), omega (arith, at, others, most))
@@ -99,12 +95,3 @@ pub way_is : (lines : List (List ℕ)) (node link to place receiver : ℕ) (line
 way_is lines node link to place receiver line l f found got there link_is from_is nodes good =
     let few = few_links nodes lines node to place receiver line good got there in
     rw (link_is few.0) (rw (from_is few.1) (rw found (rw got (rw there refl))))
-
-pub no_line : (lines : List (List ℕ)) (node link to : ℕ) → line_of node lines link ≡ None → IsWay lines node link to None
-no_line lines node link to none nodes good = rw none refl
-
-pub no_place : (lines : List (List ℕ)) (node link to place : ℕ) → line_of node lines link ≡ Some place → slice_get lines place ≡ None → IsWay lines node link to None
-no_place lines node link to place found none nodes good = rw found (rw none refl)
-
-pub no_other : (lines : List (List ℕ)) (node link to place : ℕ) (line : List ℕ) → line_of node lines link ≡ Some place → slice_get lines place ≡ Some line → slice_get (others_on node line) to ≡ None → IsWay lines node link to None
-no_other lines node link to place line found got none nodes good = rw found (rw got (rw none refl))

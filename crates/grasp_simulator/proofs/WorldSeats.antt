@@ -1,15 +1,14 @@
 -- What a network lends of a node, and the places of handles.
 use Rattle.std.proofs.Common.{◌≡◌, refl, sym, ap, ◌∙◌, subst, ℕ, ◌-◌, ◌==◌, ◌&&◌, cond, Bool, true, false, List, [], ◌∷◌, None, Some, length, map, slice_get, find, All}
 use Rattle.std.proofs.lemmas.List.Elements.{All-head, All-tail}
-use Rattle.std.proofs.lemmas.Option.{none-some, get_or_from_slice_get, slice_get_within}
+use Rattle.std.proofs.lemmas.Option.{none-some, get_or_from_slice_get, slice_get_within, same_Some}
 use Rattle.grasp_simulator.specs.PlacesStand.{given_place, is_place_of, place_found}
 use Rattle.grasp_simulator.specs.Seats.{SeatStands}
-use Rattle.grasp_network.specs.Setting.{Setting}
-use Rattle.grasp_network.specs.World.{Seat, GivenHandle, WorldState, is_given, place_in, place_at, handle_place}
+use Rattle.grasp_model_network.specs.Setting.{Setting}
+use Rattle.grasp_model_network.specs.World.{Seat, GivenHandle, WorldState, is_given, place_in, place_at, handle_place}
 use Rattle.grasp_simulator.specs.WorldStands.{IsFirstGiven, IsFirstLife, IsSeat}
 use Rattle.grasp_simulator.specs.declared.seat.Seat.{Seat as SeatCode}
 use Rattle.grasp_simulator.specs.declared.world.World.{World}
-use Rattle.grasp_network.proofs.Here.{some_same}
 use Rattle.grasp_simulator.proofs.SeatLists.{StandsAt, seats_at}
 
 -- ---- nodes
@@ -26,7 +25,7 @@ here_at code node s w seat h = at_place w.seats node seat (node == 0) h.here
 pub seat_stands : (code : World) (node : ℕ) (s : Setting) (w : WorldState) (seat : Seat) (own : SeatCode) → Some own ≡ slice_get code.seats.items (node - 1) → IsSeat code node s w seat → SeatStands own seat
 seat_stands code node s w seat own got h =
     let found : StandsAt own w.seats (node - 1) = seats_at code.seats.items w.seats h.stands.stands.keeps.seats (node - 1) own (sym got) in
-    subst (SeatStands own) (some_same found.seat seat (sym found.got ∙ here_at code node s w seat h)) found.stands
+    subst (SeatStands own) (same_Some found.seat seat (sym found.got ∙ here_at code node s w seat h)) found.stands
 
 -- the node is in its first life
 pub first_life : (code : World) (node : ℕ) (s : Setting) (w : WorldState) (seat : Seat) → IsSeat code node s w seat → IsFirstLife seat

@@ -1,11 +1,11 @@
--- Where a stream arrives, as the code finds it.
+-- Inside: where a stream arrives, as the code finds it.
 use Rattle.std.specs.Prelude.{ℕ, zero, suc, ◌+◌, ◌-◌, ◌*◌, ◌≡◌, Bool, true, false, if◌then◌else◌, List, Option, None, Some}
 use Rattle.grasp_types.specs.Same.{same_locator}
 use Rattle.grasp_types.specs.declared.address.Locator.{Locator}
 use Rattle.grasp_types.specs.declared.reply.Reply.{Reply}
 use Rattle.grasp_types.specs.declared.reply.Reply.TheVariants as reply
-use Rattle.grasp_network.specs.Setting.{script_locator}
-use Rattle.grasp_network.specs.Talks.{TalkState, talk_numbered, change_at_end, with_far}
+use Rattle.grasp_model_network.specs.Setting.{script_locator}
+use Rattle.grasp_model_network.specs.Streams.{StreamState, stream_numbered, change_at_end, with_far}
 use Rattle.grasp_simulator.specs.StreamParts.{standing_by}
 use Rattle.grasp_simulator.specs.StreamsStand.{end_here, arrival_of, StreamsStand}
 use Rattle.grasp_simulator.specs.declared.stream.Standing.{Standing}
@@ -45,5 +45,5 @@ is_taken _ = true
 
 -- the stream of this number is opened at this node, which took it or turned it away
 abbrev pub Opens : Streams → Streams → ℕ → ℕ → Bool → Type 0
-Opens before after k node taken = (ts : List TalkState) (dials : ℕ) (t : TalkState) → talk_numbered ts k ≡ Some t → StreamsStand before ts dials
+Opens before after k node taken = (ts : List StreamState) (dials : ℕ) (t : StreamState) → stream_numbered ts k ≡ Some t → StreamsStand before ts dials
     → StreamsStand after (change_at_end ts t.near (with_far (end_here node (2 * k - 1)) (arrival_of (standing_by taken)))) dials

@@ -1,16 +1,16 @@
 -- What the code of a network promises: for each network for which it stood before, it stands afterwards for one to which the event leads.
 use Rattle.std.specs.Prelude.{◌≡◌, Result, Ok, Err, IfOk}
 use Rattle.grasp_cbor.specs.declared.memory.OutOfMemory.{OutOfMemory}
-use Rattle.grasp_network.specs.Events.{IsFit, Occurs, MayStop, after_event}
-use Rattle.grasp_network.specs.Reports.{report_of}
-use Rattle.grasp_network.specs.Runs.{world_of}
-use Rattle.grasp_network.specs.Setting.{Setting, script_setting}
-use Rattle.grasp_network.specs.Visits.{Choice}
-use Rattle.grasp_network.specs.World.{WorldState}
-use Rattle.grasp_network.specs.declared.event.Event.{Event}
-use Rattle.grasp_network.specs.declared.plan.WorldPlan.{WorldPlan}
-use Rattle.grasp_network.specs.declared.report.Report.{Report}
-use Rattle.grasp_network.specs.declared.report.WorldStop.{WorldStop}
+use Rattle.grasp_model_network.specs.Events.{IsFit, Occurs, MayStop, after_event}
+use Rattle.grasp_model_network.specs.Reports.{report_of}
+use Rattle.grasp_model_network.specs.Runs.{world_of}
+use Rattle.grasp_model_network.specs.Setting.{Setting, script_setting}
+use Rattle.grasp_model_network.specs.Visits.{Choice}
+use Rattle.grasp_model_network.specs.World.{WorldState}
+use Rattle.grasp_model_network.specs.declared.event.Event.{Event}
+use Rattle.grasp_model_network.specs.declared.plan.WorldPlan.{WorldPlan}
+use Rattle.grasp_model_network.specs.declared.report.Report.{Report}
+use Rattle.grasp_model_network.specs.declared.report.WorldStop.{WorldStop}
 
 -- a network that goes on, or one that was stopped
 pub data Standing : Type 0 where

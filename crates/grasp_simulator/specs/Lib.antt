@@ -1,4 +1,5 @@
 pub mod Arriving
+pub mod Comings
 pub mod Contract
 pub mod PlacesStand
 pub mod Seats

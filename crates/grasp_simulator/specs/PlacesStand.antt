@@ -5,7 +5,7 @@ use Rattle.grasp_types.specs.declared.reply.ApiAnswer.TheVariants as answer
 use Rattle.grasp_types.specs.declared.reply.Reply.{Reply}
 use Rattle.grasp_types.specs.declared.reply.Reply.TheVariants as reply
 use Rattle.grasp_types.specs.declared.session.Handle.{Handle}
-use Rattle.grasp_network.specs.World.{GivenHandle}
+use Rattle.grasp_model_network.specs.World.{GivenHandle}
 use Rattle.grasp_simulator.specs.declared.places.GivenPlace.{GivenPlace}
 use Rattle.grasp_simulator.specs.declared.places.Places.{Places}
 
@@ -16,31 +16,37 @@ given_place g = record { node = g.node; number = g.handle.number; place = g.hand
 abbrev pub PlacesStand : Places → List GivenHandle → Type 0
 PlacesStand code handles = code.given ≡ map given_place handles
 
+-- Inside: the handle of this number was given at this node
 abbrev pub is_place_of : ℕ → ℕ → GivenPlace → Bool
 is_place_of node number g = g.node == node && g.number == number
 
+-- Inside: the place that was given, or 0
 abbrev pub place_or_0 : Option GivenPlace → ℕ
 place_or_0 None = 0
 place_or_0 (Some g) = g.place
 
--- the place of the first of them with this node and number, and 0 where there is none
+-- Inside: the place of the first of them with this node and number, and 0 where there is none
 abbrev pub place_found : List GivenPlace → ℕ → ℕ → ℕ
 place_found given node number = place_or_0 (find (is_place_of node number) given)
 
 -- ---- the handle that a reply gives
 
+-- Inside: the handle that an answer gives
 abbrev pub handle_of : ApiAnswer → Option Handle
 handle_of (answer.Started h) = Some h
 handle_of (answer.Incoming h from o) = Some h
 handle_of _ = None
 
+-- Inside: the handle that a reply gives
 abbrev pub handle_in : Reply → Option Handle
 handle_in (reply.Api a) = handle_of a
 handle_in _ = None
 
+-- Inside: the place of a handle that was given at a node
 abbrev pub placed_at : ℕ → Option Handle → List GivenPlace
 placed_at node None = []
 placed_at node (Some h) = record { node = node; number = h.number; place = h.place } ∷ []
 
+-- Inside: the places of the handles that a node's reply gives
 abbrev pub places_in : ℕ → Reply → List GivenPlace
 places_in node r = placed_at node (handle_in r)

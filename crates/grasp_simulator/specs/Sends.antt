@@ -1,19 +1,19 @@
--- What the code promises of outputs that are sent.
+-- Inside: what the code promises of outputs that are sent.
 use Rattle.std.specs.Prelude.{◌≡◌, ◌≤◌, ℕ, Bool, not, List, [], ◌∷◌, ◌++◌, length, map, None, Some, All, option_map, Option}
-use Rattle.grasp_core.specs.Begin.{begin}
-use Rattle.grasp_core.specs.Draining as core
-use Rattle.grasp_core.specs.Queue.{Queued, datagram, dial, send, encoding, output_of}
+use Rattle.grasp_model_node.specs.Begin.{begin}
+use Rattle.grasp_model_node.specs.Draining as core
+use Rattle.grasp_model_node.specs.Queue.{Queued, datagram, dial, send, encoding, output_of}
 use Rattle.grasp_types.specs.declared.message.Message.{Message}
 use Rattle.grasp_types.specs.declared.traffic.Output.{Output}
 use Rattle.grasp_types.specs.declared.traffic.Output.TheVariants.{Close}
-use Rattle.grasp_network.specs.Events.{drained_behind}
-use Rattle.grasp_network.specs.Plans.{IsNode, IsGoodLink}
-use Rattle.grasp_network.specs.Routes.{Route, route_of, route_on}
-use Rattle.grasp_network.specs.Sending.{posted, having_sent, having_closed, handed_over, drained}
-use Rattle.grasp_network.specs.Setting.{Setting, line_of, lines_of}
-use Rattle.grasp_network.specs.Talks.{TalkState, count_at_end}
-use Rattle.grasp_network.specs.World.{Seat, WorldState, end_of, seat_at}
-use Rattle.grasp_network_streams.specs.Ready.{IsDialOf, AreSent, AreReady}
+use Rattle.grasp_model_network.specs.Events.{drained_behind}
+use Rattle.grasp_model_network.specs.Plans.{IsNode, IsGoodLink}
+use Rattle.grasp_model_network.specs.Routes.{Route, route_of, route_on}
+use Rattle.grasp_model_network.specs.Sending.{posted, having_sent, having_closed, handed_over, drained}
+use Rattle.grasp_model_network.specs.Setting.{Setting, line_of, lines_of}
+use Rattle.grasp_model_network.specs.Streams.{StreamState, count_at_end}
+use Rattle.grasp_model_network.specs.World.{Seat, WorldState, end_of, seat_at}
+use Rattle.grasp_laws_delivery.specs.Ready.{IsDialOf, AreSent, AreReady}
 use Rattle.grasp_simulator.specs.WorldStands.{WorldKeeps, WorldGoes, IsFirstLife}
 use Rattle.grasp_simulator.specs.declared.ways.Way.{Way}
 use Rattle.grasp_simulator.specs.declared.world.World.{World}
@@ -41,7 +41,7 @@ IsWay lines node link to way = (nodes : ℕ) → AreGoodLinks nodes lines → wa
 -- ---- one output
 
 -- the output of a node can be sent
-abbrev pub CanSend : ℕ → Seat → Queued → List TalkState → Type 0
+abbrev pub CanSend : ℕ → Seat → Queued → List StreamState → Type 0
 CanSend node seat (datagram link to m) ts = Unit {0}
 CanSend node seat (dial stream to) ts = IsDialOf ts (end_of node seat stream) to
 CanSend node seat (send stream m) ts = (count_at_end ts (end_of node seat stream) ≡ 1) × AreSent ts (end_of node seat stream)
@@ -52,7 +52,7 @@ Posts before after node link to bytes = (s : Setting) (w : WorldState) (m : Mess
 
 -- the output is sent, where it can be
 pub record Puts (before after : World) (node : ℕ) (output : Output) : Type 0 where
-  pub queued : (s : Setting) (w : WorldState) (seat : Seat) (q : Queued) → WorldKeeps before s w → IsFirstLife seat → CanSend node seat q w.talks → output ≡ output_of q → WorldKeeps after s (having_sent s node seat w q)
+  pub queued : (s : Setting) (w : WorldState) (seat : Seat) (q : Queued) → WorldKeeps before s w → IsFirstLife seat → CanSend node seat q w.streams → output ≡ output_of q → WorldKeeps after s (having_sent s node seat w q)
   pub closed : (s : Setting) (w : WorldState) (seat : Seat) (stream : ℕ) → WorldKeeps before s w → IsFirstLife seat → output ≡ Close stream → WorldKeeps after s (having_closed node seat w stream)
 
 -- ---- outputs in order
@@ -65,7 +65,7 @@ outputs_of queued streams = map output_of queued ++ map Close streams
 pub record MaySend (code : World) (s : Setting) (w : WorldState) (node : ℕ) (seat : Seat) (queued : List Queued) : Type 0 where
   pub keeps : WorldKeeps code s w
   pub first : IsFirstLife seat
-  pub ready : AreReady node seat queued w.talks
+  pub ready : AreReady node seat queued w.streams
 
 -- the outputs are sent in order
 abbrev pub HandsOver : World → World → ℕ → List Output → Type 0

@@ -1,4 +1,4 @@
--- What the code's table of streams keeps of one stream, and how a side changes it.
+-- Inside: what the code's table of streams keeps of one stream, and how a side changes it.
 use Rattle.std.specs.Prelude.{ℕ, ◌+◌, ◌-◌, ◌*◌, ◌^◌, Bool, true, false, not, min, if◌then◌else◌, List, [], ◌++◌, length, take, drop, Option, None, Some}
 use Rattle.grasp_types.specs.declared.address.Locator.{Locator}
 use Rattle.grasp_simulator.specs.declared.stream.Sent.{Sent}

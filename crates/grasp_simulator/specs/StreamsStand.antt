@@ -3,8 +3,8 @@ use Rattle.std.specs.Prelude.{◌≡◌, ℕ, ◌-◌, ◌*◌, ◌%◌, ◌/◌
 use Rattle.std.specs.Map.{lookup}
 use Rattle.grasp_session.specs.Messages.{Side}
 use Rattle.grasp_wire.specs.Laws.{encoded}
-use Rattle.grasp_network.specs.Talks.{StreamEnd, Arrival, not_yet, lives, turned_away, told_closed, Direction, TalkState, is_number, is_same_end, change_at_end}
-use Rattle.grasp_network_streams.specs.Ready.{Every, AreSent}
+use Rattle.grasp_model_network.specs.Streams.{StreamEnd, Arrival, not_yet, lives, turned_away, told_closed, Direction, StreamState, is_number, is_same_end, change_at_end}
+use Rattle.grasp_laws_delivery.specs.Ready.{Every, AreSent}
 use Rattle.grasp_simulator.specs.declared.stream.Sent.{Sent}
 use Rattle.grasp_simulator.specs.declared.stream.Standing.{Standing}
 use Rattle.grasp_simulator.specs.declared.stream.Standing.TheVariants as standing
@@ -45,7 +45,7 @@ far_end None k = None
 far_end (Some node) k = Some (end_here node (2 * k - 1))
 
 -- the code keeps this stream, whose dial was sent as that of this number. The node that dialled gave it an even number
-pub record StreamStands (code : Stream) (k : ℕ) (t : TalkState) : Type 0 where
+pub record StreamStands (code : Stream) (k : ℕ) (t : StreamState) : Type 0 where
   pub near : t.near ≡ end_here code.near code.number
   pub even : t.near.number % 2 ≡ 0
   pub to : code.to ≡ t.to
@@ -58,7 +58,7 @@ pub record StreamStands (code : Stream) (k : ℕ) (t : TalkState) : Type 0 where
 -- ---- the table
 
 -- the dial of the stream isn't sent: nothing else was either, and the code knows of no stream of this near end
-pub record IsQueued (index : List (NearEnd × ℕ)) (t : TalkState) : Type 0 where
+pub record IsQueued (index : List (NearEnd × ℕ)) (t : StreamState) : Type 0 where
   pub unknown : dial_at index t.near ≡ None
   pub life : t.near.life ≡ 0
   pub even : t.near.number % 2 ≡ 0
@@ -70,22 +70,22 @@ pub record IsQueued (index : List (NearEnd × ℕ)) (t : TalkState) : Type 0 whe
   pub far_sent : t.from_far.sent ≡ []
   pub far_delivered : t.from_far.delivered ≡ 0
 
-abbrev pub HeldAs : Option Stream → ℕ → TalkState → Type 0
+abbrev pub HeldAs : Option Stream → ℕ → StreamState → Type 0
 HeldAs None k t = ⊥
 HeldAs (Some code) k t = StreamStands code k t
 
 -- the K-th dial's stream stands at place K - 1, and is found there by its near end
-pub record IsDialled (streams : List Stream) (index : List (NearEnd × ℕ)) (k : ℕ) (t : TalkState) : Type 0 where
+pub record IsDialled (streams : List Stream) (index : List (NearEnd × ℕ)) (k : ℕ) (t : StreamState) : Type 0 where
   pub least : 1 ≤ k
   pub known : dial_at index t.near ≡ Some k
   pub held : HeldAs (slice_get streams (k - 1)) k t
 
-abbrev pub TalkStands : List Stream → List (NearEnd × ℕ) → TalkState → Option ℕ → Type 0
+abbrev pub TalkStands : List Stream → List (NearEnd × ℕ) → StreamState → Option ℕ → Type 0
 TalkStands streams index t None = IsQueued index t
 TalkStands streams index t (Some k) = IsDialled streams index k t
 
 -- the stream of this number
-abbrev pub numbers : ℕ → TalkState → Bool
+abbrev pub numbers : ℕ → StreamState → Bool
 numbers k t = is_number k t.number
 
 -- the stream was dialled from this end
@@ -98,22 +98,22 @@ abbrev pub most_streams : ℕ
 most_streams = 2 ^ 62
 
 -- what the code holds stands for these streams, of which so many were dialled: each of the numbers from 1 on is that of one stream
-pub record TableStands (streams : List Stream) (index : List (NearEnd × ℕ)) (ts : List TalkState) (dials : ℕ) : Type 0 where
+pub record TableStands (streams : List Stream) (index : List (NearEnd × ℕ)) (ts : List StreamState) (dials : ℕ) : Type 0 where
   pub dialled : dials ≡ length streams
   pub each : Every (λ t. TalkStands streams index t t.number) ts
   pub once : (k : ℕ) → 1 ≤ k → k ≤ dials → count_by (numbers k) ts ≡ 1
   pub few : dials ≤ most_streams
   pub found : (e : StreamEnd) (k : ℕ) → dial_at index e ≡ Some k → (1 ≤ k) × (k ≤ dials) × IsNearOf e (slice_get streams (k - 1))
 
-abbrev pub StreamsStand : Streams → List TalkState → ℕ → Type 0
+abbrev pub StreamsStand : Streams → List StreamState → ℕ → Type 0
 StreamsStand code ts dials = TableStands code.list.items code.near.entries ts dials
 
--- the stream with this end is changed so by it, where each that has it was dialled
-abbrev pub ChangesAt : Streams → Streams → ℕ → ℕ → (TalkState → Side → TalkState) → Type 0
-ChangesAt before after node number f = (ts : List TalkState) (dials : ℕ) → AreSent ts (end_here node number) → StreamsStand before ts dials → StreamsStand after (change_at_end ts (end_here node number) f) dials
+-- Inside: the stream with this end is changed so by it, where each that has it was dialled
+abbrev pub ChangesAt : Streams → Streams → ℕ → ℕ → (StreamState → Side → StreamState) → Type 0
+ChangesAt before after node number f = (ts : List StreamState) (dials : ℕ) → AreSent ts (end_here node number) → StreamsStand before ts dials → StreamsStand after (change_at_end ts (end_here node number) f) dials
 
--- the code keeps the stream of this number, where there is one
-abbrev pub IsTalk : ℕ → Option Stream → Option TalkState → Type 0
+-- Inside: the code keeps the stream of this number, where there is one
+abbrev pub IsTalk : ℕ → Option Stream → Option StreamState → Type 0
 IsTalk k None None = Unit {0}
 IsTalk k None (Some t) = ⊥
 IsTalk k (Some code) None = ⊥
@@ -121,19 +121,22 @@ IsTalk k (Some code) (Some t) = StreamStands code k t
 
 -- ---- the place of an end: that of its stream, and whether it is the far end
 
+-- Inside: the place of a stream with this near end
 abbrev pub near_here : Option Stream → StreamEnd → ℕ → Option (ℕ × Bool)
 near_here None e i = None
 near_here (Some code) e i = if is_same_end e (end_here code.near code.number) then Some (i, false) else None
 
+-- Inside: the place of the stream with this near end, where the index has this number for it
 abbrev pub near_place : List Stream → StreamEnd → Option ℕ → Option (ℕ × Bool)
 near_place streams e None = None
 near_place streams e (Some k) = near_here (slice_get streams (k - 1)) e (k - 1)
 
+-- Inside: the place of a stream whose far end is this node's
 abbrev pub far_here : Option Stream → ℕ → ℕ → Option (ℕ × Bool)
 far_here None node i = None
 far_here (Some code) node i = if is_number node code.far then Some (i, true) else None
 
--- an even number is that of a near end, and 2K - 1 that of the K-th stream's far one
+-- Inside: an even number is that of a near end, and 2K - 1 that of the K-th stream's far one
 abbrev pub place_in : List Stream → List (NearEnd × ℕ) → ℕ → ℕ → Option (ℕ × Bool)
 place_in streams index node number =
     if (number % 2) == 0

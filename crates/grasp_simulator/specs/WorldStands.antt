@@ -1,17 +1,17 @@
 -- How the code stands for a network of a plan.
 use Rattle.std.specs.Prelude.{◌≡◌, ◌-◌, ◌^◌, ℕ, All, [], None, Some, length, map, min}
 use Rattle.grasp_agent.specs.States.{AgentState}
-use Rattle.grasp_core.specs.Queue.{encoding}
+use Rattle.grasp_model_node.specs.Queue.{encoding}
 use Rattle.grasp_core.specs.Stands.{NodeStands}
 use Rattle.grasp_core.specs.declared.node_core.NodeCore.{NodeCore}
 use Rattle.grasp_simulator.specs.Contract.{Standing, going, stopped, Network}
 use Rattle.grasp_simulator.specs.PlacesStand.{PlacesStand}
-use Rattle.grasp_network.specs.Plans.{IsNode, IsGoodPlan}
-use Rattle.grasp_network.specs.Runs.{IsReached}
+use Rattle.grasp_model_network.specs.Plans.{IsNode, IsGoodPlan}
+use Rattle.grasp_model_network.specs.Runs.{IsReached}
 use Rattle.grasp_simulator.specs.Seats.{SeatsStand}
 use Rattle.grasp_simulator.specs.StreamsStand.{StreamsStand}
-use Rattle.grasp_network.specs.Setting.{Setting, script_setting}
-use Rattle.grasp_network.specs.World.{Seat, SentDatagram, GivenHandle, WorldState, seat_at, handle_place}
+use Rattle.grasp_model_network.specs.Setting.{Setting, script_setting}
+use Rattle.grasp_model_network.specs.World.{Seat, SentDatagram, GivenHandle, WorldState, seat_at, handle_place}
 use Rattle.grasp_simulator.specs.declared.parcel.Parcel.{Parcel}
 use Rattle.grasp_simulator.specs.declared.world.World.{World}
 
@@ -36,14 +36,14 @@ pub record WorldKeeps (code : World) (s : Setting) (w : WorldState) : Type 0 whe
   pub setting : s ≡ script_setting code.plan
   pub seats : SeatsStand code.seats.items w.seats
   pub lives : All IsFirstLife w.seats
-  pub streams : StreamsStand code.streams w.talks w.dials
+  pub streams : StreamsStand code.streams w.streams w.dials
   pub parcels : code.parcels ≡ map parcel_of w.datagrams
   pub places : PlacesStand code.places w.handles
   pub given : All IsFirstGiven w.handles
   pub sent : code.sent ≡ min w.byte_count most_count
   pub goes : code.stopped ≡ None
 
--- and events have led to it from the first one of its plan
+-- the code keeps this network, and events have led to it from the first one of its plan
 pub record WorldGoes (code : World) (s : Setting) (w : WorldState) : Type 0 where
   pub reached : IsReached s w
   pub keeps : WorldKeeps code s w

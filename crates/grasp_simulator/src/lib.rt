@@ -1,8 +1,9 @@
 //! Runs networks of nodes in memory.
 //!
-//! What a network is and what each event does is said in `grasp_network`; specs/ says how the code stands for a network.
+//! What a network is and what each event does is said in `grasp_model_network`; specs/ says how the code stands for a network.
 #![tactic(auto)]
 
+mod coming_laws;
 mod opening;
 mod parcel;
 mod places;
@@ -19,4 +20,5 @@ mod world_events;
 mod world_pieces;
 mod world_sends;
 
+pub use coming_laws::something_comes_to_cores;
 pub use world::World;

@@ -2,20 +2,21 @@
 
 ghost use Rattle.std.specs.Prelude.{◌≡◌, false, map, IfOk};
 ghost use Rattle.grasp_agent.specs.States.{first_agent};
-ghost use Rattle.grasp_core.specs.Node.{first_node};
-ghost use Rattle.grasp_core.specs.Plan.{is_bad_plan};
+ghost use Rattle.grasp_model_node.specs.Node.{first_node};
+ghost use Rattle.grasp_model_node.specs.Plan.{is_bad_plan};
 ghost use Rattle.grasp_core.specs.Stands.{NodeStands};
 ghost use Rattle.grasp_pool.specs.Functions.{pool_of};
-ghost use Rattle.grasp_network.specs.Plans.{IsNode, IsGoodPlan};
-ghost use Rattle.grasp_network.specs.Runs.{fresh_seat, first_seat, world_of};
+ghost use Rattle.grasp_model_network.specs.Plans.{IsNode, IsGoodPlan};
+ghost use Rattle.grasp_model_network.specs.Runs.{fresh_seat, first_seat, world_of};
 ghost use Rattle.grasp_simulator.specs.Seats.{SeatStands, SeatsStand};
-ghost use Rattle.grasp_network.specs.Setting.{others_on, script_number, script_address, script_locator, script_seed, script_neighbour, script_links, script_node, script_roots, script_member, is_on};
+ghost use Rattle.grasp_model_network.specs.Setting.{others_on, script_number, script_address, script_locator, script_seed, script_neighbour, script_links, script_node, script_roots, script_member, is_on};
 
 use crate::seat::Seat;
 use grasp_agent::PrefixAgent;
 use grasp_cbor::OutOfMemory;
-use grasp_core::{NodeCore, NodePlan, PlanFault};
-use grasp_network::{Members, WorldPlan};
+use grasp_core::{NodeCore, PlanFault};
+use grasp_model_network::{Members, WorldPlan};
+use grasp_model_node::NodePlan;
 use grasp_pool::{PoolFault, RootPrefix};
 use grasp_types::{Address, LinkLists, List, Locator, Neighbour, Neighbours, Proto};
 use std::alloc::Global;

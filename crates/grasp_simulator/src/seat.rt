@@ -2,11 +2,11 @@
 
 ghost use Rattle.std.specs.Prelude.{◌≡◌, ◌≤◌, IfOk, OnOk};
 ghost use Rattle.grasp_agent.specs.Replies.{want_reply};
-ghost use Rattle.grasp_core.specs.Begin.{begin};
-ghost use Rattle.grasp_core.specs.Draining.{drained};
+ghost use Rattle.grasp_model_node.specs.Begin.{begin};
+ghost use Rattle.grasp_model_node.specs.Draining.{drained};
 ghost use Rattle.grasp_simulator.specs.Seats.{SeatStands, Sitting, SeatMeets, SeatStepped, AgentStepped, clocked, drained_seat, wanted};
-ghost use Rattle.grasp_network.specs.Visits.{is_starved};
-ghost use Rattle.grasp_network.specs.World.{Seat as SeatState};
+ghost use Rattle.grasp_model_network.specs.Visits.{is_starved};
+ghost use Rattle.grasp_model_network.specs.World.{Seat as SeatState};
 
 use grasp_agent::{Agent, PrefixAgent, WantFault};
 use grasp_cbor::OutOfMemory;

@@ -1,12 +1,12 @@
 //! The table of the streams of a network.
 
 ghost use Rattle.std.specs.Prelude.{◌≡◌, ◌+◌, ◌<◌, ℕ, List, [], length, nat_le, option_map, slice_get, OnOk, OnErr, IfSome};
-ghost use Rattle.grasp_core.specs.Queue.{encoding};
+ghost use Rattle.grasp_model_node.specs.Queue.{encoding};
 ghost use Rattle.grasp_types.specs.declared.message.Message.{Message};
-ghost use Rattle.grasp_network.specs.Talks.{TalkState, talk_numbered, change_at_end, told_closed, with_delivered, with_ended, with_number, with_sent, with_side};
-ghost use Rattle.grasp_network.specs.Setting.{numbered};
+ghost use Rattle.grasp_model_network.specs.Streams.{StreamState, stream_numbered, change_at_end, told_closed, with_delivered, with_ended, with_number, with_sent, with_side};
+ghost use Rattle.grasp_model_network.specs.Setting.{numbered};
 ghost use Rattle.grasp_simulator.specs.StreamParts.{no_sent, first_stream, side_of, piece_at};
-ghost use Rattle.grasp_network_streams.specs.Ready.{AreSent, IsDialOf};
+ghost use Rattle.grasp_laws_delivery.specs.Ready.{AreSent, IsDialOf};
 ghost use Rattle.grasp_simulator.specs.Arriving.{Opens};
 ghost use Rattle.grasp_simulator.specs.StreamsStand.{StreamsStand, most_streams, ChangesAt, IsTalk, end_here, dial_at, near_place, far_here, place_in};
 
@@ -102,7 +102,9 @@ impl Streams {
     /// of the table.
     pub(crate) fn dial(&mut self, node: u8, number: u64, to: Locator) -> Result<(), OutOfMemory>
         requires { length self.old.list.items < most_streams }
-        ensures stands { OnOk result ((ts : List TalkState) (dials : ℕ) → IsDialOf ts (end_here node number) to → StreamsStand self.old ts dials → StreamsStand self.new (change_at_end ts (end_here node number) (with_number (dials + 1))) (dials + 1)) }
+        ensures stands { OnOk result ((ts : List StreamState) (dials : ℕ) → IsDialOf ts (end_here node number) to
+            → StreamsStand self.old ts dials
+            → StreamsStand self.new (change_at_end ts (end_here node number) (with_number (dials + 1))) (dials + 1)) }
     {
         let alloc = *self.near.allocator();
         self.list.push(first_stream(alloc, node, number, to))?;
@@ -113,7 +115,8 @@ impl Streams {
 
     /// The side with this end has ended its direction, of which nothing is kept.
     pub(crate) fn close(&mut self, node: u8, number: u64)
-        ensures stands { (ts : List TalkState) (dials : ℕ) → StreamsStand self.old ts dials → StreamsStand self.new (change_at_end ts (end_here node number) with_ended) dials }
+        ensures stands { (ts : List StreamState) (dials : ℕ) → StreamsStand self.old ts dials
+            → StreamsStand self.new (change_at_end ts (end_here node number) with_ended) dials }
     {}
 
     /// The stream at this place.
@@ -126,7 +129,8 @@ impl Streams {
     /// The stream of this number among the dials that were sent.
     pub(crate) fn get(&self, k: u64) -> Option<&Stream>
         ensures stream { option_map (λ code. code.now) result ≡ numbered self.now.list.items k }
-        ensures stands { (ts : List TalkState) (dials : ℕ) → StreamsStand self.now ts dials → IsTalk k (numbered self.now.list.items k) (talk_numbered ts k) }
+        ensures stands { (ts : List StreamState) (dials : ℕ) → StreamsStand self.now ts dials
+            → IsTalk k (numbered self.now.list.items k) (stream_numbered ts k) }
     {
         if k == 0 {
             return None;
@@ -159,7 +163,9 @@ impl Streams {
 
     /// The stream with this end sends these bytes, where there is one. After an `Err` nothing has changed.
     pub(crate) fn send(&mut self, node: u8, number: u64, bytes: &[u8]) -> Result<(), OutOfMemory>
-        ensures stands { OnOk result ((ts : List TalkState) (dials : ℕ) (m : Message) → bytes.now ≡ encoding m → AreSent ts (end_here node number) → StreamsStand self.old ts dials → StreamsStand self.new (change_at_end ts (end_here node number) (with_sent m)) dials) }
+        ensures stands { OnOk result ((ts : List StreamState) (dials : ℕ) (m : Message) → bytes.now ≡ encoding m
+            → AreSent ts (end_here node number) → StreamsStand self.old ts dials
+            → StreamsStand self.new (change_at_end ts (end_here node number) (with_sent m)) dials) }
         ensures streams_stay { OnErr result (self.new.list.items ≡ self.old.list.items) }
         ensures index_stays { OnErr result (self.new.near ≡ self.old.near) }
     {

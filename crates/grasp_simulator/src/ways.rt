@@ -1,13 +1,13 @@
 //! The ways that datagrams go.
 
 ghost use Rattle.std.specs.Prelude.{◌≡◌, ◌≤◌, ◌==◌, length, option_map, position, slice_get, Some, IfOk};
-ghost use Rattle.grasp_network.specs.Routes.{place_among};
-ghost use Rattle.grasp_network.specs.Setting.{line_of, lines_of, others_on};
+ghost use Rattle.grasp_model_network.specs.Routes.{place_among};
+ghost use Rattle.grasp_model_network.specs.Setting.{line_of, lines_of, others_on};
 ghost use Rattle.grasp_simulator.specs.Sends.{made_way, IsWay};
 
 use crate::opening::is_on;
 use grasp_cbor::OutOfMemory;
-use grasp_network::Members;
+use grasp_model_network::Members;
 use grasp_types::List;
 use std::alloc::Global;
 

@@ -2,7 +2,7 @@
 
 ghost use Rattle.std.specs.Prelude.{◌≡◌, ◌↔◌, ◌-◌, IsTrue, Some, length, slice_get};
 ghost use Rattle.grasp_simulator.specs.Contract.{WorldOpened};
-ghost use Rattle.grasp_network.specs.Plans.{IsGoodPlan, IsNode};
+ghost use Rattle.grasp_model_network.specs.Plans.{IsGoodPlan, IsNode};
 ghost use Rattle.grasp_simulator.specs.WorldStands.{WorldStands, HasNode, LendsCore, LendsAgent, TellsPlace};
 
 use crate::opening::open_seats;
@@ -13,7 +13,7 @@ use crate::streams::Streams;
 use grasp_agent::PrefixAgent;
 use grasp_cbor::OutOfMemory;
 use grasp_core::NodeCore;
-use grasp_network::{WorldPlan, WorldStop};
+use grasp_model_network::{WorldPlan, WorldStop};
 use grasp_types::List;
 use std::alloc::Global;
 

@@ -1,14 +1,14 @@
 //! Calls of the agents of a network's nodes.
 
 ghost use Rattle.std.specs.Prelude.{◌≡◌, length, IfOk};
-ghost use Rattle.grasp_network.specs.Plans.{IsNode};
-ghost use Rattle.grasp_network.specs.declared.event.Event.TheVariants as event;
+ghost use Rattle.grasp_model_network.specs.Plans.{IsNode};
+ghost use Rattle.grasp_model_network.specs.declared.event.Event.TheVariants as event;
 ghost use Rattle.grasp_simulator.specs.WorldSteps.{Runs};
 
 use crate::world::World;
 use grasp_cbor::OutOfMemory;
-use grasp_network::Report;
-use grasp_network_streams::streams_are_ready;
+use grasp_laws_delivery::streams_are_ready;
+use grasp_model_network::Report;
 
 impl World {
     /// The agent of a node makes its next call.

@@ -1,8 +1,8 @@
 //! Streams that are opened where they were dialled to.
 
 ghost use Rattle.std.specs.Prelude.{◌≡◌, length, IfOk, OnErr};
-ghost use Rattle.grasp_network.specs.Setting.{numbered};
-ghost use Rattle.grasp_network.specs.declared.event.Event.TheVariants as event;
+ghost use Rattle.grasp_model_network.specs.Setting.{numbered};
+ghost use Rattle.grasp_model_network.specs.declared.event.Event.TheVariants as event;
 ghost use Rattle.grasp_simulator.specs.Arriving.{listener_from, waiting_in, is_taken};
 ghost use Rattle.grasp_simulator.specs.WorldSteps.{Runs, MayStarve};
 
@@ -11,8 +11,8 @@ use crate::seat::is_starved;
 use crate::stream::{Standing, far_number};
 use crate::world::World;
 use grasp_cbor::OutOfMemory;
-use grasp_network::Report;
-use grasp_network_streams::streams_are_ready;
+use grasp_laws_delivery::streams_are_ready;
+use grasp_model_network::Report;
 use grasp_types::{Input, Locator, Reply};
 
 /// A stream that isn't opened yet: the node that dialled, and the one that listens where it dialled to.

@@ -1,14 +1,14 @@
 //! Sides of streams that are told that their stream is closed.
 
 ghost use Rattle.std.specs.Prelude.{◌≡◌, length, IfOk, OnErr};
-ghost use Rattle.grasp_network.specs.declared.event.Event.TheVariants as event;
+ghost use Rattle.grasp_model_network.specs.declared.event.Event.TheVariants as event;
 ghost use Rattle.grasp_simulator.specs.WorldSteps.{Runs, MayStarve};
 
 use crate::seat::is_starved;
 use crate::world::World;
 use grasp_cbor::OutOfMemory;
-use grasp_network::Report;
-use grasp_network_streams::streams_are_ready;
+use grasp_laws_delivery::streams_are_ready;
+use grasp_model_network::Report;
 use grasp_types::Input;
 
 impl World {

@@ -2,8 +2,8 @@
 
 ghost use Rattle.std.specs.Prelude.{◌≡◌, length, option_map, IfOk, OnErr};
 ghost use Rattle.grasp_cbor.specs.Bytes.{AllBytes};
-ghost use Rattle.grasp_network.specs.Setting.{numbered};
-ghost use Rattle.grasp_network.specs.declared.event.Event.TheVariants as event;
+ghost use Rattle.grasp_model_network.specs.Setting.{numbered};
+ghost use Rattle.grasp_model_network.specs.declared.event.Event.TheVariants as event;
 ghost use Rattle.grasp_simulator.specs.WorldSteps.{Runs, MayStarve};
 
 use crate::parcel::Parcel;
@@ -11,8 +11,8 @@ use crate::seat::is_starved;
 use crate::world::World;
 use crate::world_pieces::are_bytes;
 use grasp_cbor::{Octets, OutOfMemory};
-use grasp_network::Report;
-use grasp_network_streams::streams_are_ready;
+use grasp_laws_delivery::streams_are_ready;
+use grasp_model_network::Report;
 use grasp_types::Input;
 
 impl World {

@@ -1,10 +1,10 @@
 //! What happens in a network.
 
 ghost use Rattle.std.specs.Prelude.{◌≡◌, None, Some, length, IfOk, OnErr};
-ghost use Rattle.grasp_network.specs.Events.{AreLengths};
-ghost use Rattle.grasp_network.specs.Plans.{IsNode};
-ghost use Rattle.grasp_network.specs.declared.event.Event.TheVariants as event;
-ghost use Rattle.grasp_network.specs.declared.report.Report.TheVariants as report;
+ghost use Rattle.grasp_model_network.specs.Events.{AreLengths};
+ghost use Rattle.grasp_model_network.specs.Plans.{IsNode};
+ghost use Rattle.grasp_model_network.specs.declared.event.Event.TheVariants as event;
+ghost use Rattle.grasp_model_network.specs.declared.report.Report.TheVariants as report;
 ghost use Rattle.grasp_simulator.specs.WorldSteps.{IsAsked, Runs, MayStarve, Ends, Stepped};
 
 use crate::opening::locator_of;
@@ -12,8 +12,8 @@ use crate::seat::is_starved;
 use crate::world::World;
 use grasp_agent::WantFault;
 use grasp_cbor::OutOfMemory;
-use grasp_network::{Event, Report, WorldStop};
-use grasp_network_streams::streams_are_ready;
+use grasp_laws_delivery::streams_are_ready;
+use grasp_model_network::{Event, Report, WorldStop};
 use grasp_types::{Call, Input};
 
 /// So many bytes of datagrams and streams may be sent.

@@ -1,7 +1,7 @@
 //! What nodes of a network send.
 
 ghost use Rattle.std.specs.Prelude.{◌≡◌, ◌+◌, length, min, OnOk, IfOk};
-ghost use Rattle.grasp_network.specs.Plans.{IsNode};
+ghost use Rattle.grasp_model_network.specs.Plans.{IsNode};
 ghost use Rattle.grasp_simulator.specs.Sends.{Posts, Puts, HandsOver, Sends, SendsBehind};
 ghost use Rattle.grasp_simulator.specs.WorldStands.{most_count};
 
@@ -9,7 +9,7 @@ use crate::parcel::Parcel;
 use crate::ways::way_to;
 use crate::world::World;
 use grasp_cbor::{Octets, OutOfMemory};
-use grasp_network_streams::streams_are_ready;
+use grasp_laws_delivery::streams_are_ready;
 use grasp_types::{Output, Plain};
 
 /// So many outputs are sent behind an event.

@@ -1,10 +1,10 @@
 -- The words of a message are of visible characters: none holds a blank, so a line has its message's words.
-use Rattle.std.proofs.Common.{◌≡◌, ℕ, zero, suc, ◌/◌, ◌%◌, ◌^◌, ◌<◌, ◌≤◌, Bool, true, false, cond, not, ◌&&◌, eqb, leb, List, [], ◌∷◌, ◌++◌, length, get_or, Option, Some, None, refl, sym, ap, subst, ◌∙◌, arith}
+use Rattle.std.proofs.Common.{◌≡◌, ℕ, suc, ◌/◌, ◌%◌, ◌^◌, ◌<◌, ◌≤◌, Bool, true, false, cond, not, ◌&&◌, eqb, leb, List, [], ◌∷◌, ◌++◌, length, get_or, Option, Some, None, refl, sym, ap, subst, ◌∙◌, arith}
 use Rattle.std.specs.List.{AllByRecursion}
 use Rattle.std.specs.Prelude.{IfSome, codes, decimal, slice_index, All}
 use Rattle.std.specs.Int.{to_be_bytes, w32, w128}
 use Rattle.std.specs.Str.{IsUtf8}
-use Rattle.std.proofs.lemmas.Bool.{ne_eqb, and_parts, le-leb, leb-true}
+use Rattle.std.proofs.lemmas.Bool.{ne_eqb, and_parts, le-leb, leb-true, and_from}
 use Rattle.std.proofs.lemmas.List.Elements.{All-from_recursion, All-head, All-tail}
 use Rattle.std.proofs.lemmas.List.Splits.{slice_split_none, slice_split_at}
 use Rattle.hex.specs.Hex.{encode_with, encode_lower, lower_digits}
@@ -51,15 +51,12 @@ all_visible (c ∷ w) = is_visible c && all_visible w
 pub record Visible (w : List ℕ) : Type 0 where
   pub all : all_visible w ≡ true
 
-both_true : (a b : Bool) → a ≡ true → b ≡ true → (a && b) ≡ true
-both_true a b p q = ap (λ (x : Bool). x && b) p ∙ q
-
 visible_byte : (c : ℕ) → 33 ≤ c → c ≤ 126 → is_visible c ≡ true
-visible_byte c p q = both_true (leb 33 c) (leb c 126) (le-leb 33 c p) (le-leb c 126 q)
+visible_byte c p q = and_from (leb 33 c) (leb c 126) (le-leb 33 c p) (le-leb c 126 q)
 
 visible_cons : (c : ℕ) (w : List ℕ) → is_visible c ≡ true → Visible w → Visible (c ∷ w)
 unfolding all_visible
-visible_cons c w e h = record { all = both_true (is_visible c) (all_visible w) e h.all }
+visible_cons c w e h = record { all = and_from (is_visible c) (all_visible w) e h.all }
 
 visible_nil : Visible []
 unfolding all_visible
@@ -71,7 +68,7 @@ visible_append_at [] b p q = q
 visible_append_at (c ∷ a) b p q =
     let h = and_parts (is_visible c) (all_visible a) p in
     let r = visible_append_at a b h.1 q in
-    record { all = both_true (is_visible c) (all_visible (a ++ b)) h.0 r.all }
+    record { all = and_from (is_visible c) (all_visible (a ++ b)) h.0 r.all }
 
 visible_append : (a b : List ℕ) → Visible a → Visible b → Visible (a ++ b)
 visible_append a b p q = visible_append_at a b p.all q
@@ -84,23 +81,8 @@ number_visible : (n : ℕ) → n < 2 ^ 64 → Visible (decimal n)
 number_visible n lt = by_bytes (decimal n) (λ i inside. let d = number_digit n i lt inside in let u = number_digit_most n i lt inside in (omega arith, omega arith))
 
 digit_visible : (d : ℕ) → d < 16 → is_visible (slice_index lower_digits d) ≡ true
-digit_visible zero lt = refl
-digit_visible (suc zero) lt = refl
-digit_visible (suc (suc zero)) lt = refl
-digit_visible (suc (suc (suc zero))) lt = refl
-digit_visible (suc (suc (suc (suc zero)))) lt = refl
-digit_visible (suc (suc (suc (suc (suc zero))))) lt = refl
-digit_visible (suc (suc (suc (suc (suc (suc zero)))))) lt = refl
-digit_visible (suc (suc (suc (suc (suc (suc (suc zero))))))) lt = refl
-digit_visible (suc (suc (suc (suc (suc (suc (suc (suc zero)))))))) lt = refl
-digit_visible (suc (suc (suc (suc (suc (suc (suc (suc (suc zero))))))))) lt = refl
-digit_visible (suc (suc (suc (suc (suc (suc (suc (suc (suc (suc zero)))))))))) lt = refl
-digit_visible (suc (suc (suc (suc (suc (suc (suc (suc (suc (suc (suc zero))))))))))) lt = refl
-digit_visible (suc (suc (suc (suc (suc (suc (suc (suc (suc (suc (suc (suc zero)))))))))))) lt = refl
-digit_visible (suc (suc (suc (suc (suc (suc (suc (suc (suc (suc (suc (suc (suc zero))))))))))))) lt = refl
-digit_visible (suc (suc (suc (suc (suc (suc (suc (suc (suc (suc (suc (suc (suc (suc zero)))))))))))))) lt = refl
-digit_visible (suc (suc (suc (suc (suc (suc (suc (suc (suc (suc (suc (suc (suc (suc (suc zero))))))))))))))) lt = refl
 digit_visible (suc (suc (suc (suc (suc (suc (suc (suc (suc (suc (suc (suc (suc (suc (suc (suc n)))))))))))))))) lt = absurd (omega arith)
+digit_visible _ lt = refl
 
 pub hex_visible : (bytes : List ℕ) → AllBytes bytes → Visible (encode_lower bytes)
 unfolding encode_with

@@ -45,7 +45,7 @@ bytes_set (x ∷ xs) zero byte h lt (suc k) = h (suc k)
 bytes_set (x ∷ xs) (suc i) byte h lt zero = h zero
 bytes_set (x ∷ xs) (suc i) byte h lt (suc k) = bytes_set xs i byte (λ m. h (suc m)) lt k
 
--- and where the first of them are taken
+-- bytes stay bytes where only the first so many of them are taken
 pub bytes_taken : (n : ℕ) (xs : List ℕ) → IsBytes xs → IsBytes (take n xs)
 bytes_taken zero xs h k = omega arith
 bytes_taken (suc n) [] h k = h k

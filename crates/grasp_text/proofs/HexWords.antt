@@ -1,14 +1,15 @@
 -- Numbers as hexadecimal words.
 use Rattle.std.proofs.Common.{◌≡◌, ℕ, zero, suc, ◌*◌, ◌^◌, ◌<◌, Bool, true, false, cond, List, [], ◌∷◌, ◌++◌, length, Some, None, Result, Ok, Err, refl, sym, ap, subst, ◌∙◌, append_assoc, arith}
-use Rattle.std.specs.Int.{Width, w32, w128, byte_len, byte_at, bytes_high_first, from_be_bytes, to_be_bytes}
+use Rattle.std.specs.Int.{Width, w32, w128, byte_len, bytes_high_first, from_be_bytes, to_be_bytes}
 use Rattle.std.specs.Str.{bytes_eq}
 use Rattle.std.proofs.lemmas.List.{append-nil}
 use Rattle.std.proofs.lemmas.Nat.{be_bytes_4, from_be_bytes-to_be_bytes_4}
 use Rattle.std.proofs.lemmas.Slice.Eq.{bytes_eq-Decides}
+use Rattle.grasp_cbor.proofs.Facts.Numbers.{byte_below, back_16}
 use Rattle.hex.specs.Hex.{IsBytes, decode_of, decode_sized, encode_lower, lower_digits}
 use Rattle.hex.specs.declared.error.FromHexError.{FromHexError}
 use Rattle.hex.proofs.HexLemmas.{decode_of-encode_lower, decode_of-ok, decode_sized-ok, decode_sized-twice, length-encode_with}
-use Rattle.grasp_types.proofs.BigEndian.{be_bytes_16, joined, joined-to_be_bytes_16}
+use Rattle.grasp_types.proofs.BigEndian.{be_bytes_16}
 use Rattle.grasp_text.specs.Line.{v4_word, v6_word}
 use Rattle.grasp_text.specs.Reading.{number_of_hex, v4_of, v6_of}
 use Rattle.grasp_text.proofs.Lawful.{Exact}
@@ -23,21 +24,10 @@ pub record IsWide (w : Width) (limit : ℕ) : Type 0 where
   pub again : (n : ℕ) → n < limit → from_be_bytes w (to_be_bytes w n) ≡ n
   pub below : (bytes : List ℕ) → IsBytes bytes → from_be_bytes w bytes < limit
 
-byte_at-small : (k n : ℕ) → byte_at k n < 256
-byte_at-small zero n = omega arith
-byte_at-small (suc k) n = omega arith
-
 bytes_small : (k n : ℕ) → IsBytes (bytes_high_first k n)
 bytes_small zero n i = omega arith
-bytes_small (suc k) n zero = byte_at-small k n
+bytes_small (suc k) n zero = byte_below k n
 bytes_small (suc k) n (suc i) = bytes_small k n i
-
-sum_of_16 : (a b c d e f g h j k l m n p q r : ℕ)
-    → from_be_bytes w128 (a ∷ b ∷ c ∷ d ∷ e ∷ f ∷ g ∷ h ∷ j ∷ k ∷ l ∷ m ∷ n ∷ p ∷ q ∷ r ∷ []) ≡ joined 0 (a ∷ b ∷ c ∷ d ∷ e ∷ f ∷ g ∷ h ∷ j ∷ k ∷ l ∷ m ∷ n ∷ p ∷ q ∷ r ∷ [])
-sum_of_16 a b c d e f g h j k l m n p q r = omega arith
-
-again_16 : (n : ℕ) → n < 2 ^ 128 → from_be_bytes w128 (to_be_bytes w128 n) ≡ n
-again_16 n lt = sum_of_16 (byte_at 15 n) (byte_at 14 n) (byte_at 13 n) (byte_at 12 n) (byte_at 11 n) (byte_at 10 n) (byte_at 9 n) (byte_at 8 n) (byte_at 7 n) (byte_at 6 n) (byte_at 5 n) (byte_at 4 n) (byte_at 3 n) (byte_at 2 n) (byte_at 1 n) (byte_at 0 n) ∙ joined-to_be_bytes_16 n lt
 
 pub wide32 : IsWide w32 (2 ^ 32)
 wide32 = record {
@@ -53,7 +43,7 @@ wide128 = record {
   len = λ n. refl;
   small = λ n. bytes_small 16 n;
   back = λ bytes len fits. be_bytes_16 bytes _ len fits refl;
-  again = again_16;
+  again = back_16;
   below = λ bytes fits. omega (arith, fits 0, fits 1, fits 2, fits 3, fits 4, fits 5, fits 6, fits 7, fits 8, fits 9, fits 10, fits 11, fits 12, fits 13, fits 14, fits 15);
 }
 

@@ -142,7 +142,7 @@ module _ {A B : Type 0} (k : ℕ) (F : List (List ℕ) → Type 0) (Is : A → L
 
 -- ---- no more words
 
--- this value, and no words
+-- the value is this one, and there are no words
 pub record Only {B : Type 0} (b c : B) (ws : List (List ℕ)) : Type 0 where
   pub value : c ≡ b
   pub words : ws ≡ []

@@ -7,20 +7,18 @@ use Rattle.std.specs.Str.{IsUtf8, is_utf8, bytes_eq}
 use Rattle.std.proofs.lemmas.Bool.{cases_lt, lt-ltb, le-ltb, eqb-true, leb-true, and_parts}
 use Rattle.std.proofs.lemmas.Slice.Eq.{bytes_eq-Decides}
 use Rattle.std.proofs.lemmas.Str.{is_utf8-from_IsUtf8, IsUtf8-from_is_utf8}
+use Rattle.grasp_cbor.proofs.Facts.Lists.{same_word}
 use Rattle.hex.specs.Hex.{lower_digits}
 use Rattle.grasp_text.specs.Line.{escaped, all_escaped, text_word}
 use Rattle.grasp_text.specs.Reading.{unescaped, first_unescaped, behind_percent, paired, onto, as_text, byte_of, escaped_byte, is_plain, digit_of, text_of, text_behind, behind_byte, absent_or, some_of, exactly}
 use Rattle.grasp_text.proofs.Lawful.{Exact}
 use Rattle.grasp_text.proofs.NumberWords.{some, some_is}
-use Rattle.grasp_text.proofs.TextWords.{then_unescaped, unescaped_first}
+use Rattle.grasp_text.proofs.TextWords.{then_unescaped, unescaped_first, escaped_plain}
 
 -- ---- words that are spelled out
 
 pub record Spelled {A : Type 0} (spell : A → List ℕ) (a : A) (word : List ℕ) : Type 0 where
   pub spelled : word ≡ spell a
-
-pub same_word : (word expected : List ℕ) → word ≡ expected → bytes_eq word expected ≡ true
-same_word word expected e = (bytes_eq-Decides word expected).1 e
 
 spelled_at : {A : Type 0} (spell : A → List ℕ) (x a : A) (word expected : List ℕ) (other : Option A) (b : Bool) → bytes_eq word expected ≡ b → expected ≡ spell a → (other ≡ Some x → word ≡ spell x) → cond b (some a) other ≡ Some x → word ≡ spell x
 spelled_at spell x a word expected other true t is h e = (bytes_eq-Decides word expected).0 t ∙ is ∙ ap spell (some_is a x e)
@@ -114,46 +112,17 @@ text_bytes s u = subst AreBytes u.1.1 (encodes_small u.0 u.1.0)
 -- the digits
 
 pub digit_again : (d : ℕ) → d < 16 → digit_of (slice_index lower_digits d) ≡ Some d
-digit_again zero lt = refl
-digit_again (suc zero) lt = refl
-digit_again (suc (suc zero)) lt = refl
-digit_again (suc (suc (suc zero))) lt = refl
-digit_again (suc (suc (suc (suc zero)))) lt = refl
-digit_again (suc (suc (suc (suc (suc zero))))) lt = refl
-digit_again (suc (suc (suc (suc (suc (suc zero)))))) lt = refl
-digit_again (suc (suc (suc (suc (suc (suc (suc zero))))))) lt = refl
-digit_again (suc (suc (suc (suc (suc (suc (suc (suc zero)))))))) lt = refl
-digit_again (suc (suc (suc (suc (suc (suc (suc (suc (suc zero))))))))) lt = refl
-digit_again (suc (suc (suc (suc (suc (suc (suc (suc (suc (suc zero)))))))))) lt = refl
-digit_again (suc (suc (suc (suc (suc (suc (suc (suc (suc (suc (suc zero))))))))))) lt = refl
-digit_again (suc (suc (suc (suc (suc (suc (suc (suc (suc (suc (suc (suc zero)))))))))))) lt = refl
-digit_again (suc (suc (suc (suc (suc (suc (suc (suc (suc (suc (suc (suc (suc zero))))))))))))) lt = refl
-digit_again (suc (suc (suc (suc (suc (suc (suc (suc (suc (suc (suc (suc (suc (suc zero)))))))))))))) lt = refl
-digit_again (suc (suc (suc (suc (suc (suc (suc (suc (suc (suc (suc (suc (suc (suc (suc zero))))))))))))))) lt = refl
 digit_again (suc (suc (suc (suc (suc (suc (suc (suc (suc (suc (suc (suc (suc (suc (suc (suc n)))))))))))))))) lt = absurd (omega arith)
+digit_again _ lt = refl
 
 -- a digit to 9 is 48 and its value, one from 10 on 87 and its value
 decimal_digit_is : (d : ℕ) → d < 10 → slice_index lower_digits d ≡ 48 + d
-decimal_digit_is zero lt = refl
-decimal_digit_is (suc zero) lt = refl
-decimal_digit_is (suc (suc zero)) lt = refl
-decimal_digit_is (suc (suc (suc zero))) lt = refl
-decimal_digit_is (suc (suc (suc (suc zero)))) lt = refl
-decimal_digit_is (suc (suc (suc (suc (suc zero))))) lt = refl
-decimal_digit_is (suc (suc (suc (suc (suc (suc zero)))))) lt = refl
-decimal_digit_is (suc (suc (suc (suc (suc (suc (suc zero))))))) lt = refl
-decimal_digit_is (suc (suc (suc (suc (suc (suc (suc (suc zero)))))))) lt = refl
-decimal_digit_is (suc (suc (suc (suc (suc (suc (suc (suc (suc zero))))))))) lt = refl
 decimal_digit_is (suc (suc (suc (suc (suc (suc (suc (suc (suc (suc n)))))))))) lt = absurd (omega arith)
+decimal_digit_is _ lt = refl
 
 letter_digit_is : (e : ℕ) → e < 6 → slice_index lower_digits (10 + e) ≡ 97 + e
-letter_digit_is zero lt = refl
-letter_digit_is (suc zero) lt = refl
-letter_digit_is (suc (suc zero)) lt = refl
-letter_digit_is (suc (suc (suc zero))) lt = refl
-letter_digit_is (suc (suc (suc (suc zero)))) lt = refl
-letter_digit_is (suc (suc (suc (suc (suc zero))))) lt = refl
 letter_digit_is (suc (suc (suc (suc (suc (suc n)))))) lt = absurd (omega arith)
+letter_digit_is _ lt = refl
 
 pub record IsDigit (c d : ℕ) : Type 0 where
   pub small : d < 16
@@ -182,9 +151,6 @@ pub digit_only : (c d : ℕ) → digit_of c ≡ Some d → IsDigit c d
 digit_only c d e = digit_only_at c d (nat_within 48 57 c) (nat_within 97 102 c) refl refl e
 
 -- one byte
-
-escaped_plain : (b : ℕ) → is_plain b ≡ true → escaped b ≡ b ∷ []
-escaped_plain b e = ap (λ (p : Bool). cond p (b ∷ []) (37 ∷ slice_index lower_digits (b / 16) ∷ slice_index lower_digits (b % 16) ∷ [])) e
 
 escaped_other : (b : ℕ) → is_plain b ≡ false → escaped b ≡ 37 ∷ slice_index lower_digits (b / 16) ∷ slice_index lower_digits (b % 16) ∷ []
 escaped_other b e = ap (λ (p : Bool). cond p (b ∷ []) (37 ∷ slice_index lower_digits (b / 16) ∷ slice_index lower_digits (b % 16) ∷ [])) e

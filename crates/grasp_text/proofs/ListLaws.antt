@@ -4,6 +4,7 @@ use Rattle.std.specs.List.{AllByRecursion}
 use Rattle.std.specs.Prelude.{IfSome, codes, All}
 use Rattle.std.proofs.lemmas.List.{append-nil}
 use Rattle.std.proofs.lemmas.List.Elements.{All-from_recursion, All-head, All-tail}
+use Rattle.grasp_cbor.proofs.Facts.Bools.{chosen_yes, chosen_no}
 use Rattle.grasp_types.specs.Address.{IsLocator}
 use Rattle.grasp_types.specs.Message.{AreLocators, AreFloodParts, IsFloodPart}
 use Rattle.grasp_types.specs.declared.address.Locator.{Locator}
@@ -330,12 +331,6 @@ flood_parts_lawful k = restated k Nothing (Then PartWords (λ p. MoreParts (p �
 pub answers_over : (before : List Locator) (ws : List (List ℕ)) (total : Parsed Answers) → is_over ws ≡ true → locators_at before ws ≡ total → total ≡ Ok ((before, None), ws)
 answers_over before [] total over e = sym e ∙ locators_again before []
 answers_over before (w ∷ ws) total over e = absurd (let z = over in cc)
-
-chosen_yes : {A : Type 0} (b : Bool) (x y : A) → b ≡ true → cond b x y ≡ x
-chosen_yes b x y e = ap (λ (t : Bool). cond t x y) e
-
-chosen_no : {A : Type 0} (b : Bool) (x y : A) → b ≡ false → cond b x y ≡ y
-chosen_no b x y e = ap (λ (t : Bool). cond t x y) e
 
 -- an objective is next
 pub answers_objective : (before : List Locator) (ws : List (List ℕ)) (total : Parsed Answers) → is_next (codes "obj") ws ≡ true → locators_at before ws ≡ total → total ≡ (final_objective_at ws >>= λ objective. Ok ((before, Some objective.0), objective.1))

@@ -62,16 +62,7 @@ message_tail (message.Invalid session detail) = decimal session ∷ or_dash valu
 
 pub message_all : (m : Message) → message_words m ≡ name_word (message_name m) ∷ message_tail m
 message_all message.Noop = refl
-message_all (message.Discovery session initiator objective) = refl
-message_all (message.Response session initiator ttl answer objective) = refl
-message_all (message.ReqNeg session objective) = refl
-message_all (message.ReqSyn session objective) = refl
-message_all (message.Negotiate session objective) = refl
-message_all (message.End session verdict) = refl
-message_all (message.Wait session millis) = refl
-message_all (message.Synch session objective) = refl
-message_all (message.Flood session initiator ttl parts) = refl
-message_all (message.Invalid session detail) = refl
+message_all _ = refl
 
 -- the words behind the name of this message
 record NamedWords (n : MessageName) (m : Message) (ws : List (List ℕ)) : Type 0 where

@@ -351,9 +351,7 @@ HostThen = WordThen (Spelled host_word) HostWords
 
 locator_all : (l : Locator) → locator_words l ≡ host_word (host_in l) ∷ words_behind l
 locator_all (V6 n proto port) = refl
-locator_all (V4 n proto port) = refl
-locator_all (Fqdn name proto port) = refl
-locator_all (Uri text proto port) = refl
+locator_all _ = refl
 
 pub locator_to : (l : Locator) (ws : List (List ℕ)) → HostThen l ws → LocatorWords l ws
 locator_to l ws t =
@@ -379,9 +377,7 @@ locator_takes l w = absurd (omega (arith, ap length (w.spelled ∙ locator_all l
 
 no_objective : (h : Host) → begins_objective (host_word h) ≡ false
 no_objective Ipv6 = refl
-no_objective Ipv4 = refl
-no_objective Domain = refl
-no_objective Resource = refl
+no_objective _ = refl
 
 pub locator_starts : (l : Locator) (ws : List (List ℕ)) → LocatorWords l ws → Starts begins_objective false ws
 locator_starts l ws w = record { word = host_word (host_in l); others = words_behind l; parts = w.spelled ∙ locator_all l; says = no_objective (host_in l) }

@@ -1,21 +1,15 @@
 -- Prefixes as words.
-use Rattle.std.proofs.Common.{◌≡◌, ℕ, ◌≤◌, Bool, true, false, cond, ltb, List, [], ◌∷◌, ◌++◌, length, take, drop, Option, Some, None, refl, sym, ap, subst, ◌∙◌, append_assoc, arith}
-use Rattle.std.specs.Int.{to_be_bytes, w128}
+use Rattle.std.proofs.Common.{◌≡◌, ℕ, ◌≤◌, Bool, false, cond, ltb, List, [], ◌∷◌, ◌++◌, length, take, drop, Option, Some, None, refl, sym, ap, subst, ◌∙◌, append_assoc, arith}
 use Rattle.std.specs.Prelude.{decimal, IfSome, IfNone}
 use Rattle.std.proofs.lemmas.Bool.{le-ltb}
 use Rattle.std.proofs.lemmas.List.{append-nil, take_at, drop_at, take-append-drop, length-append}
-use Rattle.hex.specs.Hex.{lower_digits}
-use Rattle.hex.proofs.HexLemmas.{length-encode_with}
 use Rattle.grasp_types.specs.Prefix.{AddressBlock, IsPrefix}
 use Rattle.grasp_text.specs.Line.{v6_word, prefix_word}
 use Rattle.grasp_text.specs.Reading.{behind_byte, block_of, then_some, number_of, v6_of}
 use Rattle.grasp_text.proofs.HexWords.{v6_exact}
 use Rattle.grasp_text.proofs.Leaves.{behind_only}
 use Rattle.grasp_text.proofs.NumberWords.{number_only, number_found, some, some_is}
-
--- a prefix's word has 32 digits before the slash
-v6_long : (n : ℕ) → length (v6_word n) ≡ 32
-v6_long n = length-encode_with lower_digits (to_be_bytes w128 n)
+use Rattle.grasp_text.proofs.SpelledWords.{v6_long}
 
 -- what stands in the word of a prefix
 pub record PrefixParts (address len : ℕ) (word : List ℕ) : Type 0 where
@@ -43,9 +37,6 @@ block_found p word is e =
     rw (le-ltb (length word) 32 h.long, h.digits, h.slash, h.number) refl
 
 block_only_at : (word : List ℕ) (short : Bool) (a : Option ℕ) (r : Option (List ℕ)) (x : ℕ × ℕ) → v6_of (take 32 word) ≡ a → behind_byte 47 (drop 32 word) ≡ r → cond short None (then_some a (λ a. then_some r (λ rest. then_some (number_of 255 rest) (λ n. some (a, n))))) ≡ Some x → word ≡ prefix_word (record { address = x.0; length = x.1 })
-block_only_at word true a r x d s e = absurd (let z : None ≡ some x = e in cc)
-block_only_at word false None r x d s e = absurd (let z : None ≡ some x = e in cc)
-block_only_at word false (Some a) None x d s e = absurd (let z : None ≡ some x = e in cc)
 block_only_at word false (Some a) (Some rest) x d s e = by_number (number_of 255 rest) refl e
   where
     by_number : (n : Option ℕ) → number_of 255 rest ≡ n → then_some n (λ n. some (a, n)) ≡ Some x → word ≡ prefix_word (record { address = x.0; length = x.1 })
@@ -56,6 +47,7 @@ block_only_at word false (Some a) (Some rest) x d s e = by_number (number_of 255
         let digits = number_only 255 rest len n in
         let made : word ≡ prefix_word (record { address = a; length = len }) = sym (take-append-drop 32 word) ∙ ap (λ (y : List ℕ). y ++ drop 32 word) front.digits ∙ ap (λ (y : List ℕ). v6_word a ++ y) (back ∙ ap (λ (y : List ℕ). 47 ∷ y) digits.digits) in
         subst (λ (y : ℕ × ℕ). word ≡ prefix_word (record { address = y.0; length = y.1 })) (some_is (a, len) x f) made
+block_only_at word _ _ _ x d s e = absurd (let z : None ≡ some x = e in cc)
 
 pub block_only : (word : List ℕ) (x : ℕ × ℕ) → block_of word ≡ Some x → word ≡ prefix_word (record { address = x.0; length = x.1 })
 unfolding block_of

@@ -1,14 +1,14 @@
 -- Words behind words.
 use Rattle.std.proofs.Common.{◌≡◌, ℕ, ◌+◌, ◌≤◌, List, [], ◌∷◌, ◌++◌, length, take, Some, Result, Ok, Err, refl, sym, ap, subst, ◌∙◌, append_assoc}
 use Rattle.std.specs.Prelude.{OnOk, OnErr}
-use Rattle.std.proofs.lemmas.List.{append-nil, take_all, take_more}
-use Rattle.std.proofs.lemmas.Option.{slice_get_within, get_or_from_slice_get}
+use Rattle.std.proofs.lemmas.List.{append-nil, take_all}
 use Rattle.std.specs.List.{AllByRecursion, slice_get}
+use Rattle.grasp_cbor.proofs.Places.{take_got}
 use Rattle.grasp_cbor.specs.Extends.{Extends}
 use Rattle.grasp_types.specs.declared.address.Locator.{Locator}
 use Rattle.grasp_types.specs.declared.flood.FloodPart.{FloodPart}
 use Rattle.grasp_types.specs.declared.message.Message.{Message}
-use Rattle.grasp_types.specs.declared.message.Message.TheVariants.{Noop, Discovery, Response, ReqNeg, ReqSyn, Negotiate, End, Wait, Synch, Flood, Invalid}
+use Rattle.grasp_types.specs.declared.message.Message.TheVariants.{Noop}
 use Rattle.grasp_text.specs.Line.{locator_words, all_locator_words, flood_part_words, all_flood_part_words, message_words}
 use Rattle.grasp_text.specs.Words.{spaced, joined}
 use Rattle.grasp_text.specs.Writing.{line_name, words_behind_name}
@@ -54,21 +54,18 @@ pub each_more : {A : Type 0} (P : A → Type 0) (xs : List A) (y : A) → AllByR
 each_more P [] y h p = (p, tt)
 each_more P (x ∷ xs) y h p = (h.0, each_more P xs y h.1 p)
 
-take_next : {A : Type 0} (xs : List A) (i : ℕ) (x : A) → slice_get xs i ≡ Some x → take (i + 1) xs ≡ take i xs ++ x ∷ []
-take_next xs i x e = take_more xs i x (slice_get_within xs i x e) ∙ ap (λ y. take i xs ++ y ∷ []) (get_or_from_slice_get xs i x x e)
-
 pub all_step : {A : Type 0} (P : A → Type 0) (xs : List A) (i : ℕ) (x : A) → slice_get xs i ≡ Some x → AllByRecursion P (take i xs) → P x → AllByRecursion P (take (i + 1) xs)
-all_step P xs i x e h p = subst (λ ys. AllByRecursion P ys) (sym (take_next xs i x e)) (each_more P (take i xs) x h p)
+all_step P xs i x e h p = subst (λ ys. AllByRecursion P ys) (sym (take_got xs i x e)) (each_more P (take i xs) x h p)
 
 pub locators_step : (ls : List Locator) (i : ℕ) (l : Locator) (old out new : List ℕ) → slice_get ls i ≡ Some l → out ≡ old ++ spaced (all_locator_words (take i ls)) → new ≡ out ++ spaced (locator_words l) → new ≡ old ++ spaced (all_locator_words (take (i + 1) ls))
 locators_step ls i l old out new e p q =
     some_pushed old out new (all_locator_words (take i ls)) (locator_words l) p q
-    ∙ ap (λ (x : List (List ℕ)). old ++ spaced x) (sym (ap all_locator_words (take_next ls i l e) ∙ all_locator_words-append (take i ls) (l ∷ []) ∙ ap (λ (x : List (List ℕ)). all_locator_words (take i ls) ++ x) (append-nil (locator_words l))))
+    ∙ ap (λ (x : List (List ℕ)). old ++ spaced x) (sym (ap all_locator_words (take_got ls i l e) ∙ all_locator_words-append (take i ls) (l ∷ []) ∙ ap (λ (x : List (List ℕ)). all_locator_words (take i ls) ++ x) (append-nil (locator_words l))))
 
 pub parts_step : (ps : List FloodPart) (i : ℕ) (p : FloodPart) (old out new : List ℕ) → slice_get ps i ≡ Some p → out ≡ old ++ spaced (all_flood_part_words (take i ps)) → new ≡ out ++ spaced (flood_part_words p) → new ≡ old ++ spaced (all_flood_part_words (take (i + 1) ps))
 parts_step ps i p old out new e a b =
     some_pushed old out new (all_flood_part_words (take i ps)) (flood_part_words p) a b
-    ∙ ap (λ (x : List (List ℕ)). old ++ spaced x) (sym (ap all_flood_part_words (take_next ps i p e) ∙ all_flood_part_words-append (take i ps) (p ∷ []) ∙ ap (λ (x : List (List ℕ)). all_flood_part_words (take i ps) ++ x) (append-nil (flood_part_words p))))
+    ∙ ap (λ (x : List (List ℕ)). old ++ spaced x) (sym (ap all_flood_part_words (take_got ps i p e) ∙ all_flood_part_words-append (take i ps) (p ∷ []) ∙ ap (λ (x : List (List ℕ)). all_flood_part_words (take i ps) ++ x) (append-nil (flood_part_words p))))
 
 pub all_done : {A : Type 0} (P : A → Type 0) (xs : List A) (i : ℕ) → length xs ≤ i → AllByRecursion P (take i xs) → AllByRecursion P xs
 all_done P xs i le h = subst (λ ys. AllByRecursion P ys) (take_all i xs le) h
@@ -77,16 +74,7 @@ all_done P xs i le h = subst (λ ys. AllByRecursion P ys) (take_all i xs le) h
 
 line_all : (m : Message) → message_words m ≡ line_name m ∷ words_behind_name m
 line_all Noop = refl
-line_all (Discovery session initiator objective) = refl
-line_all (Response session initiator ttl answer objective) = refl
-line_all (ReqNeg session objective) = refl
-line_all (ReqSyn session objective) = refl
-line_all (Negotiate session objective) = refl
-line_all (End session verdict) = refl
-line_all (Wait session millis) = refl
-line_all (Synch session objective) = refl
-line_all (Flood session initiator ttl parts) = refl
-line_all (Invalid session detail) = refl
+line_all _ = refl
 
 -- a name and the words behind it are the line
 line_appended : (m : Message) (old middle new name : List ℕ) → middle ≡ old ++ name → name ≡ line_name m → new ≡ middle ++ spaced (words_behind_name m) → new ≡ old ++ joined (message_words m)

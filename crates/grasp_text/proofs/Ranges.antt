@@ -3,26 +3,21 @@ use Rattle.std.proofs.Common.{◌≡◌, ◌<◌, ◌+◌, ◌*◌, ◌^◌, ℕ
 use Rattle.std.proofs.lemmas.Bool.{ltb-true}
 use Rattle.std.proofs.lemmas.List.{append_cancel_left}
 use Rattle.grasp_cbor.specs.Bytes.{AllBytes}
-use Rattle.grasp_cbor.specs.DataItem.{DataItem, DataItems, DataPairs, unsigned, negative, byte_string, text_string, array, mapping, tagged, simple_value, half_float, single_float, double_float, no_items, item_and, no_pairs, pair_and, item_count, pair_count}
+use Rattle.grasp_cbor.specs.DataItem.{DataItem, DataItems, DataPairs, unsigned, negative, byte_string, text_string, array, mapping, tagged, simple_value, no_items, item_and, no_pairs, pair_and, item_count, pair_count}
 use Rattle.grasp_cbor.specs.Encodable.{IsEncodable, AreEncodable, ArePairsEncodable}
 use Rattle.grasp_cbor.specs.Encodes.{IsEncoding, AreEncodings, ArePairEncodings}
 use Rattle.grasp_cbor.specs.Front.{IsHeadOf}
-use Rattle.grasp_cbor.specs.Head.{HeadSize, direct, one_byte, two_bytes, four_bytes, eight_bytes, argument_limit, shortest_size, shortest_head}
+use Rattle.grasp_cbor.specs.Head.{HeadSize, direct, one_byte, two_bytes, four_bytes, eight_bytes, shortest_size, shortest_head}
 use Rattle.grasp_cbor.specs.Shortest.{shortest, shortest_items, shortest_pairs}
 use Rattle.grasp_cbor.specs.Stands.{info_of}
 use Rattle.grasp_cbor.specs.declared.heads.Major.{Major}
 use Rattle.grasp_cbor.specs.declared.heads.Major.TheVariants as major
+use Rattle.grasp_cbor.proofs.Facts.Lists.{same_first}
+use Rattle.grasp_cbor.proofs.Facts.Numbers.{below_64}
 use Rattle.grasp_cbor.proofs.HeadBytes.{head_is, tail_of, AllBytes-front, AllBytes-back}
 use Rattle.grasp_cbor.proofs.Openings.{same_heads}
 use Rattle.grasp_cbor.proofs.Shortest.{IsHead-shortest_head, IsEncoding-shortest}
 use Rattle.grasp_cbor.proofs.Whole.{one_encoded}
-
-below : (size : HeadSize) (n : ℕ) → n < argument_limit size → n < 2 ^ 64
-below direct n h = omega arith
-below one_byte n h = omega arith
-below two_bytes n h = omega arith
-below four_bytes n h = omega arith
-below eight_bytes n h = h
 
 -- a head isn't the initial byte of indefinite length
 small : (b : Bool) (n : ℕ) (y : HeadSize) → ltb n 24 ≡ b → info_of y n < 28 → info_of (cond b direct y) n < 28
@@ -39,13 +34,10 @@ low_info : (n : ℕ) → info_of (shortest_size n) n < 28
 unfolding shortest_size
 low_info n = small (ltb n 24) n _ refl (later (ltb n (2 ^ 8)) (ltb n (2 ^ 16)) (ltb n (2 ^ 32)) n)
 
-first_of : (a b : ℕ) (x y : List ℕ) → a ∷ x ≡ b ∷ y → a ≡ b
-first_of a b x y e = cc
-
 not_endless : (m n : ℕ) (x y : List ℕ) → (32 * m + 31) ∷ x ≡ shortest_head m n ++ y → ⊥
 unfolding shortest_head
 not_endless m n x y e =
-    let same = first_of (32 * m + 31) (32 * m + info_of (shortest_size n) n) x (tail_of (shortest_size n) n ++ y) (e ∙ ap (λ s. s ++ y) (head_is (shortest_size n) m n)) in
+    let same = same_first (32 * m + 31) (32 * m + info_of (shortest_size n) n) x (tail_of (shortest_size n) n ++ y) (e ∙ ap (λ s. s ++ y) (head_is (shortest_size n) m n)) in
     omega (arith, low_info n, same)
 
 -- behind two heads of one major type and argument
@@ -54,15 +46,15 @@ behind m k n s x y a b e = (same_heads m m n n s (shortest_head k n) x y a b e).
 
 mutual
   pub only : (t : DataItem) (s x y : List ℕ) → AllBytes s → IsEncoding t s → s ++ x ≡ shortest t ++ y → IsEncodable t
-  only (unsigned n) s x y b h e = below h.0 n h.1
-  only (negative n) s x y b h e = below h.0 n h.1
-  only (byte_string bs) s x y b (inl h) e = (below h.opens.0 _ h.opens.1, AllBytes-back h.head bs (subst AllBytes h.form b))
+  only (unsigned n) s x y b h e = below_64 h.0 n h.1
+  only (negative n) s x y b h e = below_64 h.0 n h.1
+  only (byte_string bs) s x y b (inl h) e = (below_64 h.opens.0 _ h.opens.1, AllBytes-back h.head bs (subst AllBytes h.form b))
   only (byte_string bs) s x y b (inr h) e = absurd (not_endless 2 (length bs) _ _ (ap (λ z. z ++ x) (sym h.form) ∙ e ∙ append_assoc (shortest_head 2 (length bs)) bs y))
-  only (text_string bs) s x y b (inl h) e = (below h.opens.0 _ h.opens.1, h.fine)
+  only (text_string bs) s x y b (inl h) e = (below_64 h.opens.0 _ h.opens.1, h.fine)
   only (text_string bs) s x y b (inr h) e = absurd (not_endless 3 (length bs) _ _ (ap (λ z. z ++ x) (sym h.form) ∙ e ∙ append_assoc (shortest_head 3 (length bs)) bs y))
   only (array ts) s x y b (inl h) e =
       let n = item_count ts in
-      let few = below h.2.0 n h.2.1 in
+      let few = below_64 h.2.0 n h.2.1 in
       let shead = IsHead-shortest_head 4 n few in
       let tail : h.1 ++ x ≡ shortest_items ts ++ y =
       behind major.Array 4 n h.0 (h.1 ++ x) (shortest_items ts ++ y) (record { size = h.2.0; fits = h.2.1; fine = tt; form = h.2.2 }) (record { size = shead.0; fits = shead.1; fine = tt; form = shead.2 })
@@ -71,7 +63,7 @@ mutual
   only (array ts) s x y b (inr h) e = absurd (not_endless 4 (item_count ts) _ _ (ap (λ z. z ++ x) (sym h.2) ∙ e ∙ append_assoc (shortest_head 4 (item_count ts)) (shortest_items ts) y))
   only (mapping es) s x y b (inl h) e =
       let n = pair_count es in
-      let few = below h.2.0 n h.2.1 in
+      let few = below_64 h.2.0 n h.2.1 in
       let shead = IsHead-shortest_head 5 n few in
       let tail : h.1 ++ x ≡ shortest_pairs es ++ y =
       behind major.Map 5 n h.0 (h.1 ++ x) (shortest_pairs es ++ y) (record { size = h.2.0; fits = h.2.1; fine = tt; form = h.2.2 }) (record { size = shead.0; fits = shead.1; fine = tt; form = shead.2 })
@@ -79,16 +71,14 @@ mutual
       (few, only_pairs es h.1 x y (AllBytes-back h.0 h.1 (subst AllBytes h.4 b)) h.3 tail)
   only (mapping es) s x y b (inr h) e = absurd (not_endless 5 (pair_count es) _ _ (ap (λ z. z ++ x) (sym h.2) ∙ e ∙ append_assoc (shortest_head 5 (pair_count es)) (shortest_pairs es) y))
   only (tagged n t) s x y b h e =
-      let few = below h.2.0 n h.2.1 in
+      let few = below_64 h.2.0 n h.2.1 in
       let shead = IsHead-shortest_head 6 n few in
       let tail : h.1 ++ x ≡ shortest t ++ y =
       behind major.Tag 6 n h.0 (h.1 ++ x) (shortest t ++ y) (record { size = h.2.0; fits = h.2.1; fine = tt; form = h.2.2 }) (record { size = shead.0; fits = shead.1; fine = tt; form = shead.2 })
       (sym (append_assoc h.0 h.1 x) ∙ ap (λ z. z ++ x) (sym h.4) ∙ e ∙ append_assoc (shortest_head 6 n) (shortest t) y) in
       (few, only t h.1 x y (AllBytes-back h.0 h.1 (subst AllBytes h.4 b)) h.3 tail)
   only (simple_value n) s x y b h e = (h.0, h.1)
-  only (half_float n) s x y b h e = h.0
-  only (single_float n) s x y b h e = h.0
-  only (double_float n) s x y b h e = h.0
+  only _ s x y b h e = h.0
 
   only_items : (ts : DataItems) (s x y : List ℕ) → AllBytes s → AreEncodings ts s → s ++ x ≡ shortest_items ts ++ y → AreEncodable ts
   only_items no_items s x y b h e = tt

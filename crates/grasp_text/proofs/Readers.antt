@@ -47,7 +47,7 @@ module _ {A : Type 0} (IsOne : A → Type 0) (spell : A → List ℕ) (Is : A �
   is_denied w (Some a) e = tt
   is_denied w None e = λ a one is. let z : None ≡ some a = e ∙ E.found a w (to a w one is) in cc
 
-  -- and where it may want memory
+  -- what the answer of a reader says of the word, where the reader may run out of memory
   pub spelled_ok : {F : Type 0} (w : List ℕ) (r : Result (Option A) F) → IfOk r (λ o. o ≡ read w) → IfOk r (λ o. IfSome o (λ a. w ≡ spell a))
   spelled_ok w (Err x) h = tt
   spelled_ok w (Ok o) h = is_spelled w o h
@@ -158,10 +158,10 @@ values_read = word_reader IsValue value_word IsValueWord value_of value_exact va
 pub values_taken : ValuesAreTaken
 values_taken = taken IsValue value_word IsValueWord value_of value_exact value_to value_from
 
-maybe_to : (v : Option DataItem) (w : List ℕ) → IfSome v IsValue → w ≡ or_dash value_word v → IsMaybeValue v w
+pub maybe_to : (v : Option DataItem) (w : List ℕ) → IfSome v IsValue → w ≡ or_dash value_word v → IsMaybeValue v w
 maybe_to v w h e = value_told v w (record { ranges = h; spelled = e })
 
-maybe_from : (v : Option DataItem) (w : List ℕ) → IsMaybeValue v w → (w ≡ or_dash value_word v) × IfSome v IsValue
+pub maybe_from : (v : Option DataItem) (w : List ℕ) → IsMaybeValue v w → (w ≡ or_dash value_word v) × IfSome v IsValue
 maybe_from v w is = let t = told_value v w is in (t.spelled, t.ranges)
 
 pub optional_values_taken : OptionalValuesAreTaken
@@ -214,7 +214,7 @@ module _ {V F : Type 0} (word digits : List ℕ) (behind : behind_byte 120 word 
       let z : None ≡ some bytes = h ∙ ap bytes_of is ∙ bytes_again bytes (AllBytes-at bytes fits) in
       cc
 
--- nor where the word begins with another byte
+-- a word that doesn't begin with the byte 120 (x) is the word of no bytes
 pub no_bytes : (word : List ℕ) → behind_byte 120 word ≡ None → (bytes : List ℕ) → AllBytes bytes → ¬ (word ≡ bytes_word bytes)
 no_bytes word n bytes fits e = let z : None ≡ some (encode_lower bytes) = sym n ∙ ap (behind_byte 120) e in cc
 

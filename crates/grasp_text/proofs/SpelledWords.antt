@@ -52,9 +52,7 @@ host_word Resource = codes "uri"
 host_again : (h : Host) → host_of (host_word h) ≡ Some h
 unfolding host_of
 host_again Ipv6 = refl
-host_again Ipv4 = refl
-host_again Domain = refl
-host_again Resource = refl
+host_again _ = refl
 
 host_only : (word : List ℕ) (h : Host) → host_of word ≡ Some h → word ≡ host_word h
 unfolding host_of
@@ -97,16 +95,7 @@ name_word Invalid = codes "invalid"
 name_again : (n : MessageName) → name_of (name_word n) ≡ Some n
 unfolding name_of
 name_again Noop = refl
-name_again Discovery = refl
-name_again Response = refl
-name_again RequestNegotiation = refl
-name_again RequestSynchronization = refl
-name_again Negotiate = refl
-name_again End = refl
-name_again Wait = refl
-name_again Synch = refl
-name_again Flood = refl
-name_again Invalid = refl
+name_again _ = refl
 
 pub name_only : (word : List ℕ) (n : MessageName) → name_of word ≡ Some n → word ≡ name_word n
 unfolding name_of
@@ -181,7 +170,7 @@ pub record IsAddressWord (a : Address) (word : List ℕ) : Type 0 where
 v4_long : (n : ℕ) → length (v4_word n) ≡ 8
 v4_long n = length-encode_with lower_digits (to_be_bytes w32 n)
 
-v6_long : (n : ℕ) → length (v6_word n) ≡ 32
+pub v6_long : (n : ℕ) → length (v6_word n) ≡ 32
 v6_long n = length-encode_with lower_digits (to_be_bytes w128 n)
 
 not_v4 : (n : ℕ) (word : List ℕ) → word ≡ v6_word n → v4_of word ≡ None

@@ -4,12 +4,9 @@ use Rattle.std.specs.List.{onto_first, position_or_len}
 use Rattle.std.proofs.lemmas.List.{get_or_default, take_all, length-drop}
 use Rattle.std.proofs.lemmas.List.Sums.{position_or_len_is}
 use Rattle.std.proofs.lemmas.List.Splits.{slice_split_none, slice_split_first, join_with_byte-slice_split}
+use Rattle.grasp_cbor.proofs.Facts.Bools.{not_true}
 use Rattle.memchr.specs.Find.{IsFirstByte, is_byte}
 use Rattle.grasp_text.specs.Words.{words_of, words_left, joined, is_over}
-
-not_true : (b : Bool) → ¬ (b ≡ true) → b ≡ false
-not_true true h = absurd (h refl)
-not_true false h = refl
 
 word_at : (s : List ℕ) (k : ℕ) → IsFirstByte (is_byte 32) s (Some k) → words_of s ≡ take k s ∷ words_of (drop (k + 1) s)
 word_at s k h =

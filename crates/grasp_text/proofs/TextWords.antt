@@ -1,5 +1,5 @@
 -- Texts as words.
-use Rattle.std.proofs.Common.{◌≡◌, ℕ, zero, suc, ◌+◌, ◌/◌, ◌%◌, ◌<◌, Bool, true, false, cond, eqb, List, [], ◌∷◌, ◌++◌, length, get_or, take, Option, Some, None, refl, sym, ap, ◌∙◌, append_assoc, arith}
+use Rattle.std.proofs.Common.{◌≡◌, ℕ, suc, ◌+◌, ◌/◌, ◌%◌, ◌<◌, Bool, true, false, cond, eqb, List, [], ◌∷◌, ◌++◌, length, get_or, take, Option, Some, None, refl, sym, ap, ◌∙◌, append_assoc, arith}
 use Rattle.std.proofs.lemmas.List.{append-nil, take_more}
 use Rattle.std.specs.Prelude.{slice_index, IfSome, IfNone}
 use Rattle.std.specs.Str.{IsUtf8, is_utf8}
@@ -10,23 +10,8 @@ use Rattle.grasp_text.specs.Line.{escaped, all_escaped}
 use Rattle.grasp_text.specs.Reading.{unescaped, first_unescaped, paired, onto, as_text, byte_of, is_plain, ArePlain}
 
 pub lower_digit_small : (i : ℕ) → i < 16 → slice_index lower_digits i < 128
-lower_digit_small zero lt = omega arith
-lower_digit_small (suc zero) lt = omega arith
-lower_digit_small (suc (suc zero)) lt = omega arith
-lower_digit_small (suc (suc (suc zero))) lt = omega arith
-lower_digit_small (suc (suc (suc (suc zero)))) lt = omega arith
-lower_digit_small (suc (suc (suc (suc (suc zero))))) lt = omega arith
-lower_digit_small (suc (suc (suc (suc (suc (suc zero)))))) lt = omega arith
-lower_digit_small (suc (suc (suc (suc (suc (suc (suc zero))))))) lt = omega arith
-lower_digit_small (suc (suc (suc (suc (suc (suc (suc (suc zero)))))))) lt = omega arith
-lower_digit_small (suc (suc (suc (suc (suc (suc (suc (suc (suc zero))))))))) lt = omega arith
-lower_digit_small (suc (suc (suc (suc (suc (suc (suc (suc (suc (suc zero)))))))))) lt = omega arith
-lower_digit_small (suc (suc (suc (suc (suc (suc (suc (suc (suc (suc (suc zero))))))))))) lt = omega arith
-lower_digit_small (suc (suc (suc (suc (suc (suc (suc (suc (suc (suc (suc (suc zero)))))))))))) lt = omega arith
-lower_digit_small (suc (suc (suc (suc (suc (suc (suc (suc (suc (suc (suc (suc (suc zero))))))))))))) lt = omega arith
-lower_digit_small (suc (suc (suc (suc (suc (suc (suc (suc (suc (suc (suc (suc (suc (suc zero)))))))))))))) lt = omega arith
-lower_digit_small (suc (suc (suc (suc (suc (suc (suc (suc (suc (suc (suc (suc (suc (suc (suc zero))))))))))))))) lt = omega arith
 lower_digit_small (suc (suc (suc (suc (suc (suc (suc (suc (suc (suc (suc (suc (suc (suc (suc (suc n)))))))))))))))) lt = absurd (omega arith)
+lower_digit_small _ lt = omega arith
 
 -- what was unescaped before, and what is still
 abbrev pub with_front : List ℕ → Option (List ℕ) → Option (List ℕ)
@@ -109,10 +94,10 @@ plain_append : (xs : List ℕ) (b : ℕ) → ArePlain xs → is_plain b ≡ true
 plain_append [] b h e = (e, tt)
 plain_append (x ∷ xs) b h e = (h.0, plain_append xs b h.1 e)
 
-escaped_plain : (b : ℕ) → is_plain b ≡ true → escaped b ≡ b ∷ []
+pub escaped_plain : (b : ℕ) → is_plain b ≡ true → escaped b ≡ b ∷ []
 escaped_plain b e = ap (λ (p : Bool). cond p (b ∷ []) (37 ∷ slice_index lower_digits (b / 16) ∷ slice_index lower_digits (b % 16) ∷ [])) e
 
--- they are their own escaped form
+-- plain bytes are their own escaped form
 pub plain_escaped : (xs : List ℕ) → ArePlain xs → all_escaped xs ≡ xs
 plain_escaped [] h = refl
 plain_escaped (b ∷ xs) h = ap (λ (t : List ℕ). t ++ all_escaped xs) (escaped_plain b h.0) ∙ ap (λ (t : List ℕ). b ∷ t) (plain_escaped xs h.1)

@@ -33,7 +33,7 @@ bytes_again bytes fits =
     ap (λ (r : Result (List ℕ) FromHexError). decoded r (encode_lower bytes)) (decode_of-encode_lower bytes fits)
     ∙ ap (λ (b : Bool). cond b (some bytes) None) ((bytes_eq-Decides (encode_lower bytes) (encode_lower bytes)).1 refl)
 
--- these bytes' digits
+-- the word is the lower-case hexadecimal digits of these bytes
 pub record AreDigits (word bytes : List ℕ) : Type 0 where
   pub spelled : word ≡ encode_lower bytes
   pub fits : IsBytes bytes
@@ -67,7 +67,7 @@ bytes_of_none word h = is_none (bytes_of word) (λ bytes e. let d = bytes_only w
 value_encodes : (item : DataItem) → IsValue item → Encodes item (shortest item)
 value_encodes item v = let d = v.within in Encodes-shortest item v.encodable (omega arith)
 
--- and it is of bytes
+-- a value's shortest encoding is made of bytes
 value_bytes : (item : DataItem) → IsValue item → IsBytes (shortest item)
 value_bytes item v = AllBytes-at (shortest item) (shortest_bytes item v.encodable)
 
@@ -171,7 +171,7 @@ whole_apart bytes item [] apart = by_test (bytes_eq (shortest item) bytes) refl 
   by_test true e = absurd (apart [] (sym ((bytes_eq-Decides (shortest item) bytes).0 e) ∙ sym (append-nil (shortest item))))
   by_test false e = refl
 
--- nor are those that go on behind it
+-- bytes that go on behind the item's shortest encoding are no value's
 pub whole_longer : (bytes : List ℕ) (item : DataItem) (rest behind : List ℕ) → bytes ≡ shortest item ++ behind → 0 < length behind → whole_value bytes item rest ≡ None
 whole_longer bytes item (b ∷ rest) behind e more = refl
 whole_longer bytes item [] behind e more = by_test (bytes_eq (shortest item) bytes) refl where
@@ -179,7 +179,7 @@ whole_longer bytes item [] behind e more = by_test (bytes_eq (shortest item) byt
   by_test true f = absurd (let same = ap length ((bytes_eq-Decides (shortest item) bytes).0 f) in omega (arith, same, ap length e, length-append (shortest item) behind, more))
   by_test false f = refl
 
--- and those that end with it are the item's
+-- bytes that are exactly the item's shortest encoding have the item as their value
 pub whole_same : (bytes : List ℕ) (item : DataItem) (rest behind : List ℕ) → bytes ≡ shortest item ++ behind → length rest ≡ 0 → length behind ≡ 0 → whole_value bytes item rest ≡ Some item
 whole_same bytes item (x ∷ rest) behind e r b = absurd (omega (arith, r))
 whole_same bytes item [] (x ∷ behind) e r b = absurd (omega (arith, b))

@@ -18,11 +18,11 @@ use Rattle.grasp_text.specs.declared.names.Host.TheVariants.{Ipv6, Ipv4, Domain,
 use Rattle.grasp_text.specs.declared.names.MessageName.{MessageName}
 use Rattle.grasp_text.specs.declared.names.MessageName.TheVariants.{Noop, Discovery, Response, RequestNegotiation, RequestSynchronization, Negotiate, End, Wait, Synch, Flood, Invalid}
 
--- the words are over, and this is what was read
+-- Inside: the words are over, and this is what was read
 abbrev pub ending : {A : Type 0} → A → List (List ℕ) → Parsed A
 ending a ws = end_at {A = Unit {0}} tt ws >>= λ e. Ok (a, e.1)
 
--- a number of 32 bits
+-- Inside: a number of 32 bits
 abbrev pub number32 : List ℕ → Option ℕ
 number32 = number_of 4294967295
 
@@ -83,36 +83,38 @@ locator_at ws = word_at host_of ws >>= λ host. located host.0 host.1
 
 -- ---- more and more
 
--- a reader that goes on so many times
+-- Inside: a reader that goes on so many times
 unfoldable pub many : {S B : Type 0} → ((S → List (List ℕ) → Parsed B) → S → List (List ℕ) → Parsed B) → ℕ → S → List (List ℕ) → Parsed B
 many step zero s ws = Err 0
 many step (suc n) s ws = step (many step n) s ws
 
--- a reader that goes on as long as there are words
+-- Inside: a reader that goes on as long as there are words
 unfoldable pub until : {S B : Type 0} → ((S → List (List ℕ) → Parsed B) → S → List (List ℕ) → Parsed B) → S → List (List ℕ) → Parsed B
 until step s ws = many step (suc (length ws)) s ws
 
+-- Inside: the word that begins an objective
 abbrev pub begins_objective : List ℕ → Bool
 begins_objective word = bytes_eq word (codes "obj")
 
--- an objective, and nothing more
+-- Inside: an objective, and nothing more
 abbrev pub final_objective_at : List (List ℕ) → Parsed Objective
 final_objective_at ws = do
   objective ← objective_at ws
   ending objective.0 objective.1
 
+-- Inside: an objective behind locators, and nothing more
 abbrev pub last_objective : List Locator → List (List ℕ) → Parsed (List Locator × Option Objective)
 last_objective locators ws = final_objective_at ws >>= λ objective. Ok ((locators, Some objective.0), objective.1)
 
--- behind locators: nothing, an objective, or a locator and so on
+-- Inside: behind locators: nothing, an objective, or a locator and so on
 abbrev pub locators_step : (List Locator → List (List ℕ) → Parsed (List Locator × Option Objective)) → List Locator → List (List ℕ) → Parsed (List Locator × Option Objective)
 locators_step others locators ws = or_end (locators, None) (branch begins_objective (last_objective locators) (λ ws. locator_at ws >>= λ next. others (locators ++ next.0 ∷ []) next.1)) ws
 
--- the other locators of a response, and its objective
+-- Inside: the other locators of a response, and its objective
 abbrev pub locators_at : List Locator → List (List ℕ) → Parsed (List Locator × Option Objective)
 locators_at locators ws = until locators_step locators ws
 
--- one or more locators, and perhaps an objective
+-- Inside: one or more locators, and perhaps an objective
 unfoldable pub answers_at : List (List ℕ) → Parsed (List Locator × Option Objective)
 answers_at ws = locator_at ws >>= λ first. locators_at (first.0 ∷ []) first.1
 
@@ -128,26 +130,28 @@ placed (Some host) ws = located host ws >>= λ locator. Ok (Some locator.0, loca
 unfoldable pub optional_locator_at : List (List ℕ) → Parsed (Option Locator)
 optional_locator_at ws = word_at place_of ws >>= λ place. placed place.0 place.1
 
+-- Inside: a part of a flood: an objective and a locator, or `none`
 unfoldable pub flood_part_at : List (List ℕ) → Parsed FloodPart
 flood_part_at ws = do
   objective ← objective_at ws
   locator ← optional_locator_at objective.1
   Ok (record { objective = objective.0; locator = locator.0 }, locator.1)
 
--- behind parts of a flood: nothing, or a part and so on
+-- Inside: behind parts of a flood: nothing, or a part and so on
 abbrev pub parts_step : (List FloodPart → List (List ℕ) → Parsed (List FloodPart)) → List FloodPart → List (List ℕ) → Parsed (List FloodPart)
 parts_step others parts ws = or_end parts (λ ws. flood_part_at ws >>= λ next. others (parts ++ next.0 ∷ []) next.1) ws
 
--- the other parts of a flood
+-- Inside: the other parts of a flood
 abbrev pub parts_at : List FloodPart → List (List ℕ) → Parsed (List FloodPart)
 parts_at parts ws = until parts_step parts ws
 
--- one or more parts
+-- Inside: one or more parts
 unfoldable pub flood_parts_at : List (List ℕ) → Parsed (List FloodPart)
 flood_parts_at ws = flood_part_at ws >>= λ first. parts_at (first.0 ∷ []) first.1
 
 -- ---- messages
 
+-- Inside: the message that a word names
 unfoldable pub name_of : List ℕ → Option MessageName
 name_of word =
     if bytes_eq word (codes "noop") then Some Noop else (if bytes_eq word (codes "discovery") then Some Discovery else (if bytes_eq word (codes "response") then Some Response
@@ -155,6 +159,7 @@ name_of word =
     else (if bytes_eq word (codes "end") then Some End else (if bytes_eq word (codes "wait") then Some Wait else (if bytes_eq word (codes "synch") then Some Synch
     else (if bytes_eq word (codes "flood") then Some Flood else (if bytes_eq word (codes "invalid") then Some Invalid else None))))))))))
 
+-- Inside: a discovery, behind its name
 unfoldable pub discovery_at : List (List ℕ) → Parsed Message
 discovery_at ws = do
   session ← word_at number32 ws
@@ -162,14 +167,16 @@ discovery_at ws = do
   objective ← objective_at initiator.1
   ending (message.Discovery session.0 initiator.0 objective.0) objective.1
 
--- `locators`, which true stands for, or `divert`
+-- Inside: `locators`, which true stands for, or `divert`
 unfoldable pub are_locators : List ℕ → Option Bool
 are_locators word = if bytes_eq word (codes "locators") then Some true else (if bytes_eq word (codes "divert") then Some false else None)
 
+-- Inside: locators, as an answer or as a divert
 abbrev pub answer_of : Bool → List Locator → Answer
 answer_of true locators = Locators locators
 answer_of false locators = Divert locators
 
+-- Inside: a response, behind its name
 unfoldable pub response_at : List (List ℕ) → Parsed Message
 response_at ws = do
   session ← word_at number32 ws
@@ -179,25 +186,27 @@ response_at ws = do
   answers ← answers_at kind.1
   Ok (message.Response session.0 initiator.0 ttl.0 (answer_of kind.0 answers.0.0) answers.0.1, answers.1)
 
--- a session and an objective
+-- Inside: a session and an objective
 unfoldable pub objective_of_session_at : List (List ℕ) → Parsed (ℕ × Objective)
 objective_of_session_at ws = do
   session ← word_at number32 ws
   objective ← objective_at session.1
   ending (session.0, objective.0) objective.1
 
--- a reason, where there is one
+-- Inside: a reason, where there is one
 abbrev pub reason_at : List (List ℕ) → Parsed (Option (List ℕ))
 reason_at ws = or_end None (λ ws. word_at text_of ws >>= λ reason. ending (Some reason.0) reason.1) ws
 
--- `accept`, which true stands for, or `decline`
+-- Inside: `accept`, which true stands for, or `decline`
 unfoldable pub is_accept : List ℕ → Option Bool
 is_accept word = if bytes_eq word (codes "accept") then Some true else (if bytes_eq word (codes "decline") then Some false else None)
 
+-- Inside: an acceptance, or a decline with its reason
 abbrev pub verdict_at : Bool → List (List ℕ) → Parsed Verdict
 verdict_at true ws = ending Accept ws
 verdict_at false ws = reason_at ws >>= λ reason. Ok (Decline reason.0, reason.1)
 
+-- Inside: an end, behind its name
 unfoldable pub end_message_at : List (List ℕ) → Parsed Message
 end_message_at ws = do
   session ← word_at number32 ws
@@ -205,12 +214,14 @@ end_message_at ws = do
   verdict ← verdict_at kind.0 kind.1
   Ok (message.End session.0 verdict.0, verdict.1)
 
+-- Inside: a wait, behind its name
 unfoldable pub wait_at : List (List ℕ) → Parsed Message
 wait_at ws = do
   session ← word_at number32 ws
   millis ← word_at number32 session.1
   ending (message.Wait session.0 millis.0) millis.1
 
+-- Inside: a flood, behind its name
 unfoldable pub flood_at : List (List ℕ) → Parsed Message
 flood_at ws = do
   session ← word_at number32 ws
@@ -219,16 +230,18 @@ flood_at ws = do
   parts ← flood_parts_at ttl.1
   Ok (message.Flood session.0 initiator.0 ttl.0 parts.0, parts.1)
 
+-- Inside: an invalid message, behind its name
 unfoldable pub invalid_at : List (List ℕ) → Parsed Message
 invalid_at ws = do
   session ← word_at number32 ws
   detail ← word_at (maybe_of value_of) session.1
   ending (message.Invalid session.0 detail.0) detail.1
 
+-- Inside: the message that is made of a session number and an objective
 abbrev pub with_objective : (ℕ → Objective → Message) → List (List ℕ) → Parsed Message
 with_objective make ws = objective_of_session_at ws >>= λ x. Ok (make x.0.0 x.0.1, x.1)
 
--- the message behind its name
+-- Inside: the message behind its name
 abbrev pub named_at : MessageName → List (List ℕ) → Parsed Message
 named_at Noop ws = ending message.Noop ws
 named_at Discovery ws = discovery_at ws
@@ -242,5 +255,6 @@ named_at Synch ws = with_objective message.Synch ws
 named_at Flood ws = flood_at ws
 named_at Invalid ws = invalid_at ws
 
+-- Inside: a message: its name and what stands behind it
 unfoldable pub message_at : List (List ℕ) → Parsed Message
 message_at ws = word_at name_of ws >>= λ name. named_at name.0 name.1

@@ -52,7 +52,7 @@ LinesAreMessagesOrBad = (line : List ℕ) → HasMessage line ⊎ GoesWrong line
 abbrev pub NumbersAreRead : Type 0
 NumbersAreRead = (most : ℕ) → most < 2 ^ 64 → IsWordReader (λ n. n ≤ most) decimal (number_of most)
 
--- likewise a text's, a value's and an address's
+-- the word of a text, a value or an address, and no other, is read as it
 abbrev pub TextsAreRead : Type 0
 TextsAreRead = IsWordReader IsUtf8 text_word text_of
 
@@ -62,7 +62,7 @@ ValuesAreRead = IsWordReader IsValue value_word value_of
 abbrev pub AddressesAreRead : Type 0
 AddressesAreRead = IsWordReader IsAddress address_word address_of
 
--- likewise from the front of words: such a word is taken as its value, another isn't, and the rest stays
+-- in front of other words, the word of a number, a text, a value or an address is taken as it, no other word is, and the rest stays
 abbrev pub NumbersAreTaken : Type 0
 NumbersAreTaken = (most : ℕ) → most < 2 ^ 64 → IsReader (λ n. n ≤ most) (λ n. decimal n ∷ []) (word_at (number_of most))
 
@@ -82,7 +82,7 @@ AddressesAreTaken = IsReader IsAddress (λ a. address_word a ∷ []) (word_at ad
 abbrev pub ObjectivesAreRead : Type 0
 ObjectivesAreRead = IsReader IsObjective objective_words objective_at
 
--- likewise a locator's, and those of one that may be absent
+-- the words of a locator, or of one that may be absent, and no others, are read as it
 abbrev pub LocatorsAreRead : Type 0
 LocatorsAreRead = IsReader IsLocator locator_words locator_at
 

@@ -83,7 +83,7 @@ address_of word = either_address (v4_of word) (v6_of word)
 abbrev pub is_plain : ℕ → Bool
 is_plain b = (nat_le 33 b && nat_le b 126) && not (b == 37)
 
--- each of the bytes stands for itself
+-- Inside: each of the bytes stands for itself
 abbrev pub ArePlain : List ℕ → Type 0
 ArePlain bytes = AllByRecursion (λ b. is_plain b ≡ true) bytes
 
@@ -91,7 +91,7 @@ ArePlain bytes = AllByRecursion (λ b. is_plain b ≡ true) bytes
 abbrev pub digit_of : ℕ → Option ℕ
 digit_of c = if nat_le 48 c && nat_le c 57 then Some (c - 48) else (if nat_le 97 c && nat_le c 102 then Some (c - 87) else None)
 
--- these two are the lower-case hexadecimal digits of the byte
+-- Inside: these two are the lower-case hexadecimal digits of the byte
 abbrev pub AreDigitsOf : ℕ → ℕ → ℕ → Type 0
 AreDigitsOf high low byte = (high ≡ slice_index lower_digits (byte / 16)) × (low ≡ slice_index lower_digits (byte % 16))
 
@@ -110,17 +110,18 @@ onto None others = None
 onto (Some b) None = None
 onto (Some b) (Some bytes) = Some (b ∷ bytes)
 
--- the byte of the first two digits, and what stands behind them
+-- Inside: the byte of the first two digits, and what stands behind them
 abbrev pub paired : Option ℕ → List ℕ → Option (ℕ × List ℕ)
 paired None rest = None
 paired (Some b) rest = Some (b, rest)
 
+-- Inside: the byte of two digits, and what stands behind them
 abbrev pub behind_percent : List ℕ → Option (ℕ × List ℕ)
 behind_percent [] = None
 behind_percent (high ∷ []) = None
 behind_percent (high ∷ low ∷ rest) = paired (byte_of high low) rest
 
--- the first byte of those that are so escaped, and what stands behind it
+-- Inside: the first byte of those that are so escaped, and what stands behind it
 unfoldable pub first_unescaped : List ℕ → Option (ℕ × List ℕ)
 first_unescaped [] = None
 first_unescaped (b ∷ rest) = if is_plain b then Some (b, rest) else (if b == 37 then behind_percent rest else None)
@@ -189,11 +190,12 @@ exactly expected word = if bytes_eq word expected then Some tt else None
 unfoldable pub proto_of : List ℕ → Option Proto
 proto_of word = if bytes_eq word (codes "tcp") then Some Tcp else (if bytes_eq word (codes "udp") then Some Udp else None)
 
+-- Inside: what is made of a value, where there is one
 abbrev pub then_some : {A B : Type 0} → Option A → (A → Option B) → Option B
 then_some None f = None
 then_some (Some a) f = f a
 
--- the address and the length that a prefix's word tells
+-- Inside: the address and the length that a prefix's word tells
 unfoldable pub block_of : List ℕ → Option (ℕ × ℕ)
 block_of word = if nat_lt (length word) 32 then None else then_some (v6_of (take 32 word)) (λ a. then_some (behind_byte 47 (drop 32 word)) (λ rest. then_some (number_of 255 rest) (λ n. Some (a, n))))
 
@@ -202,12 +204,12 @@ abbrev pub end_at : {A : Type 0} → A → List (List ℕ) → Parsed A
 end_at a [] = Ok (a, [])
 end_at a (word ∷ words) = Err (length (joined (word ∷ words)))
 
--- this value where the words are over
+-- Inside: this value where the words are over
 abbrev pub or_end : {A : Type 0} → A → (List (List ℕ) → Parsed A) → List (List ℕ) → Parsed A
 or_end a read [] = Ok (a, [])
 or_end a read (word ∷ words) = read (word ∷ words)
 
--- by what the next word is
+-- Inside: by what the next word is
 abbrev pub branch : {A : Type 0} → (List ℕ → Bool) → (List (List ℕ) → Parsed A) → (List (List ℕ) → Parsed A) → List (List ℕ) → Parsed A
 branch test one other [] = Err 0
 branch test one other (word ∷ words) = if test word then one (word ∷ words) else other (word ∷ words)

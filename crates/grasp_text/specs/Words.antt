@@ -16,7 +16,7 @@ abbrev pub spaced : List (List ℕ) → List ℕ
 spaced [] = []
 spaced (word ∷ words) = 32 ∷ (word ++ spaced words)
 
--- the words of what is left of a line, which has none left after its last word
+-- Inside: the words of what is left of a line, which has none left after its last word
 abbrev pub words_left : Option (List ℕ) → List (List ℕ)
 words_left None = []
 words_left (Some rest) = words_of rest
@@ -26,11 +26,11 @@ abbrev pub is_over : List (List ℕ) → Bool
 is_over [] = true
 is_over (word ∷ words) = false
 
--- this is the next word
+-- there is a next word, and it is this one
 abbrev pub is_next : List ℕ → List (List ℕ) → Bool
 is_next expected [] = false
 is_next expected (word ∷ words) = bytes_eq word expected
 
--- no blank is among the bytes
+-- Inside: no blank is among the bytes
 abbrev pub HasNoBlank : List ℕ → Type 0
 HasNoBlank bytes = AllByRecursion (λ b. b == 32 ≡ false) bytes

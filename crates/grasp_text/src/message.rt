@@ -45,11 +45,13 @@ pub fn lines_have_one_message()
 {}
 
 /// The words of a message's line are the message's words.
+#[tactic(auto, using(crate::proofs::Blanks::line_words))]
 pub fn lines_are_their_words()
     ensures { LinesAreTheirWords }
 {}
 
 /// A message's line is made of printable characters of ASCII alone.
+#[tactic(auto, using(crate::proofs::Blanks::lines_printable))]
 pub fn lines_are_printable()
     ensures { LinesArePrintable }
 {}
@@ -60,6 +62,7 @@ pub fn lines_have_one_place()
 {}
 
 /// Every line is a message's, or goes wrong at exactly one place.
+#[tactic(auto, using(crate::proofs::Places::line_or_bad))]
 pub fn lines_are_messages_or_bad()
     ensures { LinesAreMessagesOrBad }
 {}

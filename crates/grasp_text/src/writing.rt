@@ -155,10 +155,7 @@ fn push_locators(alloc: Global, out: &mut String, locators: &Locators) -> Result
     ensures ranges { OnOk result (AreLocators locators.now) }
     ensures err { OnErr result (Extends (string_bytes out.old) (string_bytes out.new)) }
 {
-    for i in 0..locators.len() {
-        let Some(locator) = locators.at(i) else {
-            unreachable!()
-        };
+    for locator in locators.slice() {
         push_locator(alloc, out, locator)?;
     }
     Ok(())
@@ -249,10 +246,7 @@ fn push_flood_parts(alloc: Global, out: &mut String, parts: &FloodParts) -> Resu
     ensures ranges { OnOk result (AreFloodParts parts.now) }
     ensures err { OnErr result (Extends (string_bytes out.old) (string_bytes out.new)) }
 {
-    for i in 0..parts.len() {
-        let Some(part) = parts.at(i) else {
-            unreachable!()
-        };
+    for part in parts.slice() {
         push_flood_part(alloc, out, part)?;
     }
     Ok(())

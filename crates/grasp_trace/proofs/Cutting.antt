@@ -15,7 +15,7 @@ one_more : (what : List ℕ) (stream : ℕ) (ms : List Message) (m : Message) (a
 one_more what stream [] m a b c q t = (c, quiet_tells (message_line what stream m) a b c q t, is_quiet c)
 one_more what stream (x ∷ xs) m a b c h t = (h.0, h.1, one_more what stream xs m h.0 b c h.2 t)
 
--- the same past with these messages
+-- the past with these messages as those that were given
 abbrev with_list : Past → List Message → Past
 with_list past given = record past { given = given }
 

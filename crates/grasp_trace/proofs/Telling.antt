@@ -1,8 +1,9 @@
 -- Lines that are told, or left out.
-use Rattle.std.proofs.Common.{◌≡◌, ◌≤◌, ◌-◌, ◌⊎◌, inl, inr, ℕ, List, ◌++◌, length, take, Option, None, Some, Result, Ok, Err, OnErr, IfOk, refl, sym, ap, subst, ◌∙◌, append-nil, arith, rules}
+use Rattle.std.proofs.Common.{◌≡◌, ◌-◌, ◌⊎◌, inl, inr, ℕ, List, ◌++◌, length, take, Option, None, Some, Result, Ok, Err, OnErr, IfOk, refl, sym, ap, subst, ◌∙◌, append-nil, arith, rules}
+use Rattle.std.proofs.KnownBytes.{Keeps-refl}
 use Rattle.std.specs.Io.KnownBytes.{Appends, Keeps}
 use Rattle.grasp_cbor.specs.Bytes.{AllBytes}
-use Rattle.grasp_io.specs.Faults.{Rose}
+use Rattle.grasp_io.proofs.Facts.{rose_before}
 use Rattle.grasp_io.specs.Known.{AppendsFront}
 use Rattle.grasp_wire.proofs.OneAnswers.{some_answer}
 use Rattle.grasp_trace.specs.Lines.{IsDatagramLine, datagram_line, most_bytes}
@@ -26,7 +27,7 @@ pub told_one : {A E : Type 0} (P : List ℕ → Type 0) (bytes : A → List ℕ)
 told_one P bytes (Ok t) old new p q l line is = record { line = bytes t; is = p; tells = q }
 told_one P bytes (Err e) old new p q l line is = record { line = line; is = is; tells = left_out_tells line old new l }
 
--- the same of a line that is known
+-- a known line that is written or left out
 pub told_known : {A E : Type 0} (known : List ℕ) (bytes : A → List ℕ) (r : Result A E) (old new : Sheet) → IfOk r (λ t. bytes t ≡ known) → IfOk r (λ t. Tells (bytes t) old new)
     → OnErr r (IsLeftOut old new) → TellsOne (λ line. line ≡ known) old new
 told_known known bytes r old new p q l = told_one (λ line. line ≡ known) bytes r old new p q l known refl
@@ -44,13 +45,9 @@ told_datagram what link neighbour sent bytes r old new all p q l =
     let s = some_line what link neighbour sent all in
     told_one (IsDatagramLine what link neighbour sent) bytes r old new p q l s.0 s.1
 
-pub keeps_same : (a : Option (List ℕ)) → Keeps a a
-keeps_same None = tt
-keeps_same (Some x) = refl
-
 -- nothing changed
 pub is_quiet : (s : Sheet) → IsQuiet s s
-is_quiet s = record { kept = keeps_same s.written; never_falls = record { faults = search rules; left_out = search rules } }
+is_quiet s = record { kept = Keeps-refl s.written; never_falls = record { faults = search rules; left_out = search rules } }
 
 -- a line that is known was told
 pub known_told : (known : List ℕ) (old new : Sheet) → TellsOne (λ line. line ≡ known) old new → Tells known old new
@@ -67,10 +64,6 @@ quiet_appends : (a b c : Option (List ℕ)) (line : List ℕ) → Keeps a b → 
 quiet_appends None b c line k p = tt
 quiet_appends (Some x) None c line k p = absurd k
 quiet_appends (Some x) (Some y) c line k p = subst (λ z. Appends (Some z) c line) k p
-
-rose_before : (x y z : ℕ) → x ≤ y → Rose y z → Rose x z
-rose_before x y z p (inl l) = inl (omega (arith, p, l))
-rose_before x y z p (inr e) = inr e
 
 quiet_whole : (line : List ℕ) (a b c : Sheet) → IsQuiet a b → Appends b.written c.written line ⊎ HasGap b c → Appends a.written c.written line ⊎ HasGap a c
 quiet_whole line a b c q (inl p) = inl (quiet_appends a.written b.written c.written line q.kept p)

@@ -22,7 +22,7 @@ line_text what words = what ++ spaced words ++ 10 ∷ []
 abbrev pub datagram_words : ℕ → ℕ → List (List ℕ)
 datagram_words link neighbour = codes "datagram" ∷ decimal link ∷ decimal neighbour ∷ []
 
--- its message, or how many bytes it has where it is none
+-- the words for the content of a datagram: its message, or how many bytes it has where it is none
 abbrev pub content_words : ℕ → Result Message OneFault → List (List ℕ)
 content_words count (Ok message) = line_of message ∷ []
 content_words count (Err fault) = codes "no message in" ∷ decimal count ∷ codes "bytes" ∷ []

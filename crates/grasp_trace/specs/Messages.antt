@@ -61,7 +61,7 @@ pub record TellsCut (what : List ℕ) (stream limit : ℕ) (past : Past) (left :
   pub ends : TellsLast what stream last mid new
   pub goes_on : GoesOn limit (with_given past messages) last left
 
--- the same, where it is answered whether the cutter waits for more bytes
+-- Inside: the same, where it is answered whether the cutter waits for more bytes
 abbrev pub IsAnswered : List ℕ → ℕ → ℕ → Past → Bool → Cutter → Sheet → Sheet → Type 0
 IsAnswered what stream limit past waits cutter old new = TellsCut what stream limit past (if waits then Some cutter else None) old new
 
@@ -75,19 +75,19 @@ pub record Telling : Type 0 where
 abbrev pub telling : Past → Cutter → Sheet → Telling
 telling past cutter begun = record { past = past; limit = cut_limit cutter; begun = begun }
 
--- some messages were told, and no more were given
+-- Inside: some messages were told, and no more were given
 pub record HasTold (what : List ℕ) (stream : ℕ) (t : Telling) (cutter : Cutter) (new : Sheet) : Type 0 where
   pub messages : List Message
   pub tells : TellsMessages what stream messages t.begun new
   pub stands : Stands cutter (with_given t.past messages)
   pub limit_is : cut_limit cutter ≡ t.limit
 
--- one more was told, or it is answered whether the cutter waits
+-- Inside: one more was told, or it is answered whether the cutter waits
 abbrev pub AfterNext : List ℕ → ℕ → Telling → Cutter → Option Bool → Sheet → Type 0
 AfterNext what stream t cutter None new = HasTold what stream t cutter new
 AfterNext what stream t cutter (Some waits) new = IsAnswered what stream t.limit t.past waits cutter t.begun new
 
--- there was no room for a piece: a line is left out, and the direction isn't watched any more
+-- there was no room for a piece of a stream: a line is left out, and the direction isn't watched any more
 pub record IsDropped (left : Option Cutter) (old new : Sheet) : Type 0 where
   pub left_out : IsLeftOut old new
   pub none : left ≡ None
@@ -111,7 +111,7 @@ pub record LeavesOut (old new : Sheet) : Type 0 where
   pub left_out : IsLeftOut old mid
   pub never_falls : NeverFalls mid new
 
--- both directions of a stream are watched from their first byte, or for want of memory none, and a line is left out
+-- both directions of a stream are watched from their first byte; or, out of memory, neither is, and a line is left out
 pub record Begins (stream : ℕ) (old new : Trace) : Type 0 where
   pub begins : ((received : Bool) → IsSomeNew most_bytes (new.cutters received stream)) ⊎ (((received : Bool) → new.cutters received stream ≡ None) × LeavesOut old.sheet new.sheet)
   pub others : OthersStay stream old.cutters new.cutters

@@ -10,7 +10,7 @@ pub record Sheet : Type 0 where
   pub faults : ℕ
   pub left_out : ℕ
 
--- both counts stay or rise
+-- the counts of failed writes and of lines left out stay or rise
 pub record NeverFalls (old new : Sheet) : Type 0 where
   pub faults : old.faults ≤ new.faults
   pub left_out : old.left_out ≤ new.left_out

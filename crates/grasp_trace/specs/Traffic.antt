@@ -58,7 +58,7 @@ TellsAsked (Got input) old new = TellsInput input old new
 TellsAsked Nothing old new = IsQuiet old.sheet new.sheet
 TellsAsked OutOfMemory old new = IsQuiet old.sheet new.sheet
 
--- and is watched so
+-- after an input that was given, a stream is watched from its opening to its end; where none was given, each is watched as before
 abbrev pub WatchesAsked : Asked → Trace → Trace → Type 0
 WatchesAsked (Got input) old new = WatchesInput input old new
 WatchesAsked Nothing old new = AllStay old.cutters new.cutters

@@ -11,12 +11,12 @@ use Rattle.grasp_trace.specs.declared.watched.Wires.{Wires}
 abbrev pub Cutters : Type 0
 Cutters = Bool → ℕ → Option Cutter
 
--- that of a direction of this stream
+-- the cutter of a direction of this stream, where that direction is watched
 abbrev pub cutter_in : Bool → Option Wires → Option Cutter
 cutter_in received None = None
 cutter_in received (Some wires) = if received then wires.received else wires.sent
 
--- both directions of a stream, where it has begun and hasn't ended
+-- both directions of this stream, where the stream has begun and hasn't ended
 abbrev pub wires_of : Watched → ℕ → Option Wires
 wires_of watched stream = get nat_eq watched.streams stream
 
@@ -29,7 +29,7 @@ pub record IsNew (limit : ℕ) (cutter : Cutter) : Type 0 where
   pub stands : Stands cutter no_past
   pub limit_is : cut_limit cutter ≡ limit
 
--- there is such a cutter
+-- there is a cutter that was fed nothing and whose messages have at most so many bytes
 abbrev pub IsSomeNew : ℕ → Option Cutter → Type 0
 IsSomeNew limit None = ⊥
 IsSomeNew limit (Some cutter) = IsNew limit cutter
@@ -47,7 +47,7 @@ pub record ChangesAlone (received : Bool) (stream : ℕ) (old new : Cutters) : T
   pub back : (other : Bool) → other ≢ received → new other stream ≡ old other stream
   pub others : OthersStay stream old new
 
--- this direction has this cutter now, and each other is watched as before
+-- Inside: this direction has this cutter now, and each other is watched as before
 pub record Changes (received : Bool) (stream : ℕ) (now : Option Cutter) (old new : Cutters) : Type 0 where
   pub this : new received stream ≡ now
   pub alone : ChangesAlone received stream old new

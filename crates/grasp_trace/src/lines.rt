@@ -55,7 +55,8 @@ fn other_datagram(
     neighbour: u8,
     count: u64,
 ) -> Result<String, OutOfMemory>
-    ensures { IfOk result (λ t. string_bytes t ≡ line_text what.now (datagram_words link neighbour ++ codes "no message in" ∷ decimal count ∷ codes "bytes" ∷ [])) }
+    ensures { IfOk result (λ t. string_bytes t ≡ line_text what.now
+        (datagram_words link neighbour ++ codes "no message in" ∷ decimal count ∷ codes "bytes" ∷ [])) }
 {
     let mut text = begun(alloc, what)?;
     push_other(&mut text, link, neighbour, count)?;
@@ -178,7 +179,8 @@ fn push_told(
 /// Appends the words of a datagram of so many bytes that are no message.
 #[tactic(auto, using(crate::proofs::Lining::pushes))]
 fn push_other(out: &mut String, link: u8, neighbour: u8, count: u64) -> Result<(), OutOfMemory>
-    ensures { OnOk result (string_bytes out.new ≡ string_bytes out.old ++ spaced (datagram_words link neighbour ++ codes "no message in" ∷ decimal count ∷ codes "bytes" ∷ [])) }
+    ensures { OnOk result (string_bytes out.new ≡ string_bytes out.old ++ spaced
+        (datagram_words link neighbour ++ codes "no message in" ∷ decimal count ∷ codes "bytes" ∷ [])) }
 {
     push_datagram(out, link, neighbour)?;
     push_count(out, count)
@@ -212,7 +214,8 @@ fn push_message(
 /// Appends the words of bytes of a stream that are no message.
 #[tactic(auto, using(crate::proofs::Lining::pushes))]
 fn push_fault(out: &mut String, stream: u64, place: u64) -> Result<(), OutOfMemory>
-    ensures { OnOk result (string_bytes out.new ≡ string_bytes out.old ++ spaced (codes "stream" ∷ decimal stream ∷ codes "no message at" ∷ decimal place ∷ [])) }
+    ensures { OnOk result (string_bytes out.new ≡ string_bytes out.old ++ spaced
+        (codes "stream" ∷ decimal stream ∷ codes "no message at" ∷ decimal place ∷ [])) }
 {
     push_word(out, "stream")?;
     push_number(out, stream)?;

@@ -60,28 +60,32 @@ impl<K: Sink + Drop> Page<K> {
 
     /// Tells a datagram.
     pub(crate) fn datagram(&mut self, what: &str, link: u8, neighbour: u8, bytes: &[u8])
-        ensures { TellsOne (IsDatagramLine what.now link neighbour bytes.now) (page_sheet K.written K.faults self.old) (page_sheet K.written K.faults self.new) }
+        ensures { TellsOne (IsDatagramLine what.now link neighbour bytes.now) (page_sheet K.written K.faults self.old)
+            (page_sheet K.written K.faults self.new) }
     {
         self.write(lines::datagram(self.alloc, what, link, neighbour, bytes));
     }
 
     /// Tells a stream that a peer opened.
     pub(crate) fn opening(&mut self, stream: u64, from: &Address)
-        ensures { TellsOne (λ line. line ≡ opening_line stream from.now) (page_sheet K.written K.faults self.old) (page_sheet K.written K.faults self.new) }
+        ensures { TellsOne (λ line. line ≡ opening_line stream from.now) (page_sheet K.written K.faults self.old)
+            (page_sheet K.written K.faults self.new) }
     {
         self.write(lines::opening(self.alloc, stream, from));
     }
 
     /// Tells a stream that is dialled.
     pub(crate) fn dial(&mut self, what: &str, stream: u64, to: &Locator)
-        ensures { TellsOne (λ line. line ≡ dial_line what.now stream to.now) (page_sheet K.written K.faults self.old) (page_sheet K.written K.faults self.new) }
+        ensures { TellsOne (λ line. line ≡ dial_line what.now stream to.now) (page_sheet K.written K.faults self.old)
+            (page_sheet K.written K.faults self.new) }
     {
         self.write(lines::dial(self.alloc, what, stream, to));
     }
 
     /// Tells a stream that ends.
     pub(crate) fn closing(&mut self, what: &str, stream: u64)
-        ensures { TellsOne (λ line. line ≡ closing_line what.now stream) (page_sheet K.written K.faults self.old) (page_sheet K.written K.faults self.new) }
+        ensures { TellsOne (λ line. line ≡ closing_line what.now stream) (page_sheet K.written K.faults self.old)
+            (page_sheet K.written K.faults self.new) }
     {
         self.write(lines::closing(self.alloc, what, stream));
     }
@@ -118,7 +122,8 @@ impl<K: Sink + Drop> Page<K> {
         mut cutter: Cutter,
         piece: &[u8],
     ) -> Option<Cutter>
-        ensures { TellsWith what.now stream piece.now (Some cutter) result (page_sheet K.written K.faults self.old) (page_sheet K.written K.faults self.new) }
+        ensures { TellsWith what.now stream piece.now (Some cutter) result (page_sheet K.written K.faults self.old)
+            (page_sheet K.written K.faults self.new) }
     {
         if feed(&mut cutter, piece) {
             return self.tell(what, stream, cutter);
@@ -129,7 +134,9 @@ impl<K: Sink + Drop> Page<K> {
 
     /// Tells each message that is whole, and gives the cutter back where it waits for more.
     fn tell(&mut self, what: &str, stream: u64, mut cutter: Cutter) -> Option<Cutter>
-        ensures { (past : Past) → Stands cutter past → TellsCut what.now stream (cut_limit cutter) past result (page_sheet K.written K.faults self.old) (page_sheet K.written K.faults self.new) }
+        ensures { (past : Past) → Stands cutter past
+            → TellsCut what.now stream (cut_limit cutter) past result (page_sheet K.written K.faults self.old)
+            (page_sheet K.written K.faults self.new) }
     {
         if self.tell_all(what, stream, &mut cutter) {
             return Some(cutter);
@@ -139,7 +146,9 @@ impl<K: Sink + Drop> Page<K> {
 
     /// Tells each message that is whole, and what ends them. Returns whether the cutter waits for more.
     fn tell_all(&mut self, what: &str, stream: u64, cutter: &mut Cutter) -> bool
-        ensures { (past : Past) → Stands cutter.old past → IsAnswered what.now stream (cut_limit cutter.old) past result cutter.new (page_sheet K.written K.faults self.old) (page_sheet K.written K.faults self.new) }
+        ensures { (past : Past) → Stands cutter.old past
+            → IsAnswered what.now stream (cut_limit cutter.old) past result cutter.new (page_sheet K.written K.faults self.old)
+            (page_sheet K.written K.faults self.new) }
     {
         loop {
             if let Some(waits) = self.tell_next(what, stream, cutter) {
@@ -150,7 +159,8 @@ impl<K: Sink + Drop> Page<K> {
 
     /// Tells the next message, or answers whether the cutter waits for more.
     fn tell_next(&mut self, what: &str, stream: u64, cutter: &mut Cutter) -> Option<bool>
-        ensures then { (t : Telling) → HasTold what.now stream t cutter.old (page_sheet K.written K.faults self.old) → AfterNext what.now stream t cutter.new result (page_sheet K.written K.faults self.new) }
+        ensures then { (t : Telling) → HasTold what.now stream t cutter.old (page_sheet K.written K.faults self.old)
+            → AfterNext what.now stream t cutter.new result (page_sheet K.written K.faults self.new) }
         ensures less { result ≡ None → waiting_count cutter.new < waiting_count cutter.old }
     {
         match cutter.next() {

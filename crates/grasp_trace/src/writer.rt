@@ -93,7 +93,8 @@ impl<K: Sink + Drop> Writer<K> {
 
     /// A peer opened a stream.
     fn opened(&mut self, stream: u64, from: &Address)
-        ensures told { TellsOne (λ line. line ≡ opening_line stream from.now) (page_sheet K.written K.faults self.old.page) (page_sheet K.written K.faults self.new.page) }
+        ensures told { TellsOne (λ line. line ≡ opening_line stream from.now) (page_sheet K.written K.faults self.old.page)
+            (page_sheet K.written K.faults self.new.page) }
         ensures begins { Begins stream (writer_trace K.written K.faults self.old) (writer_trace K.written K.faults self.new) }
     {
         self.begin(stream);
@@ -102,7 +103,8 @@ impl<K: Sink + Drop> Writer<K> {
 
     /// A stream is dialled.
     fn dialled(&mut self, what: &str, stream: u64, to: &Locator)
-        ensures told { TellsOne (λ line. line ≡ dial_line what.now stream to.now) (page_sheet K.written K.faults self.old.page) (page_sheet K.written K.faults self.new.page) }
+        ensures told { TellsOne (λ line. line ≡ dial_line what.now stream to.now) (page_sheet K.written K.faults self.old.page)
+            (page_sheet K.written K.faults self.new.page) }
         ensures begins { Begins stream (writer_trace K.written K.faults self.old) (writer_trace K.written K.faults self.new) }
     {
         self.begin(stream);
@@ -122,7 +124,8 @@ impl<K: Sink + Drop> Writer<K> {
 
     /// A piece of a stream, of which each message that is whole now is told, with this word for what became of it.
     fn piece(&mut self, what: &str, stream: u64, received: bool, piece: &[u8])
-        ensures told { TellsPiece what.now received stream piece.now (writer_trace K.written K.faults self.old) (writer_trace K.written K.faults self.new) }
+        ensures told { TellsPiece what.now received stream piece.now (writer_trace K.written K.faults self.old)
+            (writer_trace K.written K.faults self.new) }
         ensures alone { ChangesAlone received stream (cutters_of self.old.streams) (cutters_of self.new.streams) }
     {
         match self.streams.take(stream, received) {

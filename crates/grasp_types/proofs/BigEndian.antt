@@ -28,7 +28,7 @@ joined-to_be_bytes_4 n fits = ap (λ m. joined m (to_be_bytes w32 n)) (sym (div-
 pub joined-to_be_bytes_16 : (n : ℕ) → n < 2 ^ 128 → joined 0 (to_be_bytes w128 n) ≡ n
 joined-to_be_bytes_16 n fits = ap (λ m. joined m (to_be_bytes w128 n)) (sym (div-eq_of_lt {n = n} {m = 256 ^ 16} fits)) ∙ joined-bytes_high_first 16 n
 
--- and bytes come back from the number that they join to
+-- bytes come back from the number that they join to, the most significant first
 
 top_of : (a b : ℕ) → b < 256 → (a * 256 + b) / 256 ≡ a
 top_of a b small = omega arith
@@ -57,24 +57,8 @@ sum_of_16 : (a b c d e f g h j k l m n p q r : ℕ)
 sum_of_16 a b c d e f g h j k l m n p q r = omega arith
 
 from_be_bytes-joined : (bs : List ℕ) → length bs ≡ 16 → from_be_bytes w128 bs ≡ joined 0 bs
-from_be_bytes-joined [] is = absurd (omega arith)
-from_be_bytes-joined (a ∷ []) is = absurd (omega arith)
-from_be_bytes-joined (a ∷ b ∷ []) is = absurd (omega arith)
-from_be_bytes-joined (a ∷ b ∷ c ∷ []) is = absurd (omega arith)
-from_be_bytes-joined (a ∷ b ∷ c ∷ d ∷ []) is = absurd (omega arith)
-from_be_bytes-joined (a ∷ b ∷ c ∷ d ∷ e ∷ []) is = absurd (omega arith)
-from_be_bytes-joined (a ∷ b ∷ c ∷ d ∷ e ∷ f ∷ []) is = absurd (omega arith)
-from_be_bytes-joined (a ∷ b ∷ c ∷ d ∷ e ∷ f ∷ g ∷ []) is = absurd (omega arith)
-from_be_bytes-joined (a ∷ b ∷ c ∷ d ∷ e ∷ f ∷ g ∷ h ∷ []) is = absurd (omega arith)
-from_be_bytes-joined (a ∷ b ∷ c ∷ d ∷ e ∷ f ∷ g ∷ h ∷ j ∷ []) is = absurd (omega arith)
-from_be_bytes-joined (a ∷ b ∷ c ∷ d ∷ e ∷ f ∷ g ∷ h ∷ j ∷ k ∷ []) is = absurd (omega arith)
-from_be_bytes-joined (a ∷ b ∷ c ∷ d ∷ e ∷ f ∷ g ∷ h ∷ j ∷ k ∷ l ∷ []) is = absurd (omega arith)
-from_be_bytes-joined (a ∷ b ∷ c ∷ d ∷ e ∷ f ∷ g ∷ h ∷ j ∷ k ∷ l ∷ m ∷ []) is = absurd (omega arith)
-from_be_bytes-joined (a ∷ b ∷ c ∷ d ∷ e ∷ f ∷ g ∷ h ∷ j ∷ k ∷ l ∷ m ∷ n ∷ []) is = absurd (omega arith)
-from_be_bytes-joined (a ∷ b ∷ c ∷ d ∷ e ∷ f ∷ g ∷ h ∷ j ∷ k ∷ l ∷ m ∷ n ∷ p ∷ []) is = absurd (omega arith)
-from_be_bytes-joined (a ∷ b ∷ c ∷ d ∷ e ∷ f ∷ g ∷ h ∷ j ∷ k ∷ l ∷ m ∷ n ∷ p ∷ q ∷ []) is = absurd (omega arith)
 from_be_bytes-joined (a ∷ b ∷ c ∷ d ∷ e ∷ f ∷ g ∷ h ∷ j ∷ k ∷ l ∷ m ∷ n ∷ p ∷ q ∷ r ∷ []) is = sum_of_16 a b c d e f g h j k l m n p q r
-from_be_bytes-joined (a ∷ b ∷ c ∷ d ∷ e ∷ f ∷ g ∷ h ∷ j ∷ k ∷ l ∷ m ∷ n ∷ p ∷ q ∷ r ∷ s ∷ bs) is = absurd (omega arith)
+from_be_bytes-joined _ is = absurd (omega arith)
 
 pub be_bytes_16 : (bs : List ℕ) (n : ℕ) → length bs ≡ 16 → ((i : ℕ) → get_or bs i 0 < 256) → n ≡ from_be_bytes w128 bs → to_be_bytes w128 n ≡ bs
 be_bytes_16 bs n is small e =

@@ -1,5 +1,6 @@
 -- A message comes back from its data item, so no two messages have the same one.
-use Rattle.std.proofs.Common.{◌≡◌, ℕ, suc, Bool, true, false, if◌then◌else◌, ◌==◌, List, [], ◌∷◌, ◌++◌, length, map, All, Option, Some, None, option_map, IfSome, refl, sym, ◌∙◌, ap, arith}
+use Rattle.std.proofs.Common.{◌≡◌, ℕ, Bool, true, false, if◌then◌else◌, ◌==◌, List, [], ◌∷◌, ◌++◌, length, map, All, Option, Some, None, option_map, IfSome, refl, sym, ◌∙◌, ap, arith}
+use Rattle.grasp_cbor.proofs.Facts.Lists.{all_first, all_rest}
 use Rattle.grasp_cbor.specs.DataItem.{DataItem, DataItems, unsigned, byte_string, text_string, simple_value, array, no_items, item_and, data_items}
 use Rattle.grasp_types.specs.declared.address.Address.{Address}
 use Rattle.grasp_types.specs.declared.address.Address.TheVariants as address
@@ -143,12 +144,6 @@ verdict_in-item (Decline (Some reason)) = refl
 
 -- answers, and the objective after them
 
-all_first : {X : Type 0} (P : X → Type 0) (x : X) (xs : List X) → All P (x ∷ xs) → P x
-all_first P x xs h = h 0 x (omega arith)
-
-all_rest : {X : Type 0} (P : X → Type 0) (x : X) (xs : List X) → All P (x ∷ xs) → All P xs
-all_rest P x xs h k d lt = h (suc k) d (omega arith)
-
 abbrev locators_in : List DataItem → List Locator
 locators_in [] = []
 locators_in (t ∷ ts) = if is_objective t then [] else locator_in t ∷ locators_in ts
@@ -167,15 +162,11 @@ no_locators (Some o) = refl
 
 is_no_objective : (l : Locator) → is_objective (locator_item l) ≡ false
 is_no_objective (V6 n proto port) = refl
-is_no_objective (V4 n proto port) = refl
-is_no_objective (Fqdn name proto port) = refl
-is_no_objective (Uri text proto port) = refl
+is_no_objective _ = refl
 
 is_no_divert : (l : Locator) → (kind_in (locator_item l) == 100) ≡ false
 is_no_divert (V6 n proto port) = refl
-is_no_divert (V4 n proto port) = refl
-is_no_divert (Fqdn name proto port) = refl
-is_no_divert (Uri text proto port) = refl
+is_no_divert _ = refl
 
 locators_in-locators : (ls : List Locator) (o : Option Objective) → All IsLocator ls → locators_in (map locator_item ls ++ optional (option_map objective_item o)) ≡ ls
 locators_in-locators [] o h = no_locators o

@@ -21,7 +21,7 @@ length_first_through f i [] = refl
 length_first_through f zero (x ∷ xs) = refl
 length_first_through f (suc i) (x ∷ xs) = ap suc (length_first_through f i xs)
 
--- it writes the value of the entry at a place, as a map does
+-- the function writes the value of the entry at a place and keeps its key, as a map does
 pub record WritesValue {K V : Type 0} (write : List (K × V) → ℕ → V → List (K × V)) : Type 0 where
   pub none : (i : ℕ) (w : V) → write [] i w ≡ []
   pub first : (x : K × V) (xs : List (K × V)) (w : V) → write (x ∷ xs) 0 w ≡ (x.0, w) ∷ xs

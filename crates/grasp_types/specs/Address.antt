@@ -56,12 +56,12 @@ IsLocator (V4 n proto port) = (n < 2 ^ 32) × (port < 2 ^ 16)
 IsLocator (Fqdn name proto port) = IsUtf8 name × (port < 2 ^ 16)
 IsLocator (Uri text proto port) = IsUtf8 text × IfSome port (λ p. p < 2 ^ 16)
 
--- it is TCP
+-- the transport protocol is TCP
 abbrev pub is_tcp : Proto → Bool
 is_tcp Tcp = true
 is_tcp Udp = false
 
--- it is an IPv6 or IPv4 address with TCP, which a stream can be opened to
+-- the locator is an IPv6 or IPv4 address with TCP, to which a stream can be opened
 abbrev pub is_dialable : Locator → Bool
 is_dialable (V6 n proto port) = is_tcp proto
 is_dialable (V4 n proto port) = is_tcp proto

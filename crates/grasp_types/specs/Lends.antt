@@ -9,6 +9,6 @@ module _ (T : RattleType) (v : MutBor (List T.Denot)) where
   abbrev pub lends_at : ℕ → Option (MutBor T.Denot) → Fml
   lends_at i r = LendsIf (list.the_row T) T v r (slice_set v.now i) v.now
 
-  -- the same of a list that is not empty
+  -- once the borrow r ends, the place i of a list that is not empty has the last value written through r
   abbrev pub lends_of_some : ℕ → Option (MutBor T.Denot) → Fml
   lends_of_some i r = LendsIf (non_empty.the_row T) T v r (slice_set v.now i) v.now

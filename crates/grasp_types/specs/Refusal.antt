@@ -3,7 +3,7 @@ use Rattle.std.specs.Prelude.{ℕ, List, codes}
 use Rattle.grasp_types.specs.declared.refusal.ApiRefused.{ApiRefused}
 use Rattle.grasp_types.specs.declared.refusal.ApiRefused.TheVariants.{NoAsa, AsasFull, DuplicateAsa, NotBoth, ObjectivesFull, ObjectiveTaken, NotYourObjective, NotNegotiable, NotSynchronizable, NotDry, BadLocator, NoSession, NotYourTurn, LoopsSpent, WaitsSpent, NoFlood, SessionsFull, StreamsFull, TooLong, OutboxFull, OutOfMemory}
 
--- its number, which is also its rank: of the refusals that hold the least is answered
+-- the number of a refusal, which is also its rank: of the refusals that hold, the one of the least number is answered
 abbrev pub refusal_number : ApiRefused → ℕ
 refusal_number NoAsa = 1
 refusal_number AsasFull = 2
@@ -27,7 +27,7 @@ refusal_number TooLong = 19
 refusal_number OutboxFull = 20
 refusal_number OutOfMemory = 21
 
--- its name, as reports print it
+-- the name of a refusal, as reports print it
 abbrev pub refusal_name : ApiRefused → List ℕ
 refusal_name NoAsa = codes "NoAsa"
 refusal_name AsasFull = codes "AsasFull"

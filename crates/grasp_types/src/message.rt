@@ -122,11 +122,13 @@ impl Plain for Message {
 }
 
 /// A message in which each part is within its type's range has its data item for itself alone.
+#[tactic(auto, using(crate::proofs::FromItems::no_two_messages))]
 pub fn one_message_an_item()
     ensures { OneMessageAnItem }
 {}
 
 /// A message's data item nests at most 16 deep, as deep as an encoding may.
+#[tactic(auto, using(crate::proofs::Depths::message_depth))]
 pub fn messages_nest_sixteen_deep()
     ensures { MessagesNestSixteenDeep }
 {}

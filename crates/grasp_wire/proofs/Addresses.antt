@@ -1,9 +1,13 @@
 -- Addresses, protocols and locators are read from their items.
-use Rattle.std.proofs.Common.{◌≡◌, ◌<◌, ◌^◌, ◌==◌, ℕ, zero, suc, Option, Some, None, IfSome, List, [], ◌∷◌, refl, sym, ap, subst, ◌∙◌, arith, inl, inr, length, get_or}
+use Rattle.std.proofs.Common.{◌≡◌, ◌<◌, ◌^◌, ◌==◌, ℕ, Option, Some, None, IfSome, List, refl, sym, ap, subst, ◌∙◌, arith, inl, inr, length, get_or}
+use Rattle.std.proofs.lemmas.Bool.{eqb-true}
 use Rattle.std.specs.Int.{from_be_bytes, to_be_bytes, w32, w128}
 use Rattle.std.proofs.lemmas.Nat.{be_bytes_4, from_be_bytes-to_be_bytes_4}
-use Rattle.grasp_cbor.specs.Bytes.{AllBytes}
-use Rattle.grasp_cbor.specs.DataItem.{DataItem, unsigned, negative, byte_string, text_string, array, mapping, tagged, simple_value, half_float, single_float, double_float}
+use Rattle.std.proofs.lemmas.Option.{same_Some, none-some}
+use Rattle.grasp_cbor.proofs.Facts.Numbers.{small_16, back_16}
+use Rattle.grasp_cbor.proofs.HeadBytes.{AllBytes-at}
+use Rattle.grasp_cbor.proofs.Takes.{chosen}
+use Rattle.grasp_cbor.specs.DataItem.{DataItem, unsigned, byte_string}
 use Rattle.grasp_cbor.specs.Encodable.{IsEncodable}
 use Rattle.grasp_types.proofs.BigEndian.{be_bytes_16}
 use Rattle.grasp_types.specs.Address.{address_bytes, address_item, proto_item, proto_or_null, port_or_null, IsAddress}
@@ -13,27 +17,13 @@ use Rattle.grasp_types.specs.declared.address.Proto.{Proto}
 use Rattle.grasp_types.specs.declared.address.Proto.TheVariants.{Tcp, Udp}
 use Rattle.grasp_wire.specs.Reading.{◌>>=◌, number_in, or_null}
 use Rattle.grasp_wire.specs.ReadParts.{bytes_in, ipv4_of, ipv6_of, address_of, ipv4_in, ipv6_in, address_in, proto_of, proto_in, port_in}
-use Rattle.grasp_wire.proofs.Scalars.{Finds, Again, Any, some_bind, chosen, some_same, none_some, test_is, number_finds, port_finds, port_again, or_null_found}
+use Rattle.grasp_wire.proofs.Scalars.{Finds, Again, Any, some_bind, number_finds, port_finds, port_again, or_null_found}
 
 -- bytes
 
-pub bytes_small : (bs : List ℕ) → AllBytes bs → (i : ℕ) → get_or bs i 0 < 256
-bytes_small [] h i = omega arith
-bytes_small (b ∷ bs) h zero = h.0
-bytes_small (b ∷ bs) h (suc i) = bytes_small bs h.1 i
-
 bytes_found : (t : DataItem) (bs : List ℕ) → bytes_in t ≡ Some bs → t ≡ byte_string bs
-bytes_found (unsigned m) bs h = absurd (none_some bs h)
-bytes_found (negative m) bs h = absurd (none_some bs h)
-bytes_found (byte_string cs) bs h = ap byte_string (some_same cs bs h)
-bytes_found (text_string cs) bs h = absurd (none_some bs h)
-bytes_found (array ts) bs h = absurd (none_some bs h)
-bytes_found (mapping es) bs h = absurd (none_some bs h)
-bytes_found (tagged m t) bs h = absurd (none_some bs h)
-bytes_found (simple_value m) bs h = absurd (none_some bs h)
-bytes_found (half_float m) bs h = absurd (none_some bs h)
-bytes_found (single_float m) bs h = absurd (none_some bs h)
-bytes_found (double_float m) bs h = absurd (none_some bs h)
+bytes_found (byte_string cs) bs h = ap byte_string (same_Some cs bs h)
+bytes_found _ bs h = absurd (none-some bs h)
 
 bytes_find : {X : Type 0} (of : List ℕ → Option X) (bytes : X → List ℕ) (Is : X → Type 0)
     → ((bs : List ℕ) (x : X) → ((i : ℕ) → get_or bs i 0 < 256) → of bs ≡ Some x → (bs ≡ bytes x) × Is x)
@@ -41,14 +31,11 @@ bytes_find : {X : Type 0} (of : List ℕ → Option X) (bytes : X → List ℕ) 
 bytes_find of bytes Is finds t x enc h =
     let bs = some_bind (bytes_in t) of x h in
     let e = bytes_found t bs.0 bs.1 in
-    let f = finds bs.0 x (bytes_small bs.0 (subst IsEncodable e enc).1) bs.2 in
+    let f = finds bs.0 x (AllBytes-at bs.0 (subst IsEncodable e enc).1) bs.2 in
     (e ∙ ap byte_string f.0, f.1)
 
 small_4 : (bs : List ℕ) → ((i : ℕ) → get_or bs i 0 < 256) → from_be_bytes w32 bs < 2 ^ 32
 small_4 bs h = omega (arith, h 0, h 1, h 2, h 3)
-
-small_16 : (bs : List ℕ) → ((i : ℕ) → get_or bs i 0 < 256) → from_be_bytes w128 bs < 2 ^ 128
-small_16 bs h = omega (arith, h 0, h 1, h 2, h 3, h 4, h 5, h 6, h 7, h 8, h 9, h 10, h 11, h 12, h 13, h 14, h 15)
 
 same_4 : (bs : List ℕ) (n : ℕ) → ((i : ℕ) → get_or bs i 0 < 256) → length bs ≡ 4 → from_be_bytes w32 bs ≡ n → (bs ≡ to_be_bytes w32 n) × (n < 2 ^ 32)
 same_4 bs n small is e = (sym (be_bytes_4 bs n is small (sym e)), subst (λ (k : ℕ). k < 2 ^ 32) e (small_4 bs small))
@@ -56,15 +43,12 @@ same_4 bs n small is e = (sym (be_bytes_4 bs n is small (sym e)), subst (λ (k :
 same_16 : (bs : List ℕ) (n : ℕ) → ((i : ℕ) → get_or bs i 0 < 256) → length bs ≡ 16 → from_be_bytes w128 bs ≡ n → (bs ≡ to_be_bytes w128 n) × (n < 2 ^ 128)
 same_16 bs n small is e = (sym (be_bytes_16 bs n is small (sym e)), subst (λ (k : ℕ). k < 2 ^ 128) e (small_16 bs small))
 
-back_16 : (n : ℕ) → n < 2 ^ 128 → from_be_bytes w128 (to_be_bytes w128 n) ≡ n
-back_16 n h = omega arith
-
 -- addresses
 
 ipv4_of_found : (bs : List ℕ) (n : ℕ) → ((i : ℕ) → get_or bs i 0 < 256) → ipv4_of bs ≡ Some n → (bs ≡ to_be_bytes w32 n) × (n < 2 ^ 32)
 ipv4_of_found bs n small h = elim (chosen (length bs == 4) (Some (from_be_bytes w32 bs)) None (Some n) h) [
-  | inl p ↦ same_4 bs n small (test_is _ 4 p.0) (some_same _ n p.1)
-  | inr p ↦ absurd (none_some n p.1)
+  | inl p ↦ same_4 bs n small (eqb-true _ 4 p.0) (same_Some _ n p.1)
+  | inr p ↦ absurd (none-some n p.1)
 ]
 
 pub ipv4_finds : Finds ipv4_in (λ n. byte_string (to_be_bytes w32 n)) (λ n. n < 2 ^ 32)
@@ -77,8 +61,8 @@ ipv4_again n h = ap Some (from_be_bytes-to_be_bytes_4 n h)
 
 ipv6_of_found : (bs : List ℕ) (n : ℕ) → ((i : ℕ) → get_or bs i 0 < 256) → ipv6_of bs ≡ Some n → (bs ≡ to_be_bytes w128 n) × (n < 2 ^ 128)
 ipv6_of_found bs n small h = elim (chosen (length bs == 16) (Some (from_be_bytes w128 bs)) None (Some n) h) [
-  | inl p ↦ same_16 bs n small (test_is _ 16 p.0) (some_same _ n p.1)
-  | inr p ↦ absurd (none_some n p.1)
+  | inl p ↦ same_16 bs n small (eqb-true _ 16 p.0) (same_Some _ n p.1)
+  | inr p ↦ absurd (none-some n p.1)
 ]
 
 pub ipv6_finds : Finds ipv6_in (λ n. byte_string (to_be_bytes w128 n)) (λ n. n < 2 ^ 128)
@@ -91,10 +75,10 @@ ipv6_again n h = ap Some (back_16 n h)
 
 address_of_found : (bs : List ℕ) (a : Address) → ((i : ℕ) → get_or bs i 0 < 256) → address_of bs ≡ Some a → (bs ≡ address_bytes a) × IsAddress a
 address_of_found bs a small h = elim (chosen (length bs == 4) (Some (address.V4 (from_be_bytes w32 bs))) _ (Some a) h) [
-  | inl p ↦ subst (λ x. (bs ≡ address_bytes x) × IsAddress x) (some_same _ a p.1) (same_4 bs (from_be_bytes w32 bs) small (test_is _ 4 p.0) refl)
+  | inl p ↦ subst (λ x. (bs ≡ address_bytes x) × IsAddress x) (same_Some _ a p.1) (same_4 bs (from_be_bytes w32 bs) small (eqb-true _ 4 p.0) refl)
   | inr p ↦ elim (chosen (length bs == 16) (Some (address.V6 (from_be_bytes w128 bs))) None (Some a) p.1) [
-    | inl q ↦ subst (λ x. (bs ≡ address_bytes x) × IsAddress x) (some_same _ a q.1) (same_16 bs (from_be_bytes w128 bs) small (test_is _ 16 q.0) refl)
-    | inr q ↦ absurd (none_some a q.1)
+    | inl q ↦ subst (λ x. (bs ≡ address_bytes x) × IsAddress x) (same_Some _ a q.1) (same_16 bs (from_be_bytes w128 bs) small (eqb-true _ 16 q.0) refl)
+    | inr q ↦ absurd (none-some a q.1)
   ]
 ]
 
@@ -111,10 +95,10 @@ address_again (address.V6 n) h = ap (λ m. Some (address.V6 m)) (back_16 n h)
 
 proto_of_found : (n : ℕ) (p : Proto) → proto_of n ≡ Some p → unsigned n ≡ proto_item p
 proto_of_found n p h = elim (chosen (n == 6) (Some Tcp) _ (Some p) h) [
-  | inl e ↦ ap unsigned (test_is n 6 e.0) ∙ ap proto_item (some_same Tcp p e.1)
+  | inl e ↦ ap unsigned (eqb-true n 6 e.0) ∙ ap proto_item (same_Some Tcp p e.1)
   | inr e ↦ elim (chosen (n == 17) (Some Udp) None (Some p) e.1) [
-    | inl f ↦ ap unsigned (test_is n 17 f.0) ∙ ap proto_item (some_same Udp p f.1)
-    | inr f ↦ absurd (none_some p f.1)
+    | inl f ↦ ap unsigned (eqb-true n 17 f.0) ∙ ap proto_item (same_Some Udp p f.1)
+    | inr f ↦ absurd (none-some p f.1)
   ]
 ]
 

@@ -3,7 +3,7 @@ use Rattle.std.proofs.Common.{inl, inr, ℕ, List, [], Ok, Err, length, take, dr
 use Rattle.std.proofs.lemmas.List.{length-take-le}
 use Rattle.grasp_cbor.specs.Bytes.{AllBytes}
 use Rattle.grasp_types.specs.declared.message.Message.{Message}
-use Rattle.grasp_wire.specs.declared.fault.CutFault.TheVariants.{Malformed, NotText, TooDeep, TooLong, NotMessage, OutOfMemory}
+use Rattle.grasp_wire.specs.declared.fault.CutFault.TheVariants.{OutOfMemory}
 use Rattle.grasp_wire.specs.declared.fault.OneFault.TheVariants.{Cut, Truncated, Trailing}
 use Rattle.grasp_wire.specs.Laws.{FormsAreDecoded}
 use Rattle.grasp_wire.specs.One.{HasTrailing}
@@ -25,10 +25,6 @@ no_trailing m bytes limit at form t =
 pub forms_are_decoded : FormsAreDecoded
 forms_are_decoded m bytes limit (Ok n) b form a = inl (ap Ok (one_message n m bytes limit a form))
 forms_are_decoded m bytes limit (Err (Cut OutOfMemory)) b form a = inr refl
-forms_are_decoded m bytes limit (Err (Cut (Malformed at))) b form a = absurd (no_rest m bytes limit a.kind b form a.kind_is)
-forms_are_decoded m bytes limit (Err (Cut (NotText at))) b form a = absurd (no_rest m bytes limit a.kind b form a.kind_is)
-forms_are_decoded m bytes limit (Err (Cut (TooDeep at))) b form a = absurd (no_rest m bytes limit a.kind b form a.kind_is)
-forms_are_decoded m bytes limit (Err (Cut (TooLong at))) b form a = absurd (no_rest m bytes limit a.kind b form a.kind_is)
-forms_are_decoded m bytes limit (Err (Cut (NotMessage at))) b form a = absurd (no_rest m bytes limit a.kind b form a.kind_is)
+forms_are_decoded m bytes limit (Err (Cut _)) b form a = absurd (no_rest m bytes limit a.kind b form a.kind_is)
 forms_are_decoded m bytes limit (Err (Truncated at)) b form a = absurd (no_rest m bytes limit waiting b form a.waits)
 forms_are_decoded m bytes limit (Err (Trailing at)) b form a = absurd (no_trailing m bytes limit at form a)

@@ -8,7 +8,7 @@ use Rattle.grasp_types.specs.declared.message.Message.{Message}
 use Rattle.grasp_wire.specs.declared.fault.CutFault.{CutFault}
 use Rattle.grasp_wire.specs.declared.cutter.Cutter.{Cutter}
 use Rattle.grasp_wire.specs.Wire.{IsWireForm, AreWireForms}
-use Rattle.grasp_wire.specs.Stream.{Splits, Divides, RestKind, IsRest}
+use Rattle.grasp_wire.specs.Stream.{Splits, RestKind, IsRest}
 use Rattle.grasp_wire.specs.Stream as rest
 use Rattle.grasp_wire.specs.Cutter.{Past, Waits}
 use Rattle.grasp_wire.specs.Stands.{Stands, KeepsUp, cut_limit, rest_of}

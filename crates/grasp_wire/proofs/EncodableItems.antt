@@ -1,15 +1,13 @@
 -- The data item of a message that is short enough has its numbers in range.
-use Rattle.std.proofs.Common.{ℕ, zero, suc, ◌+◌, ◌^◌, ◌/◌, ◌<◌, ◌≤◌, Bool, true, false, cond, List, [], ◌∷◌, ◌++◌, All, map, Option, Some, None, IfSome, option_map, length, length-append, arith, rules}
-use Rattle.std.specs.Int.{byte_at, bytes_high_first}
+use Rattle.std.proofs.Common.{ℕ, suc, ◌+◌, ◌^◌, ◌<◌, ◌≤◌, Bool, true, false, cond, List, [], ◌∷◌, ◌++◌, All, map, Option, Some, None, IfSome, option_map, length, length-append, arith, rules}
 use Rattle.std.specs.Prelude.{nat_lt}
 use Rattle.std.specs.Str.{IsUtf8}
-use Rattle.std.proofs.lemmas.Nat.{mod_below}
-use Rattle.grasp_cbor.specs.Bytes.{AllBytes}
-use Rattle.grasp_cbor.specs.DataItem.{DataItem, unsigned, negative, byte_string, text_string, array, mapping, tagged, simple_value, half_float, single_float, double_float, array_of, data_items, item_count}
+use Rattle.grasp_cbor.specs.DataItem.{DataItem, unsigned, negative, byte_string, text_string, array, mapping, tagged, simple_value, array_of, data_items, item_count}
 use Rattle.grasp_cbor.specs.Encodable.{IsEncodable, AreEncodable}
-use Rattle.grasp_cbor.specs.Head.{HeadSize, direct, one_byte, two_bytes, four_bytes, eight_bytes, sized_head, shortest_size, shortest_head}
+use Rattle.grasp_cbor.specs.Head.{HeadSize, direct, sized_head, shortest_size, shortest_head}
 use Rattle.grasp_cbor.specs.Shortest.{shortest}
 use Rattle.grasp_cbor.proofs.Counts.{item_count-data_items}
+use Rattle.grasp_cbor.proofs.Facts.Numbers.{all_bytes}
 use Rattle.grasp_cbor.proofs.Shortest.{Encodes-shortest}
 use Rattle.grasp_types.specs.declared.address.Address.{Address}
 use Rattle.grasp_types.specs.declared.address.Address.TheVariants as address
@@ -32,7 +30,7 @@ use Rattle.grasp_types.proofs.Depths.{message_depth}
 use Rattle.grasp_wire.specs.Parts.{shortest_parts}
 use Rattle.grasp_wire.specs.Wire.{IsWireForm}
 
--- its numbers are in range where its shortest encoding has fewer than 2 ^ 64 bytes
+-- the item's numbers are in range if its shortest encoding has fewer than 2 ^ 64 bytes
 abbrev pub IsFine : DataItem → Type 0
 IsFine t = length (shortest t) < 2 ^ 64 → IsEncodable t
 
@@ -45,10 +43,7 @@ AreFine (t ∷ ts) = IsFine t × AreFine ts
 
 sized_some : (size : HeadSize) (major n : ℕ) → 1 ≤ length (sized_head size major n)
 sized_some direct major n = omega arith
-sized_some one_byte major n = omega arith
-sized_some two_bytes major n = omega arith
-sized_some four_bytes major n = omega arith
-sized_some eight_bytes major n = omega arith
+sized_some _ major n = omega arith
 
 head_some : (major n : ℕ) → 1 ≤ length (shortest_head major n)
 unfolding shortest_head
@@ -70,9 +65,7 @@ item_some (array ts) = front_some _ _ (head_some 4 _)
 item_some (mapping es) = front_some _ _ (head_some 5 _)
 item_some (tagged n t) = front_some _ _ (head_some 6 _)
 item_some (simple_value n) = simple_some (nat_lt n 24) n
-item_some (half_float n) = omega arith
-item_some (single_float n) = omega arith
-item_some (double_float n) = omega arith
+item_some _ = omega arith
 
 parts_some : (ts : List DataItem) → length ts ≤ length (shortest_parts ts)
 parts_some [] = omega arith
@@ -108,14 +101,6 @@ number_fine n h short = h
 
 text_fine : (bs : List ℕ) → IsUtf8 bs → IsFine (text_string bs)
 text_fine bs u short = (omega (arith, short, length-append (shortest_head 3 (length bs)) bs), u)
-
-byte_below : (k n : ℕ) → byte_at k n < 256
-byte_below zero n = mod_below n 256 (omega arith)
-byte_below (suc k) n = mod_below (n / 256 ^ suc k) 256 (omega arith)
-
-all_bytes : (k n : ℕ) → AllBytes (bytes_high_first k n)
-all_bytes zero n = tt
-all_bytes (suc k) n = (byte_below k n, all_bytes k n)
 
 address_fine : (a : Address) → IsFine (address_item a)
 address_fine (address.V4 n) short = (omega arith, all_bytes 4 n)

@@ -3,6 +3,7 @@ pub mod Datagrams
 pub mod Dividing
 mod EncodableItems
 pub mod EncodedFirst
+pub mod Facts
 pub mod Finding
 pub mod Joins
 pub mod Locators

@@ -1,7 +1,10 @@
 -- Locators are read from their items.
 use Rattle.std.proofs.Common.{◌≡◌, ◌<◌, ◌^◌, ◌==◌, ℕ, Option, Some, None, IfSome, List, [], ◌∷◌, refl, ap, subst, ◌∙◌, inl, inr, true, length, drop}
+use Rattle.std.proofs.lemmas.Bool.{eqb-true}
+use Rattle.std.proofs.lemmas.Option.{same_Some, none-some}
 use Rattle.std.specs.Int.{to_be_bytes, w32, w128}
 use Rattle.std.specs.Str.{IsUtf8}
+use Rattle.grasp_cbor.proofs.Takes.{chosen}
 use Rattle.grasp_cbor.specs.DataItem.{DataItem, unsigned, byte_string, text_string, array_of, data_items}
 use Rattle.grasp_cbor.specs.Encodable.{AreEncodable}
 use Rattle.grasp_types.specs.Address.{proto_item, proto_or_null, port_or_null, locator_item, IsLocator}
@@ -10,7 +13,7 @@ use Rattle.grasp_types.specs.declared.address.Locator.{Locator}
 use Rattle.grasp_types.specs.declared.address.Locator.TheVariants.{V6, V4, Fqdn, Uri}
 use Rattle.grasp_wire.specs.Reading.{◌>>=◌, at_place, number_in, text_in, or_null}
 use Rattle.grasp_wire.specs.ReadParts.{ipv4_in, ipv6_in, proto_in, port_in, v6_of, v4_of, fqdn_of, uri_of, locator_of_kind, locator_of, locator_in, locator_or_empty_of, locator_or_empty_in}
-use Rattle.grasp_wire.proofs.Scalars.{Finds, Again, Any, PartsFind, some_bind, chosen, some_same, none_some, test_is, array_finds, port_finds, port_again, text_finds}
+use Rattle.grasp_wire.proofs.Scalars.{Finds, Again, Any, PartsFind, some_bind, array_finds, port_finds, port_again, text_finds}
 use Rattle.grasp_wire.proofs.Addresses.{ipv4_finds, ipv4_again, ipv6_finds, ipv6_again, proto_finds, proto_again, some_proto_finds, some_proto_again, some_port_finds, some_port_again}
 use Rattle.grasp_wire.proofs.Steps.{step, first_is, ends, and_then}
 
@@ -33,7 +36,7 @@ v6_found ts l enc len kind h =
     let a = step ipv6_in (λ m. byte_string (to_be_bytes w128 m)) (λ m. m < 2 ^ 128) ipv6_finds ts 1 n.0 enc n.1 in
     let b = step proto_in proto_item Any proto_finds ts 2 proto.0 enc proto.1 in
     let c = step port_in unsigned (λ m. m < 2 ^ 16) port_finds ts 3 port.0 enc port.1 in
-    subst (IsOf ts) (some_same (V6 n.0 proto.0 port.0) l port.2)
+    subst (IsOf ts) (same_Some (V6 n.0 proto.0 port.0) l port.2)
     (ap array_of (four ts (unsigned 103) (byte_string (to_be_bytes w128 n.0)) (proto_item proto.0) (unsigned port.0) kind a.0 b.0 c.0 (ends ts 4 len)), (a.1, c.1))
 
 v4_found : (ts : List DataItem) (l : Locator) → AreEncodable (data_items ts) → length ts ≡ 4 → ts ≡ unsigned 104 ∷ drop 1 ts → v4_of ts ≡ Some l → IsOf ts l
@@ -45,7 +48,7 @@ v4_found ts l enc len kind h =
     let a = step ipv4_in (λ m. byte_string (to_be_bytes w32 m)) (λ m. m < 2 ^ 32) ipv4_finds ts 1 n.0 enc n.1 in
     let b = step proto_in proto_item Any proto_finds ts 2 proto.0 enc proto.1 in
     let c = step port_in unsigned (λ m. m < 2 ^ 16) port_finds ts 3 port.0 enc port.1 in
-    subst (IsOf ts) (some_same (V4 n.0 proto.0 port.0) l port.2)
+    subst (IsOf ts) (same_Some (V4 n.0 proto.0 port.0) l port.2)
     (ap array_of (four ts (unsigned 104) (byte_string (to_be_bytes w32 n.0)) (proto_item proto.0) (unsigned port.0) kind a.0 b.0 c.0 (ends ts 4 len)), (a.1, c.1))
 
 fqdn_found : (ts : List DataItem) (l : Locator) → AreEncodable (data_items ts) → length ts ≡ 4 → ts ≡ unsigned 105 ∷ drop 1 ts → fqdn_of ts ≡ Some l → IsOf ts l
@@ -57,7 +60,7 @@ fqdn_found ts l enc len kind h =
     let a = step text_in text_string IsUtf8 text_finds ts 1 name.0 enc name.1 in
     let b = step proto_in proto_item Any proto_finds ts 2 proto.0 enc proto.1 in
     let c = step port_in unsigned (λ m. m < 2 ^ 16) port_finds ts 3 port.0 enc port.1 in
-    subst (IsOf ts) (some_same (Fqdn name.0 proto.0 port.0) l port.2)
+    subst (IsOf ts) (same_Some (Fqdn name.0 proto.0 port.0) l port.2)
     (ap array_of (four ts (unsigned 105) (text_string name.0) (proto_item proto.0) (unsigned port.0) kind a.0 b.0 c.0 (ends ts 4 len)), (a.1, c.1))
 
 uri_found : (ts : List DataItem) (l : Locator) → AreEncodable (data_items ts) → length ts ≡ 4 → ts ≡ unsigned 106 ∷ drop 1 ts → uri_of ts ≡ Some l → IsOf ts l
@@ -69,12 +72,12 @@ uri_found ts l enc len kind h =
     let a = step text_in text_string IsUtf8 text_finds ts 1 text.0 enc text.1 in
     let b = step (or_null proto_in) proto_or_null (λ o. IfSome o Any) some_proto_finds ts 2 proto.0 enc proto.1 in
     let c = step (or_null port_in) port_or_null (λ o. IfSome o (λ m. m < 2 ^ 16)) some_port_finds ts 3 port.0 enc port.1 in
-    subst (IsOf ts) (some_same (Uri text.0 proto.0 port.0) l port.2)
+    subst (IsOf ts) (same_Some (Uri text.0 proto.0 port.0) l port.2)
     (ap array_of (four ts (unsigned 106) (text_string text.0) (proto_or_null proto.0) (port_or_null port.0) kind a.0 b.0 c.0 (ends ts 4 len)), (a.1, c.1))
 
 -- the kind of the array is the number that it was compared with
 pub of_kind : (ts : List DataItem) (k n : ℕ) → ts ≡ unsigned k ∷ drop 1 ts → (k == n) ≡ true → ts ≡ unsigned n ∷ drop 1 ts
-of_kind ts k n e is = e ∙ ap (λ m. unsigned m ∷ drop 1 ts) (test_is k n is)
+of_kind ts k n e is = e ∙ ap (λ m. unsigned m ∷ drop 1 ts) (eqb-true k n is)
 
 kind_found : (ts : List DataItem) (k : ℕ) (l : Locator) → AreEncodable (data_items ts) → length ts ≡ 4 → ts ≡ unsigned k ∷ drop 1 ts → locator_of_kind k ts ≡ Some l → IsOf ts l
 unfolding locator_of_kind
@@ -86,7 +89,7 @@ kind_found ts k l enc len kind h = elim (chosen (k == 103) (v6_of ts) _ (Some l)
       | inl r ↦ fqdn_found ts l enc len (of_kind ts k 105 kind r.0) r.1
       | inr r ↦ elim (chosen (k == 106) (uri_of ts) None (Some l) r.1) [
         | inl s ↦ uri_found ts l enc len (of_kind ts k 106 kind s.0) s.1
-        | inr s ↦ absurd (none_some l s.1)
+        | inr s ↦ absurd (none-some l s.1)
       ]
     ]
   ]
@@ -97,15 +100,15 @@ unfolding locator_of
 locator_parts_find ts l enc h = elim (chosen (length ts == 4) _ None (Some l) h) [
   | inl p ↦
       let k = some_bind (at_place number_in ts 0) _ l p.1 in
-      kind_found ts k.0 l enc (test_is _ 4 p.0) (first_is ts k.0 enc k.1) k.2
-  | inr p ↦ absurd (none_some l p.1)
+      kind_found ts k.0 l enc (eqb-true _ 4 p.0) (first_is ts k.0 enc k.1) k.2
+  | inr p ↦ absurd (none-some l p.1)
 ]
 
 pub locator_finds : Finds locator_in locator_item IsLocator
 unfolding locator_in
 locator_finds t l enc h = array_finds locator_of locator_item IsLocator locator_parts_find t l enc h
 
--- and back
+-- a locator is read back from its item
 
 pub locator_again : Again locator_in locator_item IsLocator
 unfolding locator_in locator_of locator_of_kind v6_of v4_of fqdn_of uri_of
@@ -122,10 +125,10 @@ IsOfSome ts o = (array_of ts ≡ locator_or_empty o) × IfSome o IsLocator
 locator_or_empty_parts_find : PartsFind locator_or_empty_of locator_or_empty (λ o. IfSome o IsLocator)
 unfolding locator_or_empty_of
 locator_or_empty_parts_find ts o enc h = elim (chosen (length ts == 0) (Some None) _ (Some o) h) [
-  | inl p ↦ subst (IsOfSome ts) (some_same None o p.1) (ap array_of (ends ts 0 (test_is _ 0 p.0)), tt)
+  | inl p ↦ subst (IsOfSome ts) (same_Some None o p.1) (ap array_of (ends ts 0 (eqb-true _ 0 p.0)), tt)
   | inr p ↦
       let l = some_bind (locator_of ts) _ o p.1 in
-      subst (IsOfSome ts) (some_same (Some l.0) o l.2) (locator_parts_find ts l.0 enc l.1)
+      subst (IsOfSome ts) (same_Some (Some l.0) o l.2) (locator_parts_find ts l.0 enc l.1)
 ]
 
 pub locator_or_empty_finds : Finds locator_or_empty_in locator_or_empty (λ o. IfSome o IsLocator)

@@ -1,7 +1,10 @@
 -- Messages are read from their items.
 use Rattle.std.proofs.Common.{◌≡◌, ◌<◌, ◌+◌, ◌^◌, ◌==◌, ℕ, Option, Some, None, option_map, List, [], ◌∷◌, ◌++◌, refl, sym, ap, subst, ◌∙◌, arith, cond, inl, inr, Bool, true, false, length, drop}
+use Rattle.std.proofs.lemmas.Bool.{eqb-true}
 use Rattle.std.specs.List.{slice_range}
 use Rattle.std.proofs.lemmas.List.Folds.{drop_split}
+use Rattle.std.proofs.lemmas.Option.{same_Some as some_same, none-some}
+use Rattle.grasp_cbor.proofs.Takes.{chosen}
 use Rattle.grasp_cbor.specs.DataItem.{DataItem, unsigned, array_of, data_items}
 use Rattle.grasp_cbor.specs.Encodable.{AreEncodable}
 use Rattle.grasp_types.specs.Address.{address_item, IsAddress}
@@ -13,7 +16,7 @@ use Rattle.grasp_types.specs.declared.objective.Objective.{Objective}
 use Rattle.grasp_wire.specs.Reading.{at_place, number_in, last_at, one_or_more}
 use Rattle.grasp_wire.specs.ReadParts.{narrow_in, address_in, objective_in, verdict_in, value_in, answer_between, answer_end, flood_part_in}
 use Rattle.grasp_wire.specs.ReadMessages.{told_of, req_neg_of, req_syn_of, negotiate_of, synch_of, noop_of, discovery_of, response_of, end_of, wait_of, flood_of, invalid_of, message_of_kind, message_of, message_in}
-use Rattle.grasp_wire.proofs.Scalars.{Finds, some_bind, chosen, some_same, none_some, test_is, array_finds, narrow_finds}
+use Rattle.grasp_wire.proofs.Scalars.{Finds, some_bind, array_finds, narrow_finds}
 use Rattle.grasp_wire.proofs.Addresses.{address_finds}
 use Rattle.grasp_wire.proofs.Locators.{of_kind}
 use Rattle.grasp_wire.proofs.Objectives.{value_finds, optional_same, objective_finds, verdict_finds, flood_part_finds}
@@ -37,8 +40,8 @@ objective_step ts n o enc h = step objective_in objective_item IsObjective objec
 noop_found : (ts : List DataItem) (m : Message) → AreEncodable (data_items ts) → ts ≡ unsigned 0 ∷ drop 1 ts → noop_of ts ≡ Some m → IsRead ts m
 unfolding noop_of
 noop_found ts m enc kind h = elim (chosen (length ts == 1) (Some Noop) None (Some m) h) [
-  | inl p ↦ subst (IsRead ts) (some_same Noop m p.1) (ap array_of (and_then (unsigned 0) ts (drop 1 ts) [] kind (ends ts 1 (test_is _ 1 p.0))), tt)
-  | inr p ↦ absurd (none_some m p.1)
+  | inl p ↦ subst (IsRead ts) (some_same Noop m p.1) (ap array_of (and_then (unsigned 0) ts (drop 1 ts) [] kind (ends ts 1 (eqb-true _ 1 p.0))), tt)
+  | inr p ↦ absurd (none-some m p.1)
 ]
 
 discovery_found : (ts : List DataItem) (m : Message) → AreEncodable (data_items ts) → ts ≡ unsigned 1 ∷ drop 1 ts → discovery_of ts ≡ Some m → IsRead ts m
@@ -52,9 +55,9 @@ discovery_found ts m enc kind h = elim (chosen (length ts == 4) _ None (Some m) 
       let b = step address_in address_item IsAddress address_finds ts 2 initiator.0 enc initiator.1 in
       let c = objective_step ts 3 objective.0 enc objective.1 in
       let parts = and_then (unsigned 1) ts (drop 1 ts) _ kind (and_then (unsigned session.0) (drop 1 ts) (drop 2 ts) _ a.0
-      (and_then (address_item initiator.0) (drop 2 ts) (drop 3 ts) _ b.0 (and_then (objective_item objective.0) (drop 3 ts) (drop 4 ts) [] c.0 (ends ts 4 (test_is _ 4 p.0))))) in
+      (and_then (address_item initiator.0) (drop 2 ts) (drop 3 ts) _ b.0 (and_then (objective_item objective.0) (drop 3 ts) (drop 4 ts) [] c.0 (ends ts 4 (eqb-true _ 4 p.0))))) in
       subst (IsRead ts) (some_same (Discovery session.0 initiator.0 objective.0) m objective.2) (ap array_of parts, (a.1, b.1, c.1))
-  | inr p ↦ absurd (none_some m p.1)
+  | inr p ↦ absurd (none-some m p.1)
 ]
 
 response_found : (ts : List DataItem) (m : Message) → AreEncodable (data_items ts) → ts ≡ unsigned 2 ∷ drop 1 ts → response_of ts ≡ Some m → IsRead ts m
@@ -87,8 +90,8 @@ told_found ts told enc h = elim (chosen (length ts == 3) _ None (Some told) h) [
       let b = objective_step ts 2 objective.0 enc objective.1 in
       let made : ℕ × Objective = (session.0, objective.0) in
       subst (λ x. (drop 1 ts ≡ unsigned x.0 ∷ objective_item x.1 ∷ []) × Narrow x.0 × IsObjective x.1) (some_same made told objective.2)
-      (and_then (unsigned session.0) (drop 1 ts) (drop 2 ts) _ a.0 (and_then (objective_item objective.0) (drop 2 ts) (drop 3 ts) [] b.0 (ends ts 3 (test_is _ 3 p.0))), a.1, b.1)
-  | inr p ↦ absurd (none_some told p.1)
+      (and_then (unsigned session.0) (drop 1 ts) (drop 2 ts) _ a.0 (and_then (objective_item objective.0) (drop 2 ts) (drop 3 ts) [] b.0 (ends ts 3 (eqb-true _ 3 p.0))), a.1, b.1)
+  | inr p ↦ absurd (none-some told p.1)
 ]
 
 req_neg_found : (ts : List DataItem) (m : Message) → AreEncodable (data_items ts) → ts ≡ unsigned 3 ∷ drop 1 ts → req_neg_of ts ≡ Some m → IsRead ts m
@@ -128,9 +131,9 @@ end_found ts m enc kind h = elim (chosen (length ts == 3) _ None (Some m) h) [
       let a = narrow_step ts 1 session.0 enc session.1 in
       let b = step verdict_in verdict_item IsVerdict verdict_finds ts 2 verdict.0 enc verdict.1 in
       let parts = and_then (unsigned 6) ts (drop 1 ts) _ kind (and_then (unsigned session.0) (drop 1 ts) (drop 2 ts) _ a.0
-      (and_then (verdict_item verdict.0) (drop 2 ts) (drop 3 ts) [] b.0 (ends ts 3 (test_is _ 3 p.0)))) in
+      (and_then (verdict_item verdict.0) (drop 2 ts) (drop 3 ts) [] b.0 (ends ts 3 (eqb-true _ 3 p.0)))) in
       subst (IsRead ts) (some_same (End session.0 verdict.0) m verdict.2) (ap array_of parts, (a.1, b.1))
-  | inr p ↦ absurd (none_some m p.1)
+  | inr p ↦ absurd (none-some m p.1)
 ]
 
 wait_found : (ts : List DataItem) (m : Message) → AreEncodable (data_items ts) → ts ≡ unsigned 7 ∷ drop 1 ts → wait_of ts ≡ Some m → IsRead ts m
@@ -142,9 +145,9 @@ wait_found ts m enc kind h = elim (chosen (length ts == 3) _ None (Some m) h) [
       let a = narrow_step ts 1 session.0 enc session.1 in
       let b = narrow_step ts 2 millis.0 enc millis.1 in
       let parts = and_then (unsigned 7) ts (drop 1 ts) _ kind (and_then (unsigned session.0) (drop 1 ts) (drop 2 ts) _ a.0
-      (and_then (unsigned millis.0) (drop 2 ts) (drop 3 ts) [] b.0 (ends ts 3 (test_is _ 3 p.0)))) in
+      (and_then (unsigned millis.0) (drop 2 ts) (drop 3 ts) [] b.0 (ends ts 3 (eqb-true _ 3 p.0)))) in
       subst (IsRead ts) (some_same (Wait session.0 millis.0) m millis.2) (ap array_of parts, (a.1, b.1))
-  | inr p ↦ absurd (none_some m p.1)
+  | inr p ↦ absurd (none-some m p.1)
 ]
 
 flood_found : (ts : List DataItem) (m : Message) → AreEncodable (data_items ts) → ts ≡ unsigned 9 ∷ drop 1 ts → flood_of ts ≡ Some m → IsRead ts m
@@ -190,7 +193,7 @@ kind_found ts k m enc first h =
     pick (k == 8) (synch_of ts) _ m h8 (λ is e. synch_found ts m enc (of_kind ts k 8 first is) e) (λ h9.
     pick (k == 9) (flood_of ts) _ m h9 (λ is e. flood_found ts m enc (of_kind ts k 9 first is) e) (λ h10.
     pick (k == 99) (invalid_of ts) None m h10 (λ is e. invalid_found ts m enc (of_kind ts k 99 first is) e) (λ h11.
-    absurd (none_some m h11))))))))))))
+    absurd (none-some m h11))))))))))))
 
 parts_found : (ts : List DataItem) (m : Message) → AreEncodable (data_items ts) → message_of ts ≡ Some m → IsRead ts m
 unfolding message_of

@@ -48,12 +48,8 @@ fault_tells limit past fault messages rest kind bytes h d =
     (same.0, ap (λ n. fault_of n kind) at ∙ ap (fault_of (length h.front)) kinds ∙ h.fault_is)
 
 tells_fault : (past : Past) (fault : CutFault) (messages : List Message) (rest : List ℕ) (kind : RestKind) → TellsFault past messages rest kind fault → TellsNext past messages rest kind (Err fault)
-tells_fault past (Malformed at) messages rest kind h = h
-tells_fault past (NotText at) messages rest kind h = h
-tells_fault past (TooDeep at) messages rest kind h = h
-tells_fault past (TooLong at) messages rest kind h = h
-tells_fault past (NotMessage at) messages rest kind h = h
 tells_fault past OutOfMemory messages rest kind h = tt
+tells_fault past _ messages rest kind h = h
 
 found_tells : (limit : ℕ) (past : Past) (r : Result (Option Message) CutFault) (messages : List Message) (rest : List ℕ) (kind : RestKind) → AllBytes past.fed → Finds limit past r → Divides past.fed limit messages rest kind
     → TellsNext past messages rest kind r
@@ -91,12 +87,8 @@ no_fault_waits : (past : Past) (messages : List Message) (rest : List ℕ) (kind
 no_fault_waits past messages rest kind f w h = let q : None ≡ Some f = sym (ap (fault_of (length past.fed - length rest)) w) ∙ h.1 in cc
 
 of_fault : (past : Past) (messages : List Message) (rest : List ℕ) (kind : RestKind) (f : CutFault) → TellsNext past messages rest kind (Err f) → (f ≡ OutOfMemory) ⊎ TellsFault past messages rest kind f
-of_fault past messages rest kind (Malformed at) h = inr h
-of_fault past messages rest kind (NotText at) h = inr h
-of_fault past messages rest kind (TooDeep at) h = inr h
-of_fault past messages rest kind (TooLong at) h = inr h
-of_fault past messages rest kind (NotMessage at) h = inr h
 of_fault past messages rest kind OutOfMemory h = inl refl
+of_fault past messages rest kind _ h = inr h
 
 alike : (past : Past) (messages : List Message) (rest : List ℕ) (kind : RestKind) (a b : Result (Option Message) CutFault) → TellsNext past messages rest kind a → TellsNext past messages rest kind b → AreAlike a b
 alike past messages rest kind (Ok (Some m)) (Ok (Some n)) h k =

@@ -9,7 +9,7 @@ use Rattle.grasp_cbor.specs.declared.walker.FaultName.TheVariants as name
 use Rattle.grasp_cbor.proofs.HeadBytes.{AllBytes-back}
 use Rattle.grasp_types.specs.declared.message.Message.{Message}
 use Rattle.grasp_wire.specs.declared.fault.CutFault.{CutFault}
-use Rattle.grasp_wire.specs.declared.fault.CutFault.TheVariants.{Malformed, NotText, TooDeep, TooLong, NotMessage, OutOfMemory}
+use Rattle.grasp_wire.specs.declared.fault.CutFault.TheVariants.{Malformed, NotMessage, OutOfMemory}
 use Rattle.grasp_wire.specs.declared.cutter.Cutter.{Cutter}
 use Rattle.grasp_wire.specs.Wire.{IsWireForm, AreWireForms}
 use Rattle.grasp_wire.specs.Stream.{RestKind, IsRest, Divides, waiting, too_long, not_message, faulty}
@@ -58,18 +58,14 @@ has_fault c past fault s none h =
     }
 
 finds_fault : (limit : ℕ) (past : Past) (fault : CutFault) → lasting fault ≡ Some fault → HasFault limit past fault → Finds limit past (Err fault)
-finds_fault limit past (Malformed at) e h = h
-finds_fault limit past (NotText at) e h = h
-finds_fault limit past (TooDeep at) e h = h
-finds_fault limit past (TooLong at) e h = h
-finds_fault limit past (NotMessage at) e h = h
 finds_fault limit past OutOfMemory e h = absurd cc
+finds_fault limit past _ e h = h
 
 -- a fault of the rest is answered
 pub next_faulted : (c : Cutter) (past : Past) (fault : CutFault) → Stands c past → c.fault ≡ None → IsFaultOf (rest_of c) (cut_limit c) (before_of c) fault × (lasting fault ≡ Some fault) → AnswersNext (cut_limit c) past past.fault (Err fault)
 next_faulted c past fault s none h = answers_none (cut_limit c) c past (Err fault) s none (finds_fault (cut_limit c) past fault h.1 (has_fault c past fault s none h.0))
 
--- and lasts
+-- a cutter that keeps the fault of its rest which it answered stands for the past with that fault
 pub stands_faulted : (c new : Cutter) (past : Past) (fault : CutFault) → Stands c past → c.fault ≡ None → IsFaultOf (rest_of c) (cut_limit c) (before_of c) fault × (lasting fault ≡ Some fault)
     → fed_count new ≡ fed_count c → cut_limit new ≡ cut_limit c → new.fault ≡ lasting fault → Stands new (after_next past (Err fault))
 stands_faulted c new past fault s none h count limit is =
@@ -96,7 +92,7 @@ next_given c past message used s none form =
       parts = k.parts ∙ ap (λ x. k.front ++ x) (sym (take-append-drop used (rest_of c))) ∙ sym (append_assoc k.front (take used (rest_of c)) (drop used (rest_of c)));
     })
 
--- and given
+-- a cutter that drops the bytes of the given message from its rest stands for the past with that message
 pub stands_given : (c new : Cutter) (past : Past) (message : Message) (used : ℕ) → Stands c past → c.fault ≡ None → IsWireForm message (take used (rest_of c)) (cut_limit c)
     → rest_of new ≡ drop used (rest_of c) → fed_count new ≡ fed_count c → cut_limit new ≡ cut_limit c → new.fault ≡ None → Stands new (after_next past (Ok (Some message)))
 stands_given c new past message used s none form rest count limit is =
@@ -115,7 +111,7 @@ stands_given c new past message used s none form rest count limit is =
       keeps = subst (λ f. KeepsUp f new after) (sym e) kept;
     }
 
--- the same bytes are kept
+-- a cutter that keeps the same bytes, count and limit, and has no fault, stands for the same past
 pub stands_same : (c new : Cutter) (past : Past) → Stands c past → c.fault ≡ None → IsSame c new → new.fault ≡ None → Stands new past
 stands_same c new past s none same is =
     let k = keeps c past s none in
@@ -139,19 +135,13 @@ next_failed c past used OutOfMemory s none w h =
     let k = keeps c past s none in
     answers_none (cut_limit c) c past (Err OutOfMemory) s none (record { front = k.front; rest = rest_of c; item = w.0; used = used; forms = k.forms; parts = k.parts; whole = w.1 })
 next_failed c past used (NotMessage at) s none w h = next_faulted c past (NotMessage at) s none (h, refl)
-next_failed c past used (Malformed at) s none w h = absurd h
-next_failed c past used (NotText at) s none w h = absurd h
-next_failed c past used (TooDeep at) s none w h = absurd h
-next_failed c past used (TooLong at) s none w h = absurd h
+next_failed c past used _ s none w h = absurd h
 
 pub stands_failed : (c new : Cutter) (past : Past) (used : ℕ) (fault : CutFault) → Stands c past → c.fault ≡ None → AnswersItem (rest_of c) (cut_limit c) (before_of c) used (Err fault)
     → (fault ≡ OutOfMemory → rest_of new ≡ rest_of c) → fed_count new ≡ fed_count c → cut_limit new ≡ cut_limit c → new.fault ≡ lasting fault → Stands new (after_next past (Err fault))
 stands_failed c new past used OutOfMemory s none h rest count limit is = stands_same c new past s none (record { rest = rest refl; count = count; limit = limit }) is
 stands_failed c new past used (NotMessage at) s none h rest count limit is = stands_faulted c new past (NotMessage at) s none (h, refl) count limit is
-stands_failed c new past used (Malformed at) s none h rest count limit is = absurd h
-stands_failed c new past used (NotText at) s none h rest count limit is = absurd h
-stands_failed c new past used (TooDeep at) s none h rest count limit is = absurd h
-stands_failed c new past used (TooLong at) s none h rest count limit is = absurd h
+stands_failed c new past used _ s none h rest count limit is = absurd h
 
 -- ---- how many bytes are taken
 
@@ -173,10 +163,7 @@ takes_given c past message used old taken s none w e = takes_by c past (Ok (Some
 failed_to : (limit : ℕ) (past : Past) (rest : List ℕ) (before used taken : ℕ) (fault : CutFault) → AnswersItem rest limit before used (Err fault) → TakesItem limit past taken → TakesTo limit past (Err fault) taken
 failed_to limit past rest before used taken OutOfMemory h t = t
 failed_to limit past rest before used taken (NotMessage at) h t = t
-failed_to limit past rest before used taken (Malformed at) h t = absurd h
-failed_to limit past rest before used taken (NotText at) h t = absurd h
-failed_to limit past rest before used taken (TooDeep at) h t = absurd h
-failed_to limit past rest before used taken (TooLong at) h t = absurd h
+failed_to limit past rest before used taken _ h t = absurd h
 
 pub takes_failed : (c : Cutter) (past : Past) (used old taken : ℕ) (fault : CutFault) → Stands c past → c.fault ≡ None → ((item : DataItem) × IsWhole (rest_of c) (cut_limit c) item used)
     → AnswersItem (rest_of c) (cut_limit c) (before_of c) used (Err fault) → taken ≡ before_of c + used → Takes (cut_limit c) past past.fault (Err fault) old taken
@@ -187,12 +174,9 @@ pub takes_all : (c : Cutter) (past : Past) (old taken : ℕ) → Stands c past �
 takes_all c past old taken s none e = takes_by c past (Ok None) (cut_limit c) old taken s none (e ∙ s.count)
 
 faulted_to : (limit : ℕ) (past : Past) (rest : List ℕ) (before taken : ℕ) (fault : CutFault) → AnswersFound rest limit before (Err fault) → taken ≡ taken_with limit fault → TakesTo limit past (Err fault) taken
-faulted_to limit past rest before taken (Malformed at) h e = e
-faulted_to limit past rest before taken (NotText at) h e = e
-faulted_to limit past rest before taken (TooDeep at) h e = e
-faulted_to limit past rest before taken (TooLong at) h e = e
 faulted_to limit past rest before taken (NotMessage at) h e = absurd h
 faulted_to limit past rest before taken OutOfMemory h e = let k = h.1 in absurd (cc k)
+faulted_to limit past rest before taken _ h e = e
 
 pub takes_faulted : (c : Cutter) (past : Past) (old taken : ℕ) (fault : CutFault) → Stands c past → c.fault ≡ None → AnswersFound (rest_of c) (cut_limit c) (before_of c) (Err fault) → taken ≡ taken_with (cut_limit c) fault
     → Takes (cut_limit c) past past.fault (Err fault) old taken
@@ -200,12 +184,8 @@ takes_faulted c past old taken fault s none h e = takes_by c past (Err fault) (c
 
 -- a fault that was found lasts
 pub found_lasts : (rest : List ℕ) (limit before : ℕ) (fault : CutFault) → AnswersFound rest limit before (Err fault) → IsFaultOf rest limit before fault × (lasting fault ≡ Some fault)
-found_lasts rest limit before (Malformed at) h = h
-found_lasts rest limit before (NotText at) h = h
-found_lasts rest limit before (TooDeep at) h = h
-found_lasts rest limit before (TooLong at) h = h
 found_lasts rest limit before (NotMessage at) h = absurd h
-found_lasts rest limit before OutOfMemory h = h
+found_lasts rest limit before _ h = h
 
 -- a whole item in another cutter with the same rest
 pub whole_moved : (c new : Cutter) (used : ℕ) → IsSame c new → ((item : DataItem) × IsWhole (rest_of c) (cut_limit c) item used) → (item : DataItem) × IsWhole (rest_of new) (cut_limit new) item used
@@ -225,17 +205,12 @@ no_memory before waiting e = cc
 no_memory before too_long e = cc
 no_memory before not_message e = cc
 no_memory before (faulty name.Malformed place) e = cc
-no_memory before (faulty name.NotText place) e = cc
-no_memory before (faulty name.TooDeep place) e = cc
+no_memory before (faulty _ place) e = cc
 
 -- a fault that lasts
 pub lasts_so : (limit : ℕ) (past : Past) (fault : CutFault) → HasFault limit past fault → lasting fault ≡ Some fault
-lasts_so limit past (Malformed at) h = refl
-lasts_so limit past (NotText at) h = refl
-lasts_so limit past (TooDeep at) h = refl
-lasts_so limit past (TooLong at) h = refl
-lasts_so limit past (NotMessage at) h = refl
 lasts_so limit past OutOfMemory h = absurd (no_memory (length h.front) h.kind h.fault_is)
+lasts_so limit past _ h = refl
 
 pub stands_again : (c : Cutter) (past : Past) (fault : CutFault) → Stands c past → c.fault ≡ Some fault → Stands c (after_next past (Err fault))
 stands_again c past fault s is =

@@ -1,7 +1,10 @@
 -- Objectives, verdicts and parts of floods are read from their items.
 use Rattle.std.proofs.Common.{◌≡◌, ◌<◌, ◌≤◌, ◌^◌, ◌==◌, ℕ, Option, Some, None, IfSome, option_map, List, [], ◌∷◌, refl, ap, subst, ◌∙◌, arith, rules, cond, inl, inr, nat_le, true, length, drop}
+use Rattle.std.proofs.lemmas.Bool.{eqb-true}
 use Rattle.std.proofs.lemmas.Bool.Decides.{nat_tests}
+use Rattle.std.proofs.lemmas.Option.{same_Some as some_same, none-some}
 use Rattle.std.specs.Str.{IsUtf8}
+use Rattle.grasp_cbor.proofs.Takes.{chosen}
 use Rattle.grasp_cbor.specs.DataItem.{DataItem, unsigned, text_string, array_of, depth_of}
 use Rattle.grasp_types.specs.Address.{IsLocator}
 use Rattle.grasp_types.specs.Message.{verdict_item, IsVerdict, locator_or_empty, flood_part_item, IsFloodPart}
@@ -12,7 +15,7 @@ use Rattle.grasp_types.specs.declared.message.Verdict.TheVariants.{Accept, Decli
 use Rattle.grasp_types.specs.declared.objective.Objective.{Objective}
 use Rattle.grasp_wire.specs.Reading.{◌>>=◌, at_place, number_in, text_in, last_at}
 use Rattle.grasp_wire.specs.ReadParts.{flags_in, loops_in, value_in, objective_of, objective_in, verdict_of, verdict_in, locator_or_empty_in, flood_part_of, flood_part_in}
-use Rattle.grasp_wire.proofs.Scalars.{Finds, Again, PartsFind, some_bind, chosen, some_same, none_some, test_is, array_finds, array_again, flags_finds, flags_again, loops_finds, loops_again, text_finds}
+use Rattle.grasp_wire.proofs.Scalars.{Finds, Again, PartsFind, some_bind, array_finds, array_again, flags_finds, flags_again, loops_finds, loops_again, text_finds}
 use Rattle.grasp_wire.proofs.Locators.{of_kind, locator_or_empty_finds, locator_or_empty_again}
 use Rattle.grasp_wire.proofs.Steps.{step, first_is, ends, and_then, last_found}
 
@@ -28,7 +31,7 @@ pub value_finds : Finds value_in (λ t. t) IsValue
 unfolding value_in
 value_finds t v enc h = elim (chosen (nat_le (depth_of t) 13) (Some t) None (Some v) h) [
   | inl p ↦ let e = some_same t v p.1 in (e, subst IsValue e (record { within = shallow_is (depth_of t) p.0; encodable = enc }))
-  | inr p ↦ absurd (none_some v p.1)
+  | inr p ↦ absurd (none-some v p.1)
 ]
 
 pub value_again : Again value_in (λ t. t) IsValue
@@ -95,8 +98,8 @@ verdict_parts_find ts v enc h =
     elim (chosen (k.0 == 101) (cond (length ts == 1) (Some Accept) None) _ (Some v) k.2) [
       | inl p ↦ elim (chosen (length ts == 1) (Some Accept) None (Some v) p.1) [
         | inl q ↦ subst (IsOfVerdict ts) (some_same Accept v q.1)
-            (ap array_of (and_then (unsigned 101) ts (drop 1 ts) [] (of_kind ts k.0 101 first p.0) (ends ts 1 (test_is _ 1 q.0))), tt)
-        | inr q ↦ absurd (none_some v q.1)
+            (ap array_of (and_then (unsigned 101) ts (drop 1 ts) [] (of_kind ts k.0 101 first p.0) (ends ts 1 (eqb-true _ 1 q.0))), tt)
+        | inr q ↦ absurd (none-some v q.1)
       ]
       | inr p ↦ elim (chosen (k.0 == 102) (last_at text_in ts 1 >>= λ reason. Some (Decline reason)) None (Some v) p.1) [
         | inl q ↦
@@ -104,7 +107,7 @@ verdict_parts_find ts v enc h =
             let d = last_found text_in text_string IsUtf8 text_finds ts 1 reason.0 enc reason.1 in
             subst (IsOfVerdict ts) (some_same (Decline reason.0) v reason.2)
             (ap array_of (and_then (unsigned 102) ts (drop 1 ts) _ (of_kind ts k.0 102 first q.0) d.0), d.1)
-        | inr q ↦ absurd (none_some v q.1)
+        | inr q ↦ absurd (none-some v q.1)
       ]
     ]
 
@@ -133,10 +136,10 @@ flood_part_parts_find ts p enc h = elim (chosen (length ts == 2) _ None (Some p)
       let b = step locator_or_empty_in locator_or_empty (λ v. IfSome v IsLocator) locator_or_empty_finds ts 1 l.0 enc l.1 in
       let made : FloodPart = record { objective = o.0; locator = l.0 } in
       subst (IsOfPart ts) (some_same made p l.2) (
-        ap array_of (and_then (objective_item o.0) ts (drop 1 ts) _ a.0 (and_then (locator_or_empty l.0) (drop 1 ts) (drop 2 ts) _ b.0 (ends ts 2 (test_is _ 2 q.0)))),
+        ap array_of (and_then (objective_item o.0) ts (drop 1 ts) _ a.0 (and_then (locator_or_empty l.0) (drop 1 ts) (drop 2 ts) _ b.0 (ends ts 2 (eqb-true _ 2 q.0)))),
         record { objective = a.1; locator = b.1 },
       )
-  | inr q ↦ absurd (none_some p q.1)
+  | inr q ↦ absurd (none-some p q.1)
 ]
 
 pub flood_part_finds : Finds flood_part_in flood_part_item IsFloodPart

@@ -48,8 +48,7 @@ answer_follows limit past (Some fault) r e h a = subst (λ x. Follows (after_nex
 
 fed_same : (past : Past) (r : Result (Option Message) CutFault) → (after_next past r).fed ≡ past.fed
 fed_same past (Ok (Some m)) = refl
-fed_same past (Ok None) = refl
-fed_same past (Err fault) = refl
+fed_same past _ = refl
 
 given_more : (past : Past) (r : Result (Option Message) CutFault) → (after_next past r).given ≡ past.given ++ answered r
 given_more past (Ok (Some m)) = refl

@@ -71,7 +71,7 @@ open_passed old new bytes more i n all o same none read waits =
       waits = subst (λ k. IsPartial (front ++ take n rest) k) (sym same) waits;
     })
 
--- it ended an item
+-- where the byte at this place ends an item, reading more bytes ends with that item
 pub ended : (limit : ℕ) (bytes more : List ℕ) (i : ℕ) → i < length more → AnswersTaken ((bytes ++ take i more) ++ get_or more i 0 ∷ []) limit (Ok Whole) → AnswersRead bytes more limit (Ok (Some (i + 1)))
 ended limit bytes more i l answer =
     let front : List ℕ = (bytes ++ take i more) ++ get_or more i 0 ∷ [] in
@@ -100,7 +100,7 @@ met s byte limit (TooDeep at) bytes w h = faulty_met s byte limit at name.TooDee
 met s byte limit TooLong bytes w h = let short = w.short in let long = h.long in omega (arith, length_push s byte)
 met s byte limit OutOfMemory bytes w h = absurd h
 
--- it has a fault
+-- where the byte at this place has a fault, reading more bytes meets that fault there
 pub faulted : (limit : ℕ) (bytes more : List ℕ) (i : ℕ) (fault : ItemFault) → i < length more → AllBytes ((bytes ++ take i more) ++ get_or more i 0 ∷ []) → IsPartial (bytes ++ take i more) limit
     → EndsWith ((bytes ++ take i more) ++ get_or more i 0 ∷ []) limit fault → MeetsFault bytes (bytes ++ more) limit fault × (taken_at limit fault ≡ length bytes + (i + 1))
 faulted limit bytes more i fault l all w h =

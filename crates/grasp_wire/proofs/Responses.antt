@@ -1,8 +1,12 @@
 -- What a response tells is read from its items.
-use Rattle.std.proofs.Common.{◌≡◌, ◌<◌, ◌≤◌, ◌+◌, ◌-◌, ◌==◌, ℕ, zero, suc, Option, Some, None, IfSome, option_map, List, [], ◌∷◌, ◌++◌, map, refl, sym, ap, subst, ◌∙◌, arith, rules, cond, inl, inr, nat_lt, Bool, true, false, length, take, drop, slice_get, append-nil, length-append, length-drop}
+use Rattle.std.proofs.Common.{◌≡◌, ◌<◌, ◌+◌, ◌-◌, ◌==◌, ℕ, zero, suc, Option, Some, None, IfSome, option_map, List, [], ◌∷◌, ◌++◌, map, refl, sym, ap, subst, ◌∙◌, arith, cond, inl, inr, nat_lt, true, false, length, take, drop, slice_get, append-nil, length-append, length-drop, ltb-true}
 use Rattle.std.proofs.Math.Seq.{take-length, take-append_seam}
-use Rattle.std.proofs.lemmas.Bool.Decides.{nat_tests}
+use Rattle.std.proofs.lemmas.Bool.{ltb-false, eq-eqb, eqb-true}
+use Rattle.std.proofs.lemmas.Option.{same_Some as some_same, none-some}
 use Rattle.std.specs.List.{slice_range}
+use Rattle.grasp_cbor.proofs.Facts.Bools.{chosen_yes, chosen_no}
+use Rattle.grasp_cbor.proofs.Facts.Lists.{get_end}
+use Rattle.grasp_cbor.proofs.Takes.{chosen}
 use Rattle.grasp_cbor.specs.DataItem.{DataItem, unsigned, array_of, data_items}
 use Rattle.grasp_cbor.specs.Encodable.{IsEncodable, AreEncodable}
 use Rattle.grasp_types.specs.Address.{locator_item, IsLocator}
@@ -16,7 +20,7 @@ use Rattle.grasp_types.specs.declared.objective.Objective.{Objective}
 use Rattle.grasp_wire.specs.Reading.{◌>>=◌, at_place, test_at, passes, number_in, parts_in, kind_in, has_text_first, last_at, one_or_more}
 use Rattle.grasp_wire.specs.ReadParts.{locator_in, divert_in, divert_answer, locators_answer, answer_between, answer_end}
 use Rattle.grasp_wire.proofs.Runs.{turn, no_turn}
-use Rattle.grasp_wire.proofs.Scalars.{Again, some_bind, chosen, some_same, none_some, test_is, is_test, not_test, below_is, array_found, array_again}
+use Rattle.grasp_wire.proofs.Scalars.{Again, some_bind, not_test, array_found, array_again}
 use Rattle.grasp_wire.proofs.Locators.{of_kind, locator_finds, locator_again}
 use Rattle.grasp_wire.proofs.Steps.{encodable_at, encodable_range, first_is, and_then, some_found, some_again}
 
@@ -26,13 +30,10 @@ range_rest ts from = ap (λ n. take n (drop from ts)) (sym (length-drop from ts)
 range_of_one : (ts : List DataItem) (from : ℕ) (t : DataItem) → slice_get ts from ≡ Some t → slice_range ts from (from + 1) ≡ t ∷ []
 range_of_one ts from t at = turn ts from (from + 1) t (omega arith) at ∙ ap (λ us. t ∷ us) (no_turn ts (from + 1) (from + 1) (omega arith))
 
-not_below : (k n : ℕ) → nat_lt k n ≡ false → n ≤ k
-not_below k n h = search (rules, nat_tests)
-
 some_range : {X : Type 0} (read : DataItem → Option X) (ts : List DataItem) (from to : ℕ) (xs : List X) → one_or_more read (slice_range ts from to) ≡ Some xs → from < to
 some_range read ts from to xs h = elim (chosen (nat_lt from to) zero zero (cond (nat_lt from to) zero zero) refl) [
-  | inl p ↦ below_is from to p.0
-  | inr p ↦ absurd (none_some xs (sym (ap (one_or_more read) (no_turn ts from to (not_below from to p.0))) ∙ h))
+  | inl p ↦ ltb-true from to p.0
+  | inr p ↦ absurd (none-some xs (sym (ap (one_or_more read) (no_turn ts from to (ltb-false from to p.0))) ∙ h))
 ]
 
 -- diverts
@@ -83,8 +84,8 @@ answer_found ts from to a enc h =
     let t = some_bind (slice_get ts from) kind_in k.0 k.1 in
     elim (chosen (k.0 == 100) (cond (to == from + 1) (divert_answer ts from) None) (locators_answer ts from to) (Some a) k.2) [
       | inl p ↦ elim (chosen (to == from + 1) (divert_answer ts from) None (Some a) p.1) [
-        | inl q ↦ divert_answer_found ts from to k.0 t.0 a enc t.1 t.2 p.0 (test_is to (from + 1) q.0) q.1
-        | inr q ↦ absurd (none_some a q.1)
+        | inl q ↦ divert_answer_found ts from to k.0 t.0 a enc t.1 t.2 p.0 (eqb-true to (from + 1) q.0) q.1
+        | inr q ↦ absurd (none-some a q.1)
       ]
       | inr p ↦ locators_answer_found ts from to a enc p.1
     ]
@@ -98,9 +99,7 @@ NoText (t ∷ ts) = (has_text_first t ≡ false) × NoText ts
 locator_no_text : (l : Locator) → has_text_first (locator_item l) ≡ false
 unfolding has_text_first
 locator_no_text (V6 n proto port) = refl
-locator_no_text (V4 n proto port) = refl
-locator_no_text (Fqdn name proto port) = refl
-locator_no_text (Uri text proto port) = refl
+locator_no_text _ = refl
 
 locators_no_text : (ls : List Locator) → NoText (map locator_item ls)
 locators_no_text [] = tt
@@ -119,10 +118,6 @@ no_text_at : (ts : List DataItem) → NoText ts → (k : ℕ) → test_at has_te
 no_text_at [] h k = refl
 no_text_at (t ∷ ts) h zero = h.0
 no_text_at (t ∷ ts) h (suc k) = no_text_at ts h.1 k
-
-get_end : {X : Type 0} (xs : List X) (y : X) → slice_get (xs ++ y ∷ []) (length xs) ≡ Some y
-get_end [] y = refl
-get_end (x ∷ xs) y = get_end xs y
 
 end_none : (ts : List DataItem) → NoText ts → answer_end ts ≡ length ts
 unfolding answer_end
@@ -143,20 +138,14 @@ end_is xs (Some o) h = end_some xs (objective_item o) (objective_text o)
 
 -- a last part is read again
 
-on_true : {A : Type 0} (b : Bool) (x y : A) → b ≡ true → cond b x y ≡ x
-on_true b x y e = ap (λ c. cond c x y) e
-
-on_false : {A : Type 0} (b : Bool) (x y : A) → b ≡ false → cond b x y ≡ y
-on_false b x y e = ap (λ c. cond c x y) e
-
 pub last_again : {X : Type 0} (read : DataItem → Option X) (item : X → DataItem) (Is : X → Type 0) → Again read item Is → (xs : List DataItem) (o : Option X) → IfSome o Is
     → last_at read (xs ++ optional (option_map item o)) (length xs) ≡ Some o
-last_again read item Is again xs None h = on_true _ (Some None) _ (is_test (length (xs ++ [])) (length xs) (ap length (append-nil xs)))
+last_again read item Is again xs None h = chosen_yes _ (Some None) _ (eq-eqb (length (xs ++ [])) (length xs) (ap length (append-nil xs)))
 last_again read item Is again xs (Some x) h =
     let ts = xs ++ item x ∷ [] in
     let e = length-append xs (item x ∷ []) in
-    on_false (length ts == length xs) (Some None) _ (not_test (length ts) (length xs) (omega (arith, e)))
-    ∙ on_true (length ts == length xs + 1) (at_place read ts (length xs) >>= λ y. Some (Some y)) None (is_test (length ts) (length xs + 1) (omega (arith, e)))
+    chosen_no (length ts == length xs) (Some None) _ (not_test (length ts) (length xs) (omega (arith, e)))
+    ∙ chosen_yes (length ts == length xs + 1) (at_place read ts (length xs) >>= λ y. Some (Some y)) None (eq-eqb (length ts) (length xs + 1) (omega (arith, e)))
     ∙ ap (λ o. o >>= read >>= λ y. Some (Some y)) (get_end xs (item x))
     ∙ ap (λ o. o >>= λ y. Some (Some y)) (again x h)
 
@@ -199,7 +188,7 @@ answer_again w x y z (Locators (l ∷ ls)) rest h =
     let to = length (w ∷ x ∷ y ∷ z ∷ map locator_item (l ∷ ls)) in
     let k = kind_of_locator l in
     ap (λ o. o >>= λ kind. cond (kind == 100) (cond (to == 5) (divert_answer ts 4) None) (locators_answer ts 4 to)) k.1
-    ∙ on_false (k.0 == 100) (cond (to == 5) (divert_answer ts 4) None) (locators_answer ts 4 to) k.2
+    ∙ chosen_no (k.0 == 100) (cond (to == 5) (divert_answer ts 4) None) (locators_answer ts 4 to) k.2
     ∙ locators_answer_again w x y z (l ∷ ls) rest h
 answer_again w x y z (Divert ls) rest h =
     let ts = w ∷ x ∷ y ∷ z ∷ array_of (unsigned 100 ∷ map locator_item ls) ∷ rest in

@@ -1,19 +1,17 @@
 -- Reading the items of a range one after the other.
-use Rattle.std.proofs.Common.{MatchOption, Bool, true, false, ◌≡◌, ℕ, suc, ◌+◌, ◌-◌, ◌<◌, ◌≤◌, Option, Some, None, List, [], ◌∷◌, ◌++◌, length, take, drop, slice_get, refl, sym, ap, ◌∙◌, arith, append_assoc, add-one, drop-cons}
-use Rattle.std.proofs.lemmas.Option.{slice_get_within, get_or_from_slice_get, slice_get-get_or}
+use Rattle.std.proofs.Common.{MatchOption, Bool, true, false, ◌≡◌, ℕ, ◌+◌, ◌-◌, ◌<◌, ◌≤◌, Option, Some, None, List, [], ◌∷◌, ◌++◌, length, map, take, drop, get_or, slice_get, refl, sym, ap, ◌∙◌, arith, append_assoc, add-one}
+use Rattle.std.proofs.lemmas.Option.{slice_get_read}
+use Rattle.std.proofs.lemmas.List.{drop-map, take-map}
 use Rattle.std.specs.List.{slice_range}
-use Rattle.grasp_cbor.specs.DataItem.{DataItem, unsigned}
+use Rattle.grasp_cbor.proofs.Behind.{drop_got}
+use Rattle.grasp_cbor.specs.DataItem.{DataItem}
 use Rattle.grasp_wire.specs.Reading.{◌>>=◌, each, one_or_more}
-
-pub drop_at : {X : Type 0} (ts : List X) (i : ℕ) (t : X) → slice_get ts i ≡ Some t → drop i ts ≡ t ∷ drop (i + 1) ts
-drop_at ts i t at =
-    drop-cons ts i t (slice_get_within ts i t at) ∙ ap (λ x. x ∷ drop (suc i) ts) (get_or_from_slice_get ts i t t at) ∙ ap (λ k. t ∷ drop k ts) (sym (add-one i))
 
 take_more : {X : Type 0} (n m : ℕ) (t : X) (ts : List X) → m + 1 ≡ n → take n (t ∷ ts) ≡ t ∷ take m ts
 take_more n m t ts e = ap (λ k. take k (t ∷ ts)) (sym e ∙ add-one m)
 
 pub turn : {X : Type 0} (ts : List X) (i to : ℕ) (t : X) → i < to → slice_get ts i ≡ Some t → slice_range ts i to ≡ t ∷ slice_range ts (i + 1) to
-turn ts i to t lt at = ap (take (to - i)) (drop_at ts i t at) ∙ take_more (to - i) (to - (i + 1)) t (drop (i + 1) ts) (omega arith)
+turn ts i to t lt at = ap (take (to - i)) (drop_got ts i t at) ∙ take_more (to - i) (to - (i + 1)) t (drop (i + 1) ts) (omega arith)
 
 pub no_turn : {X : Type 0} (ts : List X) (i to : ℕ) → to ≤ i → slice_range ts i to ≡ []
 no_turn ts i to le = let e : to - i ≡ 0 = omega arith in ap (λ k. take k (drop i ts)) e
@@ -34,43 +32,32 @@ after_more : {X : Type 0} (held : List X) (x : X) (o : Option (List X)) → afte
 after_more held x None = refl
 after_more held x (Some xs) = ap Some (sym (append_assoc held (x ∷ []) xs))
 
-pub more : {X : Type 0} (read : DataItem → Option X) (ts : List DataItem) (i to : ℕ) (t : DataItem) (x : X) (held : List X) → i < to → slice_get ts i ≡ Some t → read t ≡ Some x
-    → after held (each read (slice_range ts i to)) ≡ after (held ++ x ∷ []) (each read (slice_range ts (i + 1) to))
-more read ts i to t x held lt at is =
-    ap (λ us. after held (each read us)) (turn ts i to t lt at)
-    ∙ ap (λ o. after held (from_first read o (slice_range ts (i + 1) to))) is
-    ∙ after_more held x (each read (slice_range ts (i + 1) to))
-
-pub stopped : {X : Type 0} (read : DataItem → Option X) (ts : List DataItem) (i to : ℕ) (t : DataItem) (held : List X) → i < to → slice_get ts i ≡ Some t → read t ≡ None
-    → after held (each read (slice_range ts i to)) ≡ None
-stopped read ts i to t held lt at is =
-    ap (λ us. after held (each read us)) (turn ts i to t lt at)
-    ∙ ap (λ o. after held (from_first read o (slice_range ts (i + 1) to))) is
+-- the items from one on
+left_turn : {Y : Type 0} (v : Y → DataItem) (ys : List Y) (i : ℕ) (y : Y) → i < length ys → y ≡ get_or ys i y → map v (drop i ys) ≡ v y ∷ map v (drop (i + 1) ys)
+left_turn v ys i y lt is = ap (map v) (drop_got ys i y (slice_get_read ys (length ys) i y refl lt is))
 
 -- what adding the item's reading to a list answers
 abbrev pub Pushes : {X : Type 0} → Option X → Bool → List X → List X → Type 0
 Pushes o is_one old new = MatchOption o (is_one ≡ false) (λ x. (is_one ≡ true) × (new ≡ old ++ x ∷ []))
 
-more_read : {X : Type 0} (read : DataItem → Option X) (o : Option X) (ts : List DataItem) (i to : ℕ) (t : DataItem) (is_one : Bool) (held new : List X)
-    → i < to → slice_get ts i ≡ Some t → read t ≡ o → is_one ≡ true → Pushes o is_one held new
-    → after held (each read (slice_range ts i to)) ≡ after new (each read (slice_range ts (i + 1) to))
-more_read read None ts i to t is_one held new lt at is one push = absurd (cc)
-more_read read (Some x) ts i to t is_one held new lt at is one push =
-    more read ts i to t x held lt at is ∙ ap (λ h. after h (each read (slice_range ts (i + 1) to))) (sym push.1)
+more_read : {X : Type 0} (read : DataItem → Option X) (o : Option X) (ts : List DataItem) (is_one : Bool) (held new : List X)
+    → is_one ≡ true → Pushes o is_one held new → after held (from_first read o ts) ≡ after new (each read ts)
+more_read read None ts is_one held new one push = absurd (cc)
+more_read read (Some x) ts is_one held new one push = after_more held x (each read ts) ∙ ap (λ h. after h (each read ts)) (sym push.1)
 
-pub more_pushed : {X : Type 0} (read : DataItem → Option X) (ts : List DataItem) (i to : ℕ) (t : DataItem) (is_one : Bool) (held new : List X)
-    → i < to → slice_get ts i ≡ Some t → is_one ≡ true → Pushes (read t) is_one held new
-    → after held (each read (slice_range ts i to)) ≡ after new (each read (slice_range ts (i + 1) to))
-more_pushed read ts i to t is_one held new lt at one push = more_read read (read t) ts i to t is_one held new lt at refl one push
+pub more_pushed : {X Y : Type 0} (read : DataItem → Option X) (v : Y → DataItem) (ys : List Y) (i : ℕ) (y : Y) (is_one : Bool) (held new : List X)
+    → i < length ys → y ≡ get_or ys i y → is_one ≡ true → Pushes (read (v y)) is_one held new
+    → after held (each read (map v (drop i ys))) ≡ after new (each read (map v (drop (i + 1) ys)))
+more_pushed read v ys i y is_one held new lt is one push =
+    ap (λ us. after held (each read us)) (left_turn v ys i y lt is) ∙ more_read read (read (v y)) (map v (drop (i + 1) ys)) is_one held new one push
 
-not_read : {X : Type 0} (o : Option X) (is_one : Bool) (held new : List X) → is_one ≡ false → Pushes o is_one held new → o ≡ None
-not_read None is_one held new none push = refl
-not_read (Some x) is_one held new none push = absurd (cc (push.0, none))
+-- the rest of a range, with what was read first
+range_of : {Y : Type 0} (v : Y → DataItem) (ys : List Y) (from to : ℕ) → slice_range (map v ys) from to ≡ map v (slice_range ys from to)
+range_of v ys from to = ap (take (to - from)) (drop-map v from ys) ∙ take-map v (to - from) (drop from ys)
 
-pub not_pushed : {X : Type 0} (read : DataItem → Option X) (ts : List DataItem) (i to : ℕ) (t : DataItem) (is_one : Bool) (held new : List X)
-    → i < to → slice_get ts i ≡ Some t → is_one ≡ false → Pushes (read t) is_one held new
-    → after held (each read (slice_range ts i to)) ≡ None
-not_pushed read ts i to t is_one held new lt at none push = stopped read ts i to t held lt at (not_read (read t) is_one held new none push)
-
-pub missing : (ts : List DataItem) (i : ℕ) → i < length ts → None ≡ slice_get ts i → ⊥
-missing ts i lt none = cc (slice_get-get_or ts i (unsigned 0) lt)
+pub begun_with : {X Y : Type 0} (read : DataItem → Option X) (v : Y → DataItem) (ys : List Y) (ts : List DataItem) (from to : ℕ) (t : DataItem) (x : X)
+    → map v ys ≡ ts → from < to → slice_get ts from ≡ Some t → Some x ≡ read t
+    → one_or_more read (slice_range ts from to) ≡ after (x ∷ []) (each read (map v (slice_range ys (from + 1) to)))
+begun_with read v ys ts from to t x e lt at is =
+    begun read ts from to t (Some x) lt at is
+    ∙ ap (λ us. after (x ∷ []) (each read us)) (ap (λ us. slice_range us (from + 1) to) (sym e) ∙ range_of v ys (from + 1) to)

@@ -1,8 +1,12 @@
 -- What is read from an item is what the item was made of: numbers, texts and arrays.
-use Rattle.std.proofs.Common.{◌≡◌, ◌<◌, ◌^◌, ◌==◌, ℕ, Option, Some, None, IfSome, List, refl, sym, ap, subst, ◌∙◌, rules, nat_lt, cond, inl, inr, ◌⊎◌, Bool, true, false}
+use Rattle.std.proofs.Common.{◌≡◌, ◌<◌, ◌^◌, ◌==◌, ℕ, Option, Some, None, IfSome, List, refl, sym, ap, subst, ◌∙◌, rules, nat_lt, inl, inr, true, false, ltb-true}
+use Rattle.std.proofs.lemmas.Bool.{eqb-true}
 use Rattle.std.proofs.lemmas.Bool.Decides.{nat_tests}
+use Rattle.std.proofs.lemmas.Option.{same_Some, none-some}
 use Rattle.std.specs.Str.{IsUtf8}
-use Rattle.grasp_cbor.specs.DataItem.{DataItem, DataItems, unsigned, negative, byte_string, text_string, array, mapping, tagged, simple_value, half_float, single_float, double_float, no_items, item_and, data_items, items_in, array_of}
+use Rattle.grasp_cbor.proofs.Again.{data_items-items_in}
+use Rattle.grasp_cbor.proofs.Takes.{chosen}
+use Rattle.grasp_cbor.specs.DataItem.{DataItem, unsigned, text_string, array, simple_value, data_items, items_in, array_of}
 use Rattle.grasp_cbor.specs.Encodable.{IsEncodable, AreEncodable}
 use Rattle.grasp_wire.specs.Reading.{◌>>=◌, number_in, below, text_in, parts_in, is_null, or_null}
 use Rattle.grasp_wire.specs.ReadParts.{loops_in, port_in, narrow_in, flags_in}
@@ -20,39 +24,14 @@ pub some_bind : {A B : Type 0} (o : Option A) (f : A → Option B) (y : B) → (
 some_bind None f y h = absurd (cc)
 some_bind (Some x) f y h = (x, refl, h)
 
-pub chosen : {A : Type 0} (b : Bool) (x y z : A) → cond b x y ≡ z → ((b ≡ true) × (x ≡ z)) ⊎ ((b ≡ false) × (y ≡ z))
-chosen true x y z h = inl (refl, h)
-chosen false x y z h = inr (refl, h)
-
-pub some_same : {A : Type 0} (x y : A) → Some x ≡ Some y → x ≡ y
-some_same x y e = cc
-
-pub none_some : {A : Type 0} (y : A) → None ≡ Some y → ⊥
-none_some y e = cc
-
-pub test_is : (k n : ℕ) → (k == n) ≡ true → k ≡ n
-test_is k n h = search (rules, nat_tests)
-
-pub is_test : (k n : ℕ) → k ≡ n → (k == n) ≡ true
-is_test k n h = search (rules, nat_tests)
-
 pub not_test : (k n : ℕ) → n < k → (k == n) ≡ false
 not_test k n h = search (rules, nat_tests)
 
 -- numbers
 
 number_found : (t : DataItem) (n : ℕ) → number_in t ≡ Some n → t ≡ unsigned n
-number_found (unsigned m) n h = ap unsigned (some_same m n h)
-number_found (negative m) n h = absurd (none_some n h)
-number_found (byte_string bs) n h = absurd (none_some n h)
-number_found (text_string bs) n h = absurd (none_some n h)
-number_found (array ts) n h = absurd (none_some n h)
-number_found (mapping es) n h = absurd (none_some n h)
-number_found (tagged m t) n h = absurd (none_some n h)
-number_found (simple_value m) n h = absurd (none_some n h)
-number_found (half_float m) n h = absurd (none_some n h)
-number_found (single_float m) n h = absurd (none_some n h)
-number_found (double_float m) n h = absurd (none_some n h)
+number_found (unsigned m) n h = ap unsigned (same_Some m n h)
+number_found _ n h = absurd (none-some n h)
 
 abbrev pub Any : {X : Type 0} → X → Type 0
 Any x = Unit {0}
@@ -60,13 +39,10 @@ Any x = Unit {0}
 pub number_finds : Finds number_in unsigned Any
 number_finds t n enc h = (number_found t n h, tt)
 
-pub below_is : (k b : ℕ) → nat_lt k b ≡ true → k < b
-below_is k b h = search (rules, nat_tests)
-
 below_found : (b k n : ℕ) → below b k ≡ Some n → (k ≡ n) × (n < b)
 below_found b k n h = elim (chosen (nat_lt k b) (Some k) None (Some n) h) [
-  | inl p ↦ let e = some_same k n p.1 in (e, subst (λ (m : ℕ). m < b) e (below_is k b p.0))
-  | inr p ↦ absurd (none_some n p.1)
+  | inl p ↦ let e = same_Some k n p.1 in (e, subst (λ (m : ℕ). m < b) e (ltb-true k b p.0))
+  | inr p ↦ absurd (none-some n p.1)
 ]
 
 below_again : (b n : ℕ) → n < b → below b n ≡ Some n
@@ -113,39 +89,17 @@ flags_again n h = below_again 16 n h
 -- texts
 
 text_found : (t : DataItem) (bs : List ℕ) → text_in t ≡ Some bs → t ≡ text_string bs
-text_found (unsigned m) bs h = absurd (none_some bs h)
-text_found (negative m) bs h = absurd (none_some bs h)
-text_found (byte_string cs) bs h = absurd (none_some bs h)
-text_found (text_string cs) bs h = ap text_string (some_same cs bs h)
-text_found (array ts) bs h = absurd (none_some bs h)
-text_found (mapping es) bs h = absurd (none_some bs h)
-text_found (tagged m t) bs h = absurd (none_some bs h)
-text_found (simple_value m) bs h = absurd (none_some bs h)
-text_found (half_float m) bs h = absurd (none_some bs h)
-text_found (single_float m) bs h = absurd (none_some bs h)
-text_found (double_float m) bs h = absurd (none_some bs h)
+text_found (text_string cs) bs h = ap text_string (same_Some cs bs h)
+text_found _ bs h = absurd (none-some bs h)
 
 pub text_finds : Finds text_in text_string IsUtf8
 text_finds t bs enc h = let e = text_found t bs h in (e, (subst IsEncodable e enc).1)
 
 -- arrays
 
-data_items-items_in : (ts : DataItems) → data_items (items_in ts) ≡ ts
-data_items-items_in no_items = refl
-data_items-items_in (item_and t ts) = ap (item_and t) (data_items-items_in ts)
-
 parts_found : (t : DataItem) (ts : List DataItem) → parts_in t ≡ Some ts → t ≡ array_of ts
-parts_found (unsigned m) ts h = absurd (none_some ts h)
-parts_found (negative m) ts h = absurd (none_some ts h)
-parts_found (byte_string cs) ts h = absurd (none_some ts h)
-parts_found (text_string cs) ts h = absurd (none_some ts h)
-parts_found (array us) ts h = ap array (sym (data_items-items_in us)) ∙ ap array_of (some_same (items_in us) ts h)
-parts_found (mapping es) ts h = absurd (none_some ts h)
-parts_found (tagged m t) ts h = absurd (none_some ts h)
-parts_found (simple_value m) ts h = absurd (none_some ts h)
-parts_found (half_float m) ts h = absurd (none_some ts h)
-parts_found (single_float m) ts h = absurd (none_some ts h)
-parts_found (double_float m) ts h = absurd (none_some ts h)
+parts_found (array us) ts h = ap array (sym (data_items-items_in us)) ∙ ap array_of (same_Some (items_in us) ts h)
+parts_found _ ts h = absurd (none-some ts h)
 
 pub array_found : {X : Type 0} (f : List DataItem → Option X) (t : DataItem) (x : X) → IsEncodable t → (parts_in t >>= f) ≡ Some x
     → (ts : List DataItem) × (t ≡ array_of ts) × AreEncodable (data_items ts) × (f ts ≡ Some x)
@@ -171,25 +125,16 @@ array_finds f item Is finds t x enc h =
 -- null
 
 null_found : (t : DataItem) → is_null t ≡ true → t ≡ simple_value 22
-null_found (unsigned m) h = absurd (cc)
-null_found (negative m) h = absurd (cc)
-null_found (byte_string cs) h = absurd (cc)
-null_found (text_string cs) h = absurd (cc)
-null_found (array us) h = absurd (cc)
-null_found (mapping es) h = absurd (cc)
-null_found (tagged m t) h = absurd (cc)
-null_found (simple_value m) h = ap simple_value (test_is m 22 h)
-null_found (half_float m) h = absurd (cc)
-null_found (single_float m) h = absurd (cc)
-null_found (double_float m) h = absurd (cc)
+null_found (simple_value m) h = ap simple_value (eqb-true m 22 h)
+null_found _ h = absurd (cc)
 
 pub or_null_found : {X : Type 0} (read : DataItem → Option X) (item : X → DataItem) (Is : X → Type 0) → Finds read item Is
     → (made : Option X → DataItem) → made None ≡ simple_value 22 → ((x : X) → made (Some x) ≡ item x)
     → (t : DataItem) (o : Option X) → IsEncodable t → or_null read t ≡ Some o → (t ≡ made o) × IfSome o Is
 or_null_found read item Is finds made none some t o enc h = elim (chosen (is_null t) (Some None) _ (Some o) h) [
-  | inl p ↦ subst (λ v. (t ≡ made v) × IfSome v Is) (some_same None o p.1) (null_found t p.0 ∙ sym none, tt)
+  | inl p ↦ subst (λ v. (t ≡ made v) × IfSome v Is) (same_Some None o p.1) (null_found t p.0 ∙ sym none, tt)
   | inr p ↦
       let x = some_bind (read t) (λ y. Some (Some y)) o p.1 in
       let f = finds t x.0 enc x.1 in
-      subst (λ v. (t ≡ made v) × IfSome v Is) (some_same (Some x.0) o x.2) (f.0 ∙ sym (some x.0), f.1)
+      subst (λ v. (t ≡ made v) × IfSome v Is) (same_Some (Some x.0) o x.2) (f.0 ∙ sym (some x.0), f.1)
 ]

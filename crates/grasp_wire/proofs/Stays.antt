@@ -12,9 +12,9 @@ use Rattle.grasp_wire.specs.declared.fault.CutFault.{CutFault}
 use Rattle.grasp_wire.specs.declared.cutter.Cutter.{Cutter}
 use Rattle.grasp_wire.specs.Wire.{AreWireForms}
 use Rattle.grasp_wire.specs.Stream.{RestKind, IsRest, Divides, waiting, too_long, not_message, faulty}
-use Rattle.grasp_wire.specs.Reads.{fault_of}
 use Rattle.grasp_wire.specs.Cutter.{Past, HasFault, after_feed}
 use Rattle.grasp_wire.specs.Stands.{Stands, KeepsRest, KeepsUp, IsSame, cut_limit, fed_count, rest_of}
+use Rattle.grasp_wire.proofs.Facts.{waits_for_more}
 use Rattle.grasp_wire.proofs.ReadingOn.{whole_stays}
 use Rattle.grasp_wire.proofs.Rests.{no_message}
 
@@ -27,7 +27,7 @@ rest_stays rest more limit (faulty name.Malformed at) other h = ends_stays rest 
 rest_stays rest more limit (faulty name.NotText at) other h = ends_stays rest more limit (NotText at) h
 rest_stays rest more limit (faulty name.TooDeep at) other h = ends_stays rest more limit (TooDeep at) h
 
--- and so the division
+-- the division of a stream whose rest isn't waiting stays, with the new bytes behind the rest
 pub division_stays : (stream more : List ℕ) (limit : ℕ) (messages : List Message) (rest : List ℕ) (kind : RestKind) → AllBytes (stream ++ more) → Divides stream limit messages rest kind
     → kind ≢ waiting → Divides (stream ++ more) limit messages (rest ++ more) kind
 division_stays stream more limit messages rest kind bytes d other =
@@ -38,9 +38,6 @@ division_stays stream more limit messages rest kind bytes d other =
       splits = record { front = s.front; forms = s.forms; parts = parts; no_more = no_message (rest ++ more) limit kind (AllBytes-back s.front (rest ++ more) (subst AllBytes parts bytes)) h };
       kind_is = h;
     }
-
-waits_for_more : (before : ℕ) (kind : RestKind) (fault : CutFault) → fault_of before kind ≡ Some fault → kind ≢ waiting
-waits_for_more before kind fault e w = let q : None ≡ Some fault = sym (ap (fault_of before) w) ∙ e in cc
 
 pub fault_stays : (limit : ℕ) (past : Past) (piece : List ℕ) (fault : CutFault) → AllBytes (past.fed ++ piece) → HasFault limit past fault → HasFault limit (after_feed past piece) fault
 fault_stays limit past piece fault bytes h = record {

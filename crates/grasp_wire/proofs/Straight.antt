@@ -1,11 +1,10 @@
 -- Items that lead bytes, one after another.
-use Rattle.std.proofs.Common.{◌≡◌, ℕ, ◌+◌, ◌-◌, ◌<◌, ◌≤◌, ◌^◌, List, [], ◌∷◌, ◌++◌, length, map, take, drop, min, inl, refl, sym, ap, subst, ◌∙◌, append_assoc, arith}
+use Rattle.std.proofs.Common.{◌≡◌, ℕ, ◌+◌, ◌-◌, ◌<◌, ◌≤◌, ◌^◌, List, [], ◌∷◌, ◌++◌, length, map, take, drop, inl, refl, sym, ap, subst, ◌∙◌, append_assoc, arith}
 use Rattle.std.specs.Prelude.{All}
 use Rattle.std.proofs.lemmas.List.{length-append, length-take, length-take-le, map-append, take-take, take_at}
 use Rattle.std.proofs.lemmas.List.Elements.{All-push}
 use Rattle.grasp_cbor.specs.Bytes.{AllBytes}
 use Rattle.grasp_cbor.specs.DataItem.{DataItem, unsigned, byte_string, text_string, array_of, data_items, depth_of}
-use Rattle.grasp_cbor.specs.Encodable.{IsEncodable}
 use Rattle.grasp_cbor.specs.Encodes.{Encodes, IsEncoding, AreEncodings}
 use Rattle.grasp_cbor.specs.Head.{IsHead}
 use Rattle.grasp_cbor.specs.Leading.{Leads, LeadsArray, LeadsBytes, LeadsText}

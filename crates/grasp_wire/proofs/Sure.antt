@@ -32,8 +32,7 @@ name_at (suc (suc n)) = name.NotText
 
 name_back : (n : FaultName) → name_at (number_of n) ≡ n
 name_back name.Malformed = refl
-name_back name.TooDeep = refl
-name_back name.NotText = refl
+name_back _ = refl
 
 -- each kind of ending by a number, and its place or its length
 abbrev tag_of : Ending → ℕ
@@ -67,7 +66,7 @@ same_ending (faulty n at) (faulty m k) some t p =
     let q = same_name n m t in
     λ i. faulty (q i) (p i)
 
--- it ends so
+-- reading that is known to have this ending, other than a whole item, has it
 sure_ending : (s : List ℕ) (limit : ℕ) (f : Ending) → 0 < tag_of f → AllBytes s → ∥ IsEnding s limit f ∥₁ → IsEnding s limit f
 sure_ending s limit f some bytes h =
     let e = some_ending s limit bytes in
@@ -77,11 +76,9 @@ sure_ending s limit f some bytes h =
 
 whole_in : (s : List ℕ) (limit : ℕ) (e : Ending) (n : ℕ) → IsEnding s limit e → tag_of e ≡ 0 → place_of e ≡ n → (item : DataItem) × IsWhole s limit item n
 whole_in s limit (whole item used) n h t p = (item, subst (λ k. IsWhole s limit item k) p h)
-whole_in s limit partial n h t p = absurd (omega arith)
-whole_in s limit too_long n h t p = absurd (omega arith)
-whole_in s limit (faulty m at) n h t p = absurd (omega arith)
+whole_in s limit _ n h t p = absurd (omega arith)
 
--- it ends with an item of this length
+-- reading that is known to end with an item of this length ends with one
 sure_whole : (s : List ℕ) (limit n : ℕ) → AllBytes s → ∥ ((item : DataItem) × IsWhole s limit item n) ∥₁ → (item : DataItem) × IsWhole s limit item n
 sure_whole s limit n bytes h =
     let e = some_ending s limit bytes in
@@ -96,7 +93,7 @@ sure_fault s limit (TooDeep at) bytes h = sure_ending s limit (faulty name.TooDe
 sure_fault s limit TooLong bytes h = sure_ending s limit too_long (omega arith) bytes h
 sure_fault s limit OutOfMemory bytes h = ∥∥₁_elim h (hlevel) (λ x. x)
 
--- it reads on so
+-- reading more bytes that is known to end with this answer ends with it
 sure_read : (s t : List ℕ) (limit : ℕ) (r : Result (Option ℕ) ItemFault) → AllBytes (s ++ t) → ∥ AnswersRead s t limit r ∥₁ → AnswersRead s t limit r
 sure_read s t limit (Ok (Some used)) bytes h = (∥∥₁_elim h le_prop (λ x. x.0), sure_whole (s ++ t) limit (length s + used) bytes (∥∥₁_map h (λ x. x.1)))
 sure_read s t limit (Ok None) bytes h = sure_ending (s ++ t) limit partial (omega arith) bytes h
@@ -109,10 +106,7 @@ sure_read s t limit (Err fault) bytes h = record {
 -- the place of a fault is inside
 pub place_below : (limit : ℕ) (f : ItemFault) → place_in f ≤ taken_at limit f
 place_below limit (Malformed at) = omega arith
-place_below limit (NotText at) = omega arith
-place_below limit (TooDeep at) = omega arith
-place_below limit TooLong = omega arith
-place_below limit OutOfMemory = omega arith
+place_below limit _ = omega arith
 
 -- all but the first so many
 abbrev pub later : ℕ → List ℕ → List ℕ
@@ -177,7 +171,7 @@ whole_front limit rest used item w =
 pub at_whole : (new : ItemReader) (limit : ℕ) (rest : List ℕ) (used : ℕ) (item : DataItem) → reader_limit new ≡ limit → IsWhole rest limit item used → ∥ IsOpen new [] ∥₁ → ∥ IsAt true new (take used rest) ∥₁
 at_whole new limit rest used item e w o = ∥∥₁_map o (λ x. (x, (item, subst (λ n. IsWhole (take used rest) n item (length (take used rest))) (sym e) (whole_front limit rest used item w))))
 
--- and how it stands afterwards
+-- how the reader stands after all of a rest was read, of which so many bytes were read before
 pub rest_then : (reader new : ItemReader) (rest : List ℕ) (n : ℕ) (r : Result (Option ℕ) ItemFault) → ∥ IsOpen reader (take n rest) ∥₁
     → ((b : List ℕ) → IsOpen reader b → IsOpenAfter new (b ++ later n rest) r) → ∥ IsOpenAfter new rest r ∥₁
 rest_then reader new rest n r o then = subst (λ x. ∥ IsOpenAfter new x r ∥₁) (parted n rest) (∥∥₁_map o (λ x. then (take n rest) x))

@@ -1,8 +1,7 @@
 -- The messages that so many bytes hold whole.
-use Rattle.std.proofs.Common.{◌≡◌, ℕ, ◌+◌, ◌-◌, ◌<◌, ◌≤◌, ◌^◌, nat_le, Bool, true, false, cond, ◌⊎◌, inl, inr, List, [], ◌∷◌, ◌++◌, length, take, drop, get_or, take-append-drop, refl, sym, ap, subst, ◌∙◌, arith}
+use Rattle.std.proofs.Common.{◌≡◌, ℕ, ◌+◌, ◌-◌, ◌<◌, ◌≤◌, ◌^◌, nat_le, Bool, true, false, cond, List, [], ◌∷◌, ◌++◌, length, take, drop, get_or, take-append-drop, refl, sym, ap, subst, ◌∙◌, arith}
 use Rattle.std.specs.Prelude.{All}
-use Rattle.std.proofs.lemmas.Bool.{leb-true, true≢false}
-use Rattle.std.proofs.lemmas.Bool.Decides.{leb_tells}
+use Rattle.std.proofs.lemmas.Bool.{leb-true, leb-false}
 use Rattle.std.proofs.lemmas.List.{length-append, length-take-le, take-append-le, drop_more}
 use Rattle.std.proofs.Math.Seq.{take-append-add}
 use Rattle.grasp_cbor.specs.Bytes.{AllBytes}
@@ -53,12 +52,6 @@ whole_here limit n m ms form bytes l =
     let w : IsPartial (take n s) limit = front_waits s limit n (item_here (item_of m) s form.encodes) bytes form.fits l in
     (take n s, subst (λ x. Divides x limit [] (take n s) waiting) (sym (take-append-le n s (encoded ms) (omega arith))) (divides_alone limit (take n s) waiting (AllBytes-take n s bytes) w))
 
-not_whole : (a n : ℕ) → nat_le a n ≡ false → n < a
-not_whole a n e = by_case (leb_tells a n) where
-  by_case : ((nat_le a n ≡ true) × (a ≤ n)) ⊎ ((nat_le a n ≡ false) × (n < a)) → n < a
-  by_case (inl h) = absurd (true≢false (sym h.0 ∙ e))
-  by_case (inr h) = h.1
-
 pub whole_fronts : (ms : List Message) (limit n : ℕ) → 0 < limit → limit < 2 ^ 64 → All (IsSendable limit) ms → n ≤ length (encoded ms) → Wholes (take n (encoded ms)) limit (whole_in n ms)
 whole_fronts [] limit n some l h le =
     let e : 0 ≡ n = omega arith in
@@ -74,7 +67,7 @@ whole_fronts (m ∷ ms) limit n some l h le = by_test (nat_le (length (shortest 
       → (n - length (shortest (item_of m)) ≤ length (encoded ms) → Wholes (take (n - length (shortest (item_of m))) (encoded ms)) limit (whole_in (n - length (shortest (item_of m))) ms))
       → Wholes (take n (encoded (m ∷ ms))) limit (cond b (m ∷ whole_in (n - length (shortest (item_of m))) ms) [])
   by_test true e f = whole_more limit n m ms form (leb-true (length (shortest (item_of m))) n e) (f (omega (arith, le, length-append (shortest (item_of m)) (encoded ms))))
-  by_test false e f = whole_here limit n m ms form (shortest_bytes (item_of m) (sendable_encodable m limit l one.0 one.1)) (not_whole (length (shortest (item_of m))) n e)
+  by_test false e f = whole_here limit n m ms form (shortest_bytes (item_of m) (sendable_encodable m limit l one.0 one.1)) (leb-false (length (shortest (item_of m))) n e)
 
 pub given_whole : (ms : List Message) (limit n : ℕ) (past : Past) → 0 < limit → limit < 2 ^ 64 → All (IsSendable limit) ms → n ≤ length (encoded ms) → past.fed ≡ take n (encoded ms) → Waits limit past → past.given ≡ whole_in n ms
 given_whole ms limit n past some l h le e w =

@@ -46,7 +46,7 @@ abbrev pub AnyPiecesBegin : Type 0
 AnyPiecesBegin = (limit : ℕ) (calls : List CutCall) (messages : List Message) (rest : List ℕ) → AreCutCalls limit no_past calls → Splits (fed_in calls) limit messages rest
     → (others : List Message) × (messages ≡ given_in calls ++ others)
 
--- and are all of its messages where the last answer says so
+-- whatever pieces the bytes came in, all messages of what was fed were given once the cutter waits or answers a lasting fault
 abbrev pub AnyPiecesGiveAll : Type 0
 AnyPiecesGiveAll = (limit : ℕ) (calls : List CutCall) (last : Result (Option Message) CutFault) (messages : List Message) (rest : List ℕ) → AreCutCalls limit no_past (calls ++ answers last ∷ [])
     → IsLastAnswer last → Splits (fed_in calls) limit messages rest → messages ≡ given_in calls

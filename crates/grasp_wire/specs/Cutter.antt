@@ -44,7 +44,7 @@ after_next past (Ok (Some message)) = record past { given = past.given ++ messag
 after_next past (Ok None) = past
 after_next past (Err fault) = record past { fault = fault_after past.fault (lasting fault) }
 
--- these messages come first in the stream
+-- the stream begins with the wire forms of these messages
 pub record BeginsWith (stream : List ℕ) (limit : ℕ) (messages : List Message) : Type 0 where
   pub front : List ℕ
   pub rest : List ℕ
@@ -112,7 +112,7 @@ TakesTo limit past (Err (Malformed at)) taken = taken ≡ at + 1
 TakesTo limit past (Err (NotText at)) taken = taken ≡ at + 1
 TakesTo limit past (Err (TooDeep at)) taken = taken ≡ at + 1
 
--- and none after a fault that lasts
+-- how many bytes of the stream were taken once this is answered: after a fault that lasts, as many as before
 abbrev pub Takes : ℕ → Past → Option CutFault → Result (Option Message) CutFault → ℕ → ℕ → Type 0
 Takes limit past None result before taken = TakesTo limit past result taken
 Takes limit past (Some fault) result before taken = taken ≡ before

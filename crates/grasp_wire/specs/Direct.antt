@@ -1,4 +1,4 @@
--- Inside: what leads the bytes from which a message is read without making items. Only private calls cite it.
+-- Inside: what leads the bytes from which a message is read without making items.
 use Rattle.std.specs.Prelude.{◌≡◌, ◌≤◌, ℕ, List, [], ◌∷◌, length, take}
 use Rattle.grasp_cbor.specs.DataItem.{DataItem, unsigned}
 use Rattle.grasp_cbor.specs.Encodes.{Encodes}
@@ -15,7 +15,7 @@ LeadAll (t ∷ ts) bytes rest = (middle : List ℕ) × Leads t bytes middle × L
 abbrev pub EndsArray : ℕ → DataItem → List ℕ → List ℕ → Type 0
 EndsArray count item bytes rest = (whole : List ℕ) → LeadsArray count whole bytes → Leads item whole rest
 
--- and behind the head and this number
+-- behind the head of an array of so many items, and this number, these bytes end the item, and then the rest follows
 abbrev pub EndsKind : ℕ → ℕ → DataItem → List ℕ → List ℕ → Type 0
 EndsKind count kind item bytes rest = (whole middle : List ℕ) → LeadsArray count whole middle → Leads (unsigned kind) middle bytes → Leads item whole rest
 

@@ -25,11 +25,11 @@ OneMessageForBytes = (a b : Message) (bytes : List ℕ) (limit : ℕ) → IsWire
 abbrev pub SomeDivision : Type 0
 SomeDivision = (stream : List ℕ) (limit : ℕ) → limit < 2 ^ 64 → AllBytes stream → (messages : List Message) × (rest : List ℕ) × (kind : RestKind) × Divides stream limit messages rest kind
 
--- and in one way alone
+-- a stream divides into messages and a rest in at most one way
 abbrev pub OneDivision : Type 0
 OneDivision = (stream : List ℕ) (limit : ℕ) (a b : List Message) (r s : List ℕ) → Splits stream limit a r → Splits stream limit b s → (a ≡ b) × (r ≡ s)
 
--- its rest is of one kind
+-- the rest of a stream is of at most one kind
 abbrev pub OneKind : Type 0
 OneKind = (rest : List ℕ) (limit : ℕ) (a b : RestKind) → AllBytes rest → IsRest rest limit a → IsRest rest limit b → a ≡ b
 
@@ -47,7 +47,7 @@ abbrev pub DivisionsGrow : Type 0
 DivisionsGrow = (stream more : List ℕ) (limit : ℕ) (a b : List Message) (r s : List ℕ) → Splits stream limit a r → Splits (stream ++ more) limit b s
     → (others : List Message) × (b ≡ a ++ others)
 
--- and is the same, but for the bytes behind, where the rest isn't waiting
+-- the division of a longer stream is that of the stream, but for the bytes behind, where the stream's rest isn't waiting
 abbrev pub FaultsStay : Type 0
 FaultsStay = (stream more : List ℕ) (limit : ℕ) (messages : List Message) (rest : List ℕ) (kind : RestKind) → AllBytes (stream ++ more) → Divides stream limit messages rest kind
     → kind ≢ waiting → Divides (stream ++ more) limit messages (rest ++ more) kind
@@ -84,7 +84,7 @@ GivenComeFirst = (cutter : Cutter) (past : Past) (messages : List Message) (rest
 abbrev pub AllGivenAtNone : Type 0
 AllGivenAtNone = (limit : ℕ) (past : Past) (messages : List Message) (rest : List ℕ) → Waits limit past → Splits past.fed limit messages rest → messages ≡ past.given
 
--- and where a fault lasts
+-- where a fault lasts, the cutter gave all messages of what was fed
 abbrev pub AllGivenAtFault : Type 0
 AllGivenAtFault = (cutter : Cutter) (past : Past) (messages : List Message) (rest : List ℕ) → Stands cutter past → IsSome past.fault → Splits past.fed (cut_limit cutter) messages rest
     → messages ≡ past.given
@@ -111,7 +111,7 @@ OneNextAnswer = (cutter : Cutter) (past : Past) (a b : Result (Option Message) C
 abbrev pub SomeAnswer : Type 0
 SomeAnswer = (bytes : List ℕ) (limit : ℕ) → limit < 2 ^ 64 → AllBytes bytes → (answer : Result Message OneFault) × AnswersOne bytes limit answer × (answer ≢ Err (Cut OutOfMemory))
 
--- and one alone
+-- a datagram has at most one answer, but for out of memory
 abbrev pub OneAnswer : Type 0
 OneAnswer = (bytes : List ℕ) (limit : ℕ) (a b : Result Message OneFault) → AllBytes bytes → AnswersOne bytes limit a → AnswersOne bytes limit b
     → (a ≡ b) ⊎ ((a ≡ Err (Cut OutOfMemory)) ⊎ (b ≡ Err (Cut OutOfMemory)))

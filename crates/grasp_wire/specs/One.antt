@@ -42,7 +42,7 @@ AnswersOne bytes limit (Err (Cut fault)) = HasFaultAlone bytes limit fault
 AnswersOne bytes limit (Err (Truncated at)) = IsTruncated bytes limit at
 AnswersOne bytes limit (Err (Trailing at)) = HasTrailing bytes limit at
 
--- an item of so many bytes begins the bytes, or the answer is so
+-- Inside: an item of so many bytes begins the bytes, or the answer is so
 abbrev pub AnswersFirst : List ℕ → ℕ → Result ℕ OneFault → Type 0
 AnswersFirst bytes limit (Ok used) = (item : DataItem) × IsWhole bytes limit item used
 AnswersFirst bytes limit (Err fault) = AnswersOne bytes limit (Err fault)

@@ -1,4 +1,4 @@
--- Inside: items that stand one after another. Only private calls cite it.
+-- Inside: items that stand one after another.
 use Rattle.std.specs.Prelude.{ℕ, List}
 use Rattle.grasp_cbor.specs.DataItem.{DataItem, data_items}
 use Rattle.grasp_cbor.specs.Shortest.{shortest_items}

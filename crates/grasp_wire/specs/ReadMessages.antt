@@ -1,4 +1,4 @@
--- Inside: how a message is read from an item (RFC 8990, section 2.8). Only private calls cite it.
+-- Inside: how a message is read from an item (RFC 8990, section 2.8).
 use Rattle.std.specs.Prelude.{◌==◌, ℕ, Option, Some, None, List, length, if◌then◌else◌}
 use Rattle.std.specs.List.{slice_range}
 use Rattle.grasp_cbor.specs.DataItem.{DataItem}

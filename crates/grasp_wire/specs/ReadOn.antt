@@ -1,4 +1,4 @@
--- Inside: how the code reads on behind bytes that were read before. Only private calls cite it.
+-- Inside: how the code reads on behind bytes that were read before.
 use Rattle.std.specs.Prelude.{◌≡◌, ℕ, ◌+◌, ◌-◌, ◌<◌, ◌≤◌, Bool, true, false, List, [], ◌++◌, Option, Some, None, Result, Ok, Err, length, take}
 use Rattle.grasp_cbor.specs.Bytes.{AllBytes}
 use Rattle.grasp_cbor.specs.DataItem.{DataItem}

@@ -1,4 +1,4 @@
--- Inside: how the parts of messages are read from items (RFC 8990, sections 2.9 and 2.10). Only private calls cite it.
+-- Inside: how the parts of messages are read from items (RFC 8990, sections 2.9 and 2.10).
 use Rattle.std.specs.Prelude.{◌==◌, ◌+◌, ◌-◌, ◌^◌, ℕ, Option, Some, None, List, length, nat_le, if◌then◌else◌}
 use Rattle.std.specs.Int.{from_be_bytes, w32, w128}
 use Rattle.std.specs.List.{slice_range}

@@ -1,5 +1,5 @@
--- Inside: what is read from an item, or from a place of an array, where it is there. Only private calls cite it; that they
--- read exactly the items of messages is what `message_of_item` ensures, by the layout of messages alone.
+-- Inside: what is read from an item, or from a place of an array, where it is there. That these read exactly the items of
+-- messages is what `message_of_item` ensures, by the layout of messages alone.
 use Rattle.std.specs.Prelude.{◌==◌, ◌+◌, ℕ, Bool, true, false, Option, Some, None, List, [], ◌∷◌, length, slice_get, nat_lt, if◌then◌else◌}
 use Rattle.grasp_cbor.specs.DataItem.{DataItem, unsigned, text_string, array, simple_value, items_in}
 
@@ -45,7 +45,7 @@ is_there (Some x) = true
 unfoldable pub has_text_first : DataItem → Bool
 has_text_first t = is_there (parts_in t >>= λ parts. at_place text_in parts 0)
 
--- there is an item that passes the test
+-- the optional item is there and passes the test
 abbrev pub passes : (DataItem → Bool) → Option DataItem → Bool
 passes test None = false
 passes test (Some t) = test t

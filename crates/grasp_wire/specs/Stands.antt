@@ -32,7 +32,7 @@ waiting_count c = length (rest_of c)
 abbrev pub taken_count : Cutter → ℕ
 taken_count c = c.taken
 
--- how many bytes of the stream were taken where this fault was met
+-- Inside: how many bytes of the stream were taken where this fault was met
 abbrev pub taken_with : ℕ → CutFault → ℕ
 taken_with limit (Malformed at) = at + 1
 taken_with limit (NotText at) = at + 1
@@ -41,7 +41,7 @@ taken_with limit (TooLong at) = at + limit
 taken_with limit (NotMessage at) = at
 taken_with limit OutOfMemory = 0
 
--- how many bytes stand before these
+-- Inside: how many bytes stand before these
 abbrev pub before_of : Cutter → ℕ
 before_of c = c.fed - length (rest_of c)
 
@@ -63,39 +63,39 @@ pub record Stands (c : Cutter) (past : Past) : Type 0 where
   pub fault : past.fault ≡ c.fault
   pub keeps : KeepsUp past.fault c past
 
--- the same bytes are kept of as many, with the same limit
+-- Inside: the same bytes are kept of as many, with the same limit
 pub record IsSame (old new : Cutter) : Type 0 where
   pub rest : rest_of new ≡ rest_of old
   pub count : fed_count new ≡ fed_count old
   pub limit : cut_limit new ≡ cut_limit old
 
--- the rest, which so many bytes stand before, has this fault
+-- Inside: the rest, which so many bytes stand before, has this fault
 pub record IsFaultOf (rest : List ℕ) (limit before : ℕ) (fault : CutFault) : Type 0 where
   pub kind : RestKind
   pub kind_is : IsRest rest limit kind
   pub fault_is : fault_of before kind ≡ Some fault
 
--- what begins the rest: an item of so many bytes, the beginning of one, or a fault
+-- Inside: what begins the rest: an item of so many bytes, the beginning of one, or a fault
 abbrev pub AnswersFound : List ℕ → ℕ → ℕ → Result (Option ℕ) CutFault → Type 0
 AnswersFound rest limit before (Ok (Some used)) = (item : DataItem) × IsWhole rest limit item used
 AnswersFound rest limit before (Ok None) = IsPartial rest limit
 AnswersFound rest limit before (Err (NotMessage at)) = ⊥
 AnswersFound rest limit before (Err fault) = IsFaultOf rest limit before fault × (lasting fault ≡ Some fault)
 
--- how many bytes of the stream were taken then
+-- Inside: how many bytes of the stream were taken then
 abbrev pub TakesFound : ℕ → ℕ → ℕ → Result (Option ℕ) CutFault → ℕ → Type 0
 TakesFound limit before fed (Ok (Some used)) taken = taken ≡ before + used
 TakesFound limit before fed (Ok None) taken = taken ≡ fed
 TakesFound limit before fed (Err fault) taken = taken ≡ taken_with limit fault
 
--- what an item of so many bytes is: a message, or none
+-- Inside: what an item of so many bytes is: a message, or none
 abbrev pub AnswersItem : List ℕ → ℕ → ℕ → ℕ → Result Message CutFault → Type 0
 AnswersItem rest limit before used (Ok message) = IsWireForm message (take used rest) limit
 AnswersItem rest limit before used (Err OutOfMemory) = Unit {0}
 AnswersItem rest limit before used (Err (NotMessage at)) = IsFaultOf rest limit before (NotMessage at)
 AnswersItem rest limit before used (Err fault) = ⊥
 
--- the fault that lasts after an answer
+-- Inside: the fault that lasts after an answer
 abbrev pub fault_in : {A : Type 0} → Result A CutFault → Option CutFault
 fault_in (Ok x) = None
 fault_in (Err fault) = lasting fault

@@ -16,6 +16,7 @@ use std::alloc::Global;
 
 /// The shortest encoding of a message that has at most `limit` bytes is a wire form of it, for every limit below
 /// 2^64.
+#[tactic(auto, using(crate::proofs::EncodableItems::shortest_is_form))]
 pub fn shortest_is_wire_form()
     ensures { ShortestIsWireForm }
 {}

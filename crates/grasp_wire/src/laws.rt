@@ -22,6 +22,7 @@ pub fn one_kind_of_rest()
 {}
 
 /// A datagram that is the wire form of a message is decoded to this message, unless memory is wanted.
+#[tactic(auto, using(crate::proofs::Datagrams::forms_are_decoded))]
 pub fn forms_are_decoded()
     ensures { FormsAreDecoded }
 {}
@@ -48,11 +49,13 @@ pub fn given_come_first()
 
 /// What a cutter answers is the next message of the division of what was fed, or all were given and the rest is of the kind
 /// that the answer tells.
+#[tactic(auto, using(crate::proofs::NextAnswers::answers_are_divided))]
 pub fn answers_are_divided()
     ensures { AnswersAreDivided }
 {}
 
 /// A cutter has one answer, but for want of memory.
+#[tactic(auto, using(crate::proofs::NextAnswers::one_next_answer))]
 pub fn one_next_answer()
     ensures { OneNextAnswer }
 {}
@@ -70,6 +73,7 @@ pub fn encoded_come_first()
 {}
 
 /// Every front of joined encodings divides into the first messages and a rest that waits.
+#[tactic(auto, using(crate::proofs::Wholes::fronts))]
 pub fn fronts_divide()
     ensures { FrontsDivide }
 {}

@@ -78,10 +78,7 @@ pub(crate) fn flood_parts_from(
         return Ok(None);
     };
     let mut held = FloodParts::of(alloc, first)?;
-    for i in from + 1..parts.len() {
-        let Some(item) = parts.at(i) else {
-            unreachable!()
-        };
+    for item in &parts.slice()[from as usize + 1..] {
         if !push_flood_part(&mut held, item)? {
             return Ok(None);
         }
@@ -91,7 +88,8 @@ pub(crate) fn flood_parts_from(
 
 /// Adds the flood part that the item is, and answers whether it is one.
 fn push_flood_part(held: &mut FloodParts, item: &Item) -> Result<bool, OutOfMemory>
-    ensures { IfOk result (λ is_one. MatchOption (flood_part_in (data_item_of item.now)) (is_one ≡ false) (λ x. (is_one ≡ true) × (held.new ≡ held.old ++ x ∷ []))) }
+    ensures { IfOk result (λ is_one. MatchOption (flood_part_in (data_item_of item.now)) (is_one ≡ false)
+        (λ x. (is_one ≡ true) × (held.new ≡ held.old ++ x ∷ []))) }
 {
     match flood_part_in(item)? {
         Some(part) => {

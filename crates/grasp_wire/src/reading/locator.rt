@@ -132,10 +132,7 @@ pub(crate) fn locators_between(
         return Ok(None);
     };
     let mut held = Locators::of(alloc, first)?;
-    for i in from + 1..to {
-        let Some(item) = parts.at(i) else {
-            unreachable!()
-        };
+    for item in &parts.slice()[from as usize + 1..to as usize] {
         if !push_locator(&mut held, item)? {
             return Ok(None);
         }
@@ -145,7 +142,8 @@ pub(crate) fn locators_between(
 
 /// Adds the locator that the item is, and answers whether it is one.
 fn push_locator(held: &mut Locators, item: &Item) -> Result<bool, OutOfMemory>
-    ensures { IfOk result (λ is_one. MatchOption (locator_in (data_item_of item.now)) (is_one ≡ false) (λ x. (is_one ≡ true) × (held.new ≡ held.old ++ x ∷ []))) }
+    ensures { IfOk result (λ is_one. MatchOption (locator_in (data_item_of item.now)) (is_one ≡ false)
+        (λ x. (is_one ≡ true) × (held.new ≡ held.old ++ x ∷ []))) }
 {
     match locator_in(item)? {
         Some(locator) => {

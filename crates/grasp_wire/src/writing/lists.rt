@@ -19,10 +19,7 @@ fn put_locators<P: Put>(locators: &Locators, out: &mut P) -> Result<(), Full>
         (shortest_parts (map locator_item locators.now)) result }
     ensures range { OnOk result (AreLocators locators.now) }
 {
-    for i in 0..locators.len() {
-        let Some(locator) = locators.at(i) else {
-            unreachable!()
-        };
+    for locator in locators.slice() {
         put_locator(locator, out)?;
     }
     Ok(())
@@ -83,10 +80,7 @@ pub(crate) fn put_flood_parts<P: Put>(parts: &FloodParts, out: &mut P) -> Result
         (shortest_parts (map flood_part_item parts.now)) result }
     ensures range { OnOk result (P.Keeps → AreFloodParts parts.now) }
 {
-    for i in 0..parts.len() {
-        let Some(part) = parts.at(i) else {
-            unreachable!()
-        };
+    for part in parts.slice() {
         put_flood_part(part, out)?;
     }
     Ok(())

@@ -15,8 +15,8 @@ decreases-behind_items l = 2 * items_depth (data_items (items_of l.items.now)) +
 abbrev pub decreases-behind_pairs : goal.decreases-behind_pairs
 decreases-behind_pairs l = 2 * pairs_depth (data_pairs (pairs_of l.pairs.now)) + 1
 
-abbrev pub invariant-behind_items-loop-i : goal.invariant-behind_items-loop-i
-invariant-behind_items-loop-i l = behind (shortest_items (data_items (items_of l.items))) l.fn.bytes ≡ behind (items_from l.i (items_of l.items)) l.rest
+abbrev pub invariant-behind_items-loop-item : goal.invariant-behind_items-loop-item
+invariant-behind_items-loop-item l = behind (shortest_items (data_items (items_of l.items))) l.fn.bytes ≡ behind (items_from l.item-index (items_of l.items)) l.rest
 
-abbrev pub invariant-behind_pairs-loop-i : goal.invariant-behind_pairs-loop-i
-invariant-behind_pairs-loop-i l = behind (shortest_pairs (data_pairs (pairs_of l.pairs))) l.fn.bytes ≡ behind (pairs_from l.i (pairs_of l.pairs)) l.rest
+abbrev pub invariant-behind_pairs-loop-key : goal.invariant-behind_pairs-loop-key
+invariant-behind_pairs-loop-key l = behind (shortest_pairs (data_pairs (pairs_of l.pairs))) l.fn.bytes ≡ behind (pairs_from l.key-index (pairs_of l.pairs)) l.rest

@@ -13,8 +13,8 @@ decreases-room_after_items l = 2 * items_depth (data_items (items_of l.items.now
 abbrev pub decreases-room_after_pairs : goal.decreases-room_after_pairs
 decreases-room_after_pairs l = 2 * pairs_depth (data_pairs (pairs_of l.pairs.now)) + 1
 
-abbrev pub invariant-room_after_items-loop-i : goal.invariant-room_after_items-loop-i
-invariant-room_after_items-loop-i l = l.left + length (shortest_items (data_items (take l.i (items_of l.items)))) ≡ l.fn.room
+abbrev pub invariant-room_after_items-loop-item : goal.invariant-room_after_items-loop-item
+invariant-room_after_items-loop-item l = l.left + length (shortest_items (data_items (take l.item-index (items_of l.items)))) ≡ l.fn.room
 
-abbrev pub invariant-room_after_pairs-loop-i : goal.invariant-room_after_pairs-loop-i
-invariant-room_after_pairs-loop-i l = l.left + length (shortest_pairs (data_pairs (take l.i (pairs_of l.pairs)))) ≡ l.fn.room
+abbrev pub invariant-room_after_pairs-loop-key : goal.invariant-room_after_pairs-loop-key
+invariant-room_after_pairs-loop-key l = l.left + length (shortest_pairs (data_pairs (take l.key-index (pairs_of l.pairs)))) ≡ l.fn.room

@@ -13,8 +13,8 @@ decreases-write_list l = 2 * items_depth (data_items (items_of l.items.now)) + 1
 abbrev pub decreases-write_map : goal.decreases-write_map
 decreases-write_map l = 2 * pairs_depth (data_pairs (pairs_of l.pairs.now)) + 1
 
-abbrev pub invariant-write_list-loop-i : goal.invariant-write_list-loop-i
-invariant-write_list-loop-i l = IsListStep (items_of l.items) l.i l.fn.out.items l.out.items
+abbrev pub invariant-write_list-loop-item : goal.invariant-write_list-loop-item
+invariant-write_list-loop-item l = IsListStep (items_of l.items) l.item-index l.fn.out.items l.out.items
 
-abbrev pub invariant-write_map-loop-i : goal.invariant-write_map-loop-i
-invariant-write_map-loop-i l = IsMapStep (pairs_of l.pairs) l.i l.fn.out.items l.out.items
+abbrev pub invariant-write_map-loop-key : goal.invariant-write_map-loop-key
+invariant-write_map-loop-key l = IsMapStep (pairs_of l.pairs) l.key-index l.fn.out.items l.out.items

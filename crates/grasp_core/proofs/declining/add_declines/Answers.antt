@@ -1,6 +1,6 @@
 use Rattle.std.proofs.Common.{◌++◌, ◌-◌, ◌∙◌, List, map, sym, ap, arith, append-nil}
 use Rattle.std.proofs.lemmas.List.Elements.{All-push}
-use Rattle.grasp_core.specs.Declines.{Declining, declines_of}
+use Rattle.grasp_model_node.specs.Declines.{Declining, declines_of}
 use Rattle.grasp_core.specs.Planned.{planned_as, IsPlanned}
 use Rattle.grasp_core.proofs.Planning.{none_left, no_more, one_more}
 use Rattle.grasp_core.proofs.declining.add_declines.Goals as goal

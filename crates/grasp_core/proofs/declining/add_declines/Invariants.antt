@@ -2,7 +2,7 @@ use Rattle.std.proofs.Common.{◌≡◌, ◌++◌, map}
 use Rattle.std.specs.List.{All}
 use Rattle.grasp_session.specs.Sessions.{Sessions}
 use Rattle.grasp_session.specs.Stands.{Stands}
-use Rattle.grasp_core.specs.Declines.{declines_above, declines_of}
+use Rattle.grasp_model_node.specs.Declines.{declines_above, declines_of}
 use Rattle.grasp_core.specs.Planned.{planned_as, IsPlanned}
 use Rattle.grasp_core.proofs.declining.add_declines.Given as goal
 

@@ -1,6 +1,6 @@
 use Rattle.std.proofs.Common.{◌≡◌, ◌∙◌, ◌<◌, ◌++◌, List, length, ap, subst, get_or}
 use Rattle.grasp_types.specs.declared.links.Neighbour.{Neighbour}
-use Rattle.grasp_core.specs.Queue.{ways_on, ways_from}
+use Rattle.grasp_model_node.specs.Queue.{ways_on, ways_from}
 use Rattle.grasp_core.proofs.WayLists.{more_from}
 use Rattle.grasp_core.proofs.ways.all_ways.Goals as goal
 

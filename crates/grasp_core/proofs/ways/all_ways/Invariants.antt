@@ -1,5 +1,5 @@
 use Rattle.std.proofs.Common.{◌≡◌, ◌++◌, drop}
-use Rattle.grasp_core.specs.Queue.{ways_from}
+use Rattle.grasp_model_node.specs.Queue.{ways_from}
 use Rattle.grasp_core.proofs.ways.all_ways.Given as goal
 
 -- the ways so far and those of the links from this one on

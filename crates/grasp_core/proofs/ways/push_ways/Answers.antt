@@ -1,5 +1,5 @@
 use Rattle.std.proofs.Common.{◌++◌}
-use Rattle.grasp_core.specs.Queue.{ways_on}
+use Rattle.grasp_model_node.specs.Queue.{ways_on}
 use Rattle.grasp_core.proofs.WayLists.{more_on}
 use Rattle.grasp_core.proofs.ways.push_ways.Goals as goal
 

@@ -1,5 +1,5 @@
 use Rattle.std.proofs.Common.{◌≡◌, ◌++◌, drop}
-use Rattle.grasp_core.specs.Queue.{ways_on}
+use Rattle.grasp_model_node.specs.Queue.{ways_on}
 use Rattle.grasp_core.proofs.ways.push_ways.Given as goal
 
 -- the ways so far and those to the neighbours from this one on

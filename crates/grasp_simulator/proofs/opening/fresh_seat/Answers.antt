@@ -1,9 +1,9 @@
 use Rattle.std.proofs.Common.{◌≡◌, false, sym, subst}
-use Rattle.grasp_core.specs.Node.{first_node}
-use Rattle.grasp_core.specs.Plan.{is_bad_plan}
+use Rattle.grasp_model_node.specs.Node.{first_node}
+use Rattle.grasp_model_node.specs.Plan.{is_bad_plan}
 use Rattle.grasp_core.specs.Stands.{NodeStands}
-use Rattle.grasp_core.specs.declared.plan.NodePlan.{NodePlan}
-use Rattle.grasp_network.proofs.Opened.{script_nodes_open}
+use Rattle.grasp_model_node.specs.declared.plan.NodePlan.{NodePlan}
+use Rattle.grasp_laws_network.proofs.Opened.{script_nodes_open}
 use Rattle.grasp_simulator.proofs.opening.fresh_seat.Goals as goal
 
 pub open_core-requires : goal.open_core-requires

@@ -1,5 +1,5 @@
 use Rattle.std.proofs.Common.{◌≡◌, take}
-use Rattle.grasp_network.specs.Setting.{script_links}
+use Rattle.grasp_model_network.specs.Setting.{script_links}
 use Rattle.grasp_simulator.proofs.opening.links_at.Given as goal
 
 -- those before this one

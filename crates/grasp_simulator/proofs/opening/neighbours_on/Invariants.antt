@@ -1,5 +1,5 @@
 use Rattle.std.proofs.Common.{◌≡◌, map, take}
-use Rattle.grasp_network.specs.Setting.{others_on, script_neighbour}
+use Rattle.grasp_model_network.specs.Setting.{others_on, script_neighbour}
 use Rattle.grasp_simulator.proofs.opening.neighbours_on.Given as goal
 
 -- those before this one

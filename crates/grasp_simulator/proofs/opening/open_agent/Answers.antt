@@ -1,7 +1,7 @@
 use Rattle.std.proofs.Common.{◌≡◌, ◌∙◌, subst, List}
 use Rattle.grasp_pool.specs.Answers.{IsRootFault}
 use Rattle.grasp_pool.specs.declared.roots.RootPrefix.{RootPrefix}
-use Rattle.grasp_network.specs.Setting.{script_roots}
+use Rattle.grasp_model_network.specs.Setting.{script_roots}
 use Rattle.grasp_simulator.proofs.NodeRoots.{no_fault}
 use Rattle.grasp_simulator.proofs.opening.open_agent.Goals as goal
 

@@ -1,4 +1,4 @@
-use Rattle.grasp_network.specs.Setting.{script_member}
+use Rattle.grasp_model_network.specs.Setting.{script_member}
 use Rattle.grasp_simulator.proofs.SeatCalls.{opens}
 use Rattle.grasp_simulator.proofs.opening.open_seat.Goals as goal
 

@@ -1,7 +1,7 @@
 use Rattle.std.proofs.Common.{rules, ◌≡◌, ◌+◌, ℕ, List, [], sym, subst, arith}
-use Rattle.grasp_network.specs.Runs.{first_world}
+use Rattle.grasp_model_network.specs.Runs.{first_world}
 use Rattle.grasp_simulator.specs.Seats.{SeatsStand}
-use Rattle.grasp_network.specs.Setting.{numbers_from, script_setting}
+use Rattle.grasp_model_network.specs.Setting.{numbers_from, script_setting}
 use Rattle.grasp_simulator.specs.declared.seat.Seat.{Seat as SeatCode}
 use Rattle.grasp_simulator.proofs.SeatLists.{first_seats, seats_more}
 use Rattle.grasp_simulator.proofs.opening.open_seats.Goals as goal

@@ -1,5 +1,5 @@
 use Rattle.std.proofs.Common.{◌≡◌, ◌≤◌, ◌∙◌, sym, ap, arith, ℕ, ◌+◌, true, false, drop}
-use Rattle.grasp_network.specs.Setting.{is_on, line_from}
+use Rattle.grasp_model_network.specs.Setting.{is_on, line_from}
 use Rattle.grasp_simulator.proofs.WayLines.{line_here, line_passed, line_off, line_none}
 use Rattle.grasp_simulator.proofs.ways.line_at.Goals.{then-is_on+else-left-eq0, else-is_on}
 use Rattle.grasp_simulator.proofs.ways.line_at.Goals as goal

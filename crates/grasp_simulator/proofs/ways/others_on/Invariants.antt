@@ -1,5 +1,5 @@
 use Rattle.std.proofs.Common.{◌≡◌, take}
-use Rattle.grasp_network.specs.Setting.{others_on}
+use Rattle.grasp_model_network.specs.Setting.{others_on}
 use Rattle.grasp_simulator.proofs.ways.others_on.Given as goal
 
 -- those before this one

@@ -1,9 +1,8 @@
 use Rattle.std.proofs.Common.{rules, ◌≡◌, ◌≤◌, ◌∙◌, sym, ap, subst, ℕ, List, Some, slice_get}
-use Rattle.grasp_network.specs.Routes.{place_among}
-use Rattle.grasp_network.specs.Setting.{line_of, link_of, others_on}
+use Rattle.grasp_model_network.specs.Routes.{place_among}
+use Rattle.grasp_model_network.specs.Setting.{line_of, link_of, others_on}
 use Rattle.grasp_simulator.proofs.WayLines.{way_is}
 use Rattle.grasp_simulator.specs.Sends.{IsWay}
-use Rattle.grasp_simulator.specs.declared.ways.Way.{Way}
 use Rattle.grasp_simulator.proofs.ways.way_to.Goals as goal
 
 pub returns : goal.returns

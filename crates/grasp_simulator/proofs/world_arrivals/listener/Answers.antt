@@ -1,6 +1,6 @@
 use Rattle.std.proofs.Common.{◌≡◌, ◌∙◌, sym, ap, ◌+◌, true, false}
 use Rattle.grasp_types.specs.Same.{same_locator}
-use Rattle.grasp_network.specs.Setting.{script_locator}
+use Rattle.grasp_model_network.specs.Setting.{script_locator}
 use Rattle.grasp_simulator.proofs.ArrivesGo.{looked_on, looked_here, looked_all}
 use Rattle.grasp_simulator.proofs.world_arrivals.listener.Goals as goal
 

@@ -3,7 +3,7 @@ use Rattle.std.specs.Prelude.{codes}
 use Rattle.std.proofs.lemmas.Grind.{same_number_lists}
 use Rattle.grasp_text.specs.Grammar.{name_of}
 use Rattle.grasp_text.specs.declared.names.MessageName.{MessageName}
-use Rattle.grasp_text.specs.declared.names.MessageName.TheVariants.{Noop, Discovery, Response, RequestNegotiation, RequestSynchronization, Negotiate, End, Wait, Synch, Flood, Invalid}
+use Rattle.grasp_text.specs.declared.names.MessageName.TheVariants.{Noop, Discovery, Response, RequestNegotiation, RequestSynchronization, Negotiate, Wait, Synch, Flood, Invalid}
 use Rattle.grasp_text.proofs.NumberWords.{is_none}
 use Rattle.grasp_text.proofs.SpelledWords.{name_word, name_exact, name_only}
 use Rattle.grasp_text.proofs.names.message_name.Goals as goal
@@ -29,17 +29,11 @@ no_long_name : (word : List ℕ) → 9 ≤ length word → ¬ (word ≡ codes "d
 no_long_name word long discovery negotiate neg syn = sym (is_none (name_of word) (λ name e. differs name (name_only word name e)))
   where
     differs : (name : MessageName) → ¬ (word ≡ name_word name)
-    differs Noop e = omega (arith, ap length e)
     differs Discovery e = discovery e
-    differs Response e = omega (arith, ap length e)
     differs RequestNegotiation e = neg e
     differs RequestSynchronization e = syn e
     differs Negotiate e = negotiate e
-    differs End e = omega (arith, ap length e)
-    differs Wait e = omega (arith, ap length e)
-    differs Synch e = omega (arith, ap length e)
-    differs Flood e = omega (arith, ap length e)
-    differs Invalid e = omega (arith, ap length e)
+    differs _ e = omega (arith, ap length e)
 
 -- words of other lengths, or with another byte at this place, differ
 other_length : (word expected : List ℕ) → ¬ (length word ≡ length expected) → ¬ (word ≡ expected)

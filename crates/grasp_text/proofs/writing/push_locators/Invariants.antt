@@ -5,8 +5,8 @@ use Rattle.grasp_text.specs.Line.{all_locator_words}
 use Rattle.grasp_text.specs.Words.{spaced}
 use Rattle.grasp_text.proofs.writing.push_locators.Given as goal
 
-abbrev pub invariant-loop-i : goal.invariant-loop-i
-invariant-loop-i l = record {
-  text : string_bytes l.out ≡ string_bytes l.fn.out ++ spaced (all_locator_words (take l.i l.locators));
-  ranges : AllByRecursion IsLocator (take l.i l.locators);
+abbrev pub invariant-loop-locator : goal.invariant-loop-locator
+invariant-loop-locator l = record {
+  text : string_bytes l.out ≡ string_bytes l.fn.out ++ spaced (all_locator_words (take l.locator-index l.locators));
+  ranges : AllByRecursion IsLocator (take l.locator-index l.locators);
 }

@@ -1,10 +1,10 @@
 use Rattle.std.proofs.Common.{◌≡◌, ap, subst, ◌∙◌}
 use Rattle.grasp_types.specs.declared.message.Message.{Message}
-use Rattle.grasp_core.specs.Answered.{if_answered}
-use Rattle.grasp_core.specs.Draws.{next_session}
-use Rattle.grasp_core.specs.Node.{NodeState}
+use Rattle.grasp_model_node.specs.Answered.{if_answered}
+use Rattle.grasp_model_node.specs.Draws.{next_session}
+use Rattle.grasp_model_node.specs.Node.{NodeState}
 use Rattle.grasp_core.specs.Outgoing.{dialled}
-use Rattle.grasp_core.specs.SessionCalls.{request_of}
+use Rattle.grasp_model_node.specs.SessionCalls.{request_of}
 use Rattle.grasp_core.specs.Stands.{NodeStands}
 use Rattle.grasp_core.proofs.Dialling.{requested_is}
 use Rattle.grasp_core.proofs.node_core.NodeCore.begin_request.Goals as goal

@@ -1,5 +1,5 @@
 use Rattle.std.proofs.Common.{map}
-use Rattle.grasp_core.specs.Declines.{after_declines}
+use Rattle.grasp_model_node.specs.Declines.{after_declines}
 use Rattle.grasp_core.specs.Planned.{planned_as}
 use Rattle.grasp_core.proofs.Dropping.{declined_none, declined_more}
 use Rattle.grasp_core.proofs.node_core.NodeCore.decline_all.Goals as goal

@@ -1,6 +1,6 @@
 use Rattle.std.proofs.Common.{map}
-use Rattle.grasp_core.specs.Declines.{after_declines}
-use Rattle.grasp_core.specs.Node.{NodeState}
+use Rattle.grasp_model_node.specs.Declines.{after_declines}
+use Rattle.grasp_model_node.specs.Node.{NodeState}
 use Rattle.grasp_core.specs.Planned.{planned_as}
 use Rattle.grasp_core.specs.Stands.{NodeStands}
 use Rattle.grasp_core.proofs.node_core.NodeCore.decline_all.Given as goal

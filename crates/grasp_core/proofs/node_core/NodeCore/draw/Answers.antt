@@ -1,4 +1,4 @@
-use Rattle.grasp_core.specs.Moves.{with_draw}
+use Rattle.grasp_model_node.specs.Moves.{with_draw}
 use Rattle.grasp_core.proofs.node_core.NodeCore.draw.Goals as goal
 
 pub returns : goal.returns

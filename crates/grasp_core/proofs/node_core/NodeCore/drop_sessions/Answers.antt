@@ -1,4 +1,4 @@
-use Rattle.grasp_core.specs.RegistryCalls.{without_sessions}
+use Rattle.grasp_model_node.specs.RegistryCalls.{without_sessions}
 use Rattle.grasp_core.proofs.Dropping.{left_none, left_more}
 use Rattle.grasp_core.proofs.node_core.NodeCore.drop_sessions.Goals as goal
 

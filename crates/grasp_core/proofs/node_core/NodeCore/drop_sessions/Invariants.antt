@@ -1,5 +1,5 @@
-use Rattle.grasp_core.specs.Node.{NodeState}
-use Rattle.grasp_core.specs.RegistryCalls.{without_sessions}
+use Rattle.grasp_model_node.specs.Node.{NodeState}
+use Rattle.grasp_model_node.specs.RegistryCalls.{without_sessions}
 use Rattle.grasp_core.specs.Stands.{NodeStands}
 use Rattle.grasp_core.proofs.node_core.NodeCore.drop_sessions.Given as goal
 

@@ -1,5 +1,5 @@
 use Rattle.std.proofs.Common.{sym, ◌∙◌, arith}
-use Rattle.grasp_core.specs.Begin.{expired}
+use Rattle.grasp_model_node.specs.Begin.{expired}
 use Rattle.grasp_core.proofs.Expiring.{expired_none, expired_more, expired_all}
 use Rattle.grasp_core.proofs.node_core.NodeCore.expire_sessions.Goals as goal
 

@@ -1,6 +1,6 @@
-use Rattle.grasp_core.specs.Node.{NodeState}
+use Rattle.grasp_model_node.specs.Node.{NodeState}
 use Rattle.grasp_core.specs.Stands.{NodeStands}
-use Rattle.grasp_core.specs.Begin.{expired}
+use Rattle.grasp_model_node.specs.Begin.{expired}
 use Rattle.grasp_core.proofs.node_core.NodeCore.expire_sessions.Given as goal
 
 -- so many turns have passed

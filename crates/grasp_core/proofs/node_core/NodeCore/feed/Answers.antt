@@ -1,6 +1,6 @@
 use Rattle.std.proofs.Common.{rules, ◌≤◌, ◌+◌, length}
 use Rattle.grasp_wire.specs.Stands.{fed_count}
-use Rattle.grasp_core.specs.Bytes.{most_bytes}
+use Rattle.grasp_model_node.specs.Bytes.{most_bytes}
 use Rattle.grasp_core.specs.Feeding.{with_piece}
 use Rattle.grasp_core.proofs.FedPieces.{fed_hears, left_open, left_shut, unfed}
 use Rattle.grasp_core.proofs.node_core.NodeCore.feed.Goals as goal

@@ -1,14 +1,14 @@
 use Rattle.std.proofs.Common.{◌≡◌, Ok, None, Some, refl, sym, ap, subst, ◌∙◌}
 use Rattle.grasp_types.specs.declared.flood.FloodPart.{FloodPart}
 use Rattle.grasp_types.specs.declared.message.Message.{Message}
-use Rattle.grasp_core.specs.FloodCalls.{count_all, flood_message}
-use Rattle.grasp_core.specs.Moves.{with_draw, queue_up}
-use Rattle.grasp_core.specs.Node.{NodeState}
+use Rattle.grasp_model_node.specs.FloodCalls.{count_all, flood_message}
+use Rattle.grasp_model_node.specs.Moves.{with_draw, queue_up}
+use Rattle.grasp_model_node.specs.Node.{NodeState}
 use Rattle.grasp_core.specs.Outgoing.{flood_of}
-use Rattle.grasp_core.specs.Queue.{along, all_ways}
-use Rattle.grasp_core.specs.Refusals.{late}
+use Rattle.grasp_model_node.specs.Queue.{along, all_ways}
+use Rattle.grasp_model_node.specs.Refusals.{late}
 use Rattle.grasp_core.specs.Stands.{NodeStands}
-use Rattle.grasp_core.specs.Tests.{sending}
+use Rattle.grasp_model_node.specs.Tests.{sending}
 use Rattle.grasp_core.proofs.Spreading.{flood_is, flooded_is}
 use Rattle.grasp_core.proofs.node_core.NodeCore.flood.Goals as goal
 

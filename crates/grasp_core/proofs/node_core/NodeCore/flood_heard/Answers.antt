@@ -1,5 +1,5 @@
 use Rattle.std.proofs.lemmas.Bool.{lt-leb}
-use Rattle.grasp_core.specs.Datagrams.{loops_of}
+use Rattle.grasp_model_node.specs.Datagrams.{loops_of}
 use Rattle.grasp_core.proofs.Came.{kept_few}
 use Rattle.grasp_core.proofs.Heard.{on_ok}
 use Rattle.grasp_core.proofs.node_core.NodeCore.flood_heard.Goals as goal

@@ -1,6 +1,7 @@
 use Rattle.std.proofs.Common.{◌-◌, ◌^◌, ◌∙◌, ℕ, List, min, map, ap, subst}
 use Rattle.std.specs.List.{AllZip, sum_by}
-use Rattle.grasp_core.specs.Kept.{HasWaiting, kept_on}
+use Rattle.grasp_core.specs.Kept.{kept_on}
+use Rattle.grasp_model_node.specs.Waiting.{HasWaiting}
 use Rattle.grasp_core.specs.declared.streams.Stream.{Stream}
 use Rattle.grasp_core.proofs.Waiting.{all_wait, sum_map}
 use Rattle.grasp_core.proofs.node_core.NodeCore.kept.Goals as goal

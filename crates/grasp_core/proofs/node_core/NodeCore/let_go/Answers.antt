@@ -1,8 +1,8 @@
 use Rattle.std.proofs.Common.{◌∙◌, ℕ, List, subst}
 use Rattle.std.specs.List.{fold}
-use Rattle.grasp_core.specs.Draining.{after_drain}
+use Rattle.grasp_model_node.specs.Draining.{after_drain}
 use Rattle.grasp_core.specs.Stands.{StreamsStand}
-use Rattle.grasp_core.specs.Streams.{without}
+use Rattle.grasp_model_node.specs.Streams.{without}
 use Rattle.grasp_core.proofs.Queueing.{queued_rest}
 use Rattle.grasp_core.proofs.node_core.NodeCore.let_go.Goals as goal
 

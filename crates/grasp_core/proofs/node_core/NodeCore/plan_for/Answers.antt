@@ -2,7 +2,7 @@ use Rattle.std.proofs.Common.{◌∙◌, map, sym, ap}
 use Rattle.grasp_asa.specs.Answers.{names_of}
 use Rattle.grasp_asa.specs.Registrations.{Registrations}
 use Rattle.grasp_core.specs.Planned.{planned_as}
-use Rattle.grasp_core.specs.RegistryCalls.{declines_for}
+use Rattle.grasp_model_node.specs.RegistryCalls.{declines_for}
 use Rattle.grasp_core.proofs.Planning.{next_name, last_name}
 use Rattle.grasp_core.proofs.node_core.NodeCore.plan_for.Goals as goal
 

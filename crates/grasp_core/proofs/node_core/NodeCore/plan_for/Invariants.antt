@@ -3,7 +3,7 @@ use Rattle.std.specs.List.{All}
 use Rattle.grasp_asa.specs.Answers.{names_of}
 use Rattle.grasp_session.specs.Sessions.{Sessions}
 use Rattle.grasp_session.specs.Stands.{Stands}
-use Rattle.grasp_core.specs.RegistryCalls.{declines_for}
+use Rattle.grasp_model_node.specs.RegistryCalls.{declines_for}
 use Rattle.grasp_core.specs.Planned.{planned_as, IsPlanned}
 use Rattle.grasp_core.proofs.node_core.NodeCore.plan_for.Given as goal
 

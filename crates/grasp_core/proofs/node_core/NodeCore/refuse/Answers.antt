@@ -1,5 +1,5 @@
 use Rattle.std.proofs.Common.{subst}
-use Rattle.grasp_core.specs.Node.{NodeState}
+use Rattle.grasp_model_node.specs.Node.{NodeState}
 use Rattle.grasp_core.specs.Stands.{NodeStands}
 use Rattle.grasp_core.proofs.Heard.{refused}
 use Rattle.grasp_core.proofs.node_core.NodeCore.refuse.Goals as goal

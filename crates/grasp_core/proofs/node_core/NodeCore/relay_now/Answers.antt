@@ -1,9 +1,9 @@
 use Rattle.std.proofs.Common.{◌≡◌, ◌∙◌, List, not, map, ap}
 use Rattle.std.specs.Prelude.{filter, ◌==◌}
 use Rattle.grasp_types.specs.declared.traffic.Output.TheVariants as output
-use Rattle.grasp_core.specs.Moves.{queue_up}
-use Rattle.grasp_core.specs.Queue.{other_ways, encoding, along, output_of}
-use Rattle.grasp_core.specs.declared.ways.Way.{Way}
+use Rattle.grasp_model_node.specs.Moves.{queue_up}
+use Rattle.grasp_model_node.specs.Queue.{other_ways, encoding, along, output_of}
+use Rattle.grasp_model_node.specs.declared.way.Way.{Way}
 use Rattle.grasp_core.proofs.Queueing.{queued_more, queued_along}
 use Rattle.grasp_core.proofs.node_core.NodeCore.relay_now.Goals as goal
 

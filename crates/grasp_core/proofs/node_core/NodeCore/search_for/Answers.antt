@@ -1,7 +1,7 @@
 use Rattle.std.proofs.Common.{ap, subst, ◌∙◌}
 use Rattle.grasp_types.specs.declared.message.Message.{Message}
-use Rattle.grasp_core.specs.Answered.{if_answered}
-use Rattle.grasp_core.specs.Node.{NodeState}
+use Rattle.grasp_model_node.specs.Answered.{if_answered}
+use Rattle.grasp_model_node.specs.Node.{NodeState}
 use Rattle.grasp_core.specs.Outgoing.{searched}
 use Rattle.grasp_core.specs.Stands.{NodeStands}
 use Rattle.grasp_core.proofs.Spreading.{begun_is}

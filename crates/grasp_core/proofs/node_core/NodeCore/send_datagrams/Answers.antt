@@ -1,5 +1,5 @@
 use Rattle.std.proofs.Common.{◌∙◌}
-use Rattle.grasp_core.specs.Moves.{with_draw, queue_up}
+use Rattle.grasp_model_node.specs.Moves.{with_draw, queue_up}
 use Rattle.grasp_core.proofs.Spreading.{queued}
 use Rattle.grasp_core.proofs.node_core.NodeCore.send_datagrams.Goals as goal
 

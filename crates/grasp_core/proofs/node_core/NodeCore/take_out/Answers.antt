@@ -1,7 +1,7 @@
 use Rattle.std.proofs.Common.{ℕ, subst}
 use Rattle.grasp_core.proofs.TakenPieces.{takes_out}
 use Rattle.grasp_core.specs.Stands.{CutsAs}
-use Rattle.grasp_core.specs.Streams.{past_of}
+use Rattle.grasp_model_node.specs.Streams.{past_of}
 use Rattle.grasp_core.proofs.node_core.NodeCore.take_out.Goals as goal
 
 pub returns-clause-cutter : goal.returns-clause-cutter

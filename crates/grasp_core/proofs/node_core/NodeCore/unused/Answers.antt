@@ -1,5 +1,5 @@
 use Rattle.std.proofs.Common.{◌∙◌, sym, arith}
-use Rattle.grasp_core.specs.Draws.{is_used}
+use Rattle.grasp_model_node.specs.Draws.{is_used}
 use Rattle.grasp_core.proofs.Drawn.{unused_none, unused_here}
 use Rattle.grasp_core.proofs.node_core.NodeCore.unused.Goals as goal
 

@@ -1,6 +1,6 @@
 use Rattle.std.proofs.Common.{◌≡◌}
-use Rattle.grasp_core.specs.Draws.{is_used, first_unused}
-use Rattle.grasp_core.specs.Node.{NodeState}
+use Rattle.grasp_model_node.specs.Draws.{is_used, first_unused}
+use Rattle.grasp_model_node.specs.Node.{NodeState}
 use Rattle.grasp_core.specs.Stands.{NodeStands}
 use Rattle.grasp_core.proofs.node_core.NodeCore.unused.Given as goal
 

@@ -1,6 +1,6 @@
 use Rattle.std.proofs.Common.{◌∙◌, ap, refl, ℕ, ◌+◌, ◌*◌, Some, None}
 use Rattle.grasp_wire.specs.Cutter.{no_past}
-use Rattle.grasp_core.specs.Streams.{next_stream}
+use Rattle.grasp_model_node.specs.Streams.{next_stream}
 use Rattle.grasp_core.proofs.StreamRecords.{one_more}
 use Rattle.grasp_core.proofs.streams.Streams.dial.Goals as goal
 

@@ -1,7 +1,7 @@
 use Rattle.std.proofs.Common.{◌≡◌, take}
 use Rattle.std.specs.List.{fold}
 use Rattle.grasp_core.specs.Stands.{StreamsStand}
-use Rattle.grasp_core.specs.Streams.{StreamsState, without}
+use Rattle.grasp_model_node.specs.Streams.{StreamsState, without}
 use Rattle.grasp_core.proofs.streams.Streams.remove_all.Given as goal
 
 -- the records of the numbers before this one are gone

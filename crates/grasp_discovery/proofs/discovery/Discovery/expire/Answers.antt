@@ -1,9 +1,10 @@
 use Rattle.std.proofs.Common.{rules, ◌≡◌, nat_lt, length, filter, map, sym, ap, ◌∙◌, arith}
 use Rattle.std.specs.Vec.{with_items}
 use Rattle.std.proofs.lemmas.List.{with_items_is}
+use Rattle.grasp_cbor.proofs.Facts.Lists.{length_map}
 use Rattle.indexmap.proofs.CallerLemmas.{filter-RetainsPairs}
 use Rattle.grasp_discovery.specs.Discoveries.{has_any, live_entry, after_reading}
-use Rattle.grasp_discovery.proofs.Soundness.{length_map, sound_expiry}
+use Rattle.grasp_discovery.proofs.Soundness.{sound_expiry}
 use Rattle.grasp_discovery.proofs.discovery.Discovery.expire.Goals as goal
 
 -- what is left

@@ -1,7 +1,8 @@
 use Rattle.std.proofs.Common.{◌<◌, length, sym, ◌∙◌, arith}
+use Rattle.grasp_cbor.proofs.Facts.Options.{on_err}
 use Rattle.grasp_types.specs.Origin.{origin_of}
 use Rattle.grasp_discovery.specs.Discoveries.{Discoveries}
-use Rattle.grasp_discovery.proofs.Memories.{insert_entry_new, remembered_is, is_known, is_new, has_no_place, OnErr_anyhow}
+use Rattle.grasp_discovery.proofs.Memories.{insert_entry_new, remembered_is, is_known, is_new, has_no_place}
 use Rattle.grasp_discovery.proofs.Soundness.{sound_remember}
 use Rattle.grasp_discovery.specs.declared.discovery.Discovery.TheInside.{Inside}
 use Rattle.grasp_discovery.proofs.discovery.Discovery.heard.Goals as goal
@@ -30,13 +31,13 @@ pub returns-in_err-memory-clause-wanted : goal.returns-in_err-memory-clause-want
 returns-in_err-memory-clause-wanted c =
     let origin = origin_of c.args.session c.args.initiator in
     let unknown = remembered_is origin c.self.inside.memories.entries _ _ c.contains_key.ensures c.if-contains_key.false in
-    rw (← c.self.view_is) (OnErr_anyhow c.from_residual.result (is_new (seen c.self.inside) origin unknown (omega (arith, c.len.ensures.len))))
+    rw (← c.self.view_is) (on_err c.from_residual.result (is_new (seen c.self.inside) origin unknown (omega (arith, c.len.ensures.len))))
 
 pub returns-in_err-insert-clause-wanted : goal.returns-in_err-insert-clause-wanted
 returns-in_err-insert-clause-wanted c =
     let origin = origin_of c.args.session c.args.initiator in
     let unknown = remembered_is origin c.self.inside.memories.entries _ _ c.contains_key.ensures c.if-contains_key.false in
-    rw (← c.self.view_is) (OnErr_anyhow c.from_residual-in_err-insert.result (is_new (seen c.self.inside) origin unknown (omega (arith, c.len.ensures.len))))
+    rw (← c.self.view_is) (on_err c.from_residual-in_err-insert.result (is_new (seen c.self.inside) origin unknown (omega (arith, c.len.ensures.len))))
 
 -- a new one
 

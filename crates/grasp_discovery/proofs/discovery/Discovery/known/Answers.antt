@@ -1,8 +1,8 @@
 use Rattle.std.proofs.Common.{Some, None, IsSome, Option, option_map, refl, sym, ap, ◌∙◌}
+use Rattle.grasp_cbor.proofs.Facts.Options.{on_err}
 use Rattle.grasp_discovery.specs.Discoveries.{least_left, live}
 use Rattle.grasp_discovery.specs.Topic.{topic_of}
 use Rattle.grasp_discovery.proofs.Cache.{under_found}
-use Rattle.grasp_discovery.proofs.Memories.{OnErr_anyhow}
 use Rattle.grasp_discovery.proofs.discovery.Discovery.known.Goals as goal
 
 pub returns-in_default-clause-known : goal.returns-in_default-clause-known
@@ -26,4 +26,4 @@ some_through f (Some x) some = refl
 pub returns-in_err-locators-clause-wanted : goal.returns-in_err-locators-clause-wanted
 returns-in_err-locators-clause-wanted c =
     rw (← c.self.view_is, under_found (topic_of c.args.name.now c.args.kind) c.self.inside.entries.entries (Some c.in-Some.cached.now) c.in-Some.ensures)
-    (OnErr_anyhow c.from_residual.result (some_through (λ locators. (locators, least_left c.args.now (live c.args.now c.in-Some.cached.now))) _ c.in_err-locators.ensures.wanted))
+    (on_err c.from_residual.result (some_through (λ locators. (locators, least_left c.args.now (live c.args.now c.in-Some.cached.now))) _ c.in_err-locators.ensures.wanted))

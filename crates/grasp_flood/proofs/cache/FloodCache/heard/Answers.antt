@@ -1,7 +1,8 @@
 use Rattle.std.proofs.Common.{◌<◌, length, sym, ◌∙◌, arith}
+use Rattle.grasp_cbor.proofs.Facts.Options.{on_err}
 use Rattle.grasp_types.specs.Origin.{origin_of}
 use Rattle.grasp_flood.specs.Floods.{Floods}
-use Rattle.grasp_flood.proofs.Entries.{insert_entry_new, remembered_is, is_known, is_new, has_no_place, OnErr_anyhow}
+use Rattle.grasp_flood.proofs.Entries.{insert_entry_new, remembered_is, is_known, is_new, has_no_place}
 use Rattle.grasp_flood.proofs.Soundness.{sound_known, sound_new}
 use Rattle.grasp_flood.specs.declared.cache.FloodCache.TheInside.{Inside}
 use Rattle.grasp_flood.proofs.cache.FloodCache.heard.Goals as goal
@@ -38,19 +39,19 @@ pub returns-in_err-told-clause-wanted : goal.returns-in_err-told-clause-wanted
 returns-in_err-told-clause-wanted c =
     let flood = origin_of c.args.session c.args.initiator in
     let unknown = remembered_is flood c.self.inside.memories.entries _ _ c.contains_key.ensures c.if-contains_key.false in
-    rw (← c.self.view_is) (OnErr_anyhow c.from_residual.result (is_new (seen c.self.inside) flood unknown (omega (arith, c.len.ensures.len))))
+    rw (← c.self.view_is) (on_err c.from_residual.result (is_new (seen c.self.inside) flood unknown (omega (arith, c.len.ensures.len))))
 
 pub returns-in_err-reserve-clause-wanted : goal.returns-in_err-reserve-clause-wanted
 returns-in_err-reserve-clause-wanted c =
     let flood = origin_of c.args.session c.args.initiator in
     let unknown = remembered_is flood c.self.inside.memories.entries _ _ c.contains_key.ensures c.if-contains_key.false in
-    rw (← c.self.view_is) (OnErr_anyhow c.from_residual-in_err-reserve.result (is_new (seen c.self.inside) flood unknown (omega (arith, c.len.ensures.len))))
+    rw (← c.self.view_is) (on_err c.from_residual-in_err-reserve.result (is_new (seen c.self.inside) flood unknown (omega (arith, c.len.ensures.len))))
 
 pub returns-in_err-insert-clause-wanted : goal.returns-in_err-insert-clause-wanted
 returns-in_err-insert-clause-wanted c =
     let flood = origin_of c.args.session c.args.initiator in
     let unknown = remembered_is flood c.self.inside.memories.entries _ _ c.contains_key.ensures c.if-contains_key.false in
-    rw (← c.self.view_is) (OnErr_anyhow c.from_residual-in_err-insert.result (is_new (seen c.self.inside) flood unknown (omega (arith, c.len.ensures.len))))
+    rw (← c.self.view_is) (on_err c.from_residual-in_err-insert.result (is_new (seen c.self.inside) flood unknown (omega (arith, c.len.ensures.len))))
 
 -- a new one
 

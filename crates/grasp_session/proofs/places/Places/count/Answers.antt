@@ -1,4 +1,4 @@
-use Rattle.std.proofs.Common.{rules, ◌≡◌, ℕ, ◌+◌, ◌<◌, ◌≤◌, Some, None, refl, sym, ap, ◌∙◌, subst, arith, slice_index_or, slice_set}
+use Rattle.std.proofs.Common.{sym, ap, ◌∙◌}
 use Rattle.grasp_session.proofs.Seats.{held_count}
 use Rattle.grasp_session.proofs.places.Places.count.Goals as goal
 

@@ -1,5 +1,5 @@
 use Rattle.std.proofs.Common.{rules, ◌≡◌, ◌∙◌, sym, Some, None, slice_get}
-use Rattle.grasp_network.specs.Talks.{with_delivered}
+use Rattle.grasp_model_network.specs.Streams.{with_delivered}
 use Rattle.grasp_simulator.proofs.StreamChanges.{got_at}
 use Rattle.grasp_simulator.proofs.StreamMoves.{delivered_here, changed_nowhere}
 use Rattle.grasp_simulator.specs.StreamParts.{stream_delivered}

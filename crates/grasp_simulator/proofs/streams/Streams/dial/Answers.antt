@@ -3,7 +3,7 @@ use Rattle.std.proofs.lemmas.List.{length-append}
 use Rattle.grasp_simulator.proofs.StreamDials.{dialled}
 use Rattle.grasp_simulator.specs.StreamParts.{first_stream}
 use Rattle.grasp_simulator.specs.StreamsStand.{end_here, key_of, same_near, dial_at, TableStands}
-use Rattle.grasp_network.specs.Talks.{StreamEnd, change_at_end, with_number}
+use Rattle.grasp_model_network.specs.Streams.{StreamEnd, change_at_end, with_number}
 use Rattle.grasp_simulator.specs.declared.stream.Stream.{Stream}
 use Rattle.grasp_simulator.proofs.streams.Streams.dial.Goals as goal
 

@@ -1,7 +1,6 @@
 use Rattle.std.proofs.Common.{rules, ◌≡◌, ◌≤◌, arith, ◌-◌, Some, length, slice_get}
 use Rattle.grasp_simulator.proofs.StreamChanges.{got_at}
 use Rattle.grasp_simulator.proofs.StreamOpens.{opened_here, is_kept}
-use Rattle.grasp_simulator.specs.StreamParts.{stream_opened}
 use Rattle.grasp_simulator.proofs.streams.Streams.open.Goals as goal
 
 -- no stream has the number 0
@@ -10,7 +9,7 @@ returns-then-k-eq0 c =
     let zero : c.args.k ≡ 0 = search rules in
     λ ts dials t found s. absurd (let least : 1 ≤ c.args.k = (is_kept c.args.self.now.list.items c.args.self.now.near.entries ts dials s c.args.k t found).0 in omega (arith, zero, least))
 
--- there are fewer
+-- there are fewer streams than the number of the one to be opened
 pub returns-in_default : goal.returns-in_default
 returns-in_default c =
     let past : length c.args.self.now.list.items ≤ c.args.k - 1 = search rules in

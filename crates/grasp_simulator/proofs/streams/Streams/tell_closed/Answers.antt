@@ -1,5 +1,5 @@
 use Rattle.std.proofs.Common.{rules, ◌≡◌, ◌∙◌, sym, Some, None, slice_get}
-use Rattle.grasp_network.specs.Talks.{told_closed, with_side}
+use Rattle.grasp_model_network.specs.Streams.{told_closed, with_side}
 use Rattle.grasp_simulator.proofs.StreamChanges.{got_at}
 use Rattle.grasp_simulator.proofs.StreamMoves.{told_here, changed_nowhere}
 use Rattle.grasp_simulator.specs.StreamParts.{stream_told}

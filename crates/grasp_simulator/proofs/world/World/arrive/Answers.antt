@@ -1,10 +1,10 @@
-use Rattle.std.proofs.Common.{rules, ◌∙◌, sym, subst, Bool}
+use Rattle.std.proofs.Common.{rules, ◌∙◌, sym, subst}
+use Rattle.grasp_cbor.proofs.Facts.Options.{on_err}
 use Rattle.grasp_simulator.specs.Arriving.{Opens}
 use Rattle.grasp_simulator.proofs.ArrivesGo.{arrival_starves, arrive_runs, no_arrival, unseated_arrival}
-use Rattle.grasp_simulator.proofs.Starving.{on_err}
 use Rattle.grasp_simulator.proofs.world.World.arrive.Goals as goal
 
--- it doesn't wait
+-- the stream doesn't wait to be opened at a node
 pub returns-in_default-clause-runs : goal.returns-in_default-clause-runs
 returns-in_default-clause-runs c = no_arrival c.args.self.now c.args.stream c.args.hold (sym c.waiting.ensures ∙ c.in_default.is)
 

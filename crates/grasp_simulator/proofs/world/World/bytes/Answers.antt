@@ -1,11 +1,11 @@
 use Rattle.std.proofs.Common.{◌∙◌, sym, subst}
 use Rattle.std.proofs.lemmas.Bool.{false≢true}
+use Rattle.grasp_cbor.proofs.Facts.Options.{on_err}
 use Rattle.grasp_cbor.specs.Bytes.{AllBytes}
 use Rattle.grasp_simulator.proofs.SidesGo.{no_bytes, unseated_bytes, bytes_run, bytes_starve}
-use Rattle.grasp_simulator.proofs.Starving.{on_err}
 use Rattle.grasp_simulator.proofs.world.World.bytes.Goals as goal
 
--- they reach no side
+-- the bytes reach no side of a stream
 pub returns-in_default-clause-runs : goal.returns-in_default-clause-runs
 returns-in_default-clause-runs c = no_bytes c.args.self.now c.args.stream c.args.far c.args.count c.args.hold (sym c.side.ensures ∙ c.in_default.is)
 

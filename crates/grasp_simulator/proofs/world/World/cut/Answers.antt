@@ -1,14 +1,14 @@
 use Rattle.std.proofs.Common.{◌∙◌, sym}
 use Rattle.std.proofs.lemmas.Bool.{false≢true}
+use Rattle.grasp_cbor.proofs.Facts.Options.{on_err}
 use Rattle.grasp_simulator.proofs.SidesGo.{no_cut, unseated_cut, cut_runs, cut_starves}
-use Rattle.grasp_simulator.proofs.Starving.{on_err}
 use Rattle.grasp_simulator.proofs.world.World.cut.Goals as goal
 
--- it reaches no side
+-- the cut reaches no side of a stream
 pub returns-in_default-clause-runs : goal.returns-in_default-clause-runs
 returns-in_default-clause-runs c = no_cut c.args.self.now c.args.stream c.args.far c.args.hold (sym c.side.ensures ∙ c.in_default.is)
 
--- its node isn't there
+-- the node of the side that is cut isn't there
 pub returns-then-not-has-clause-runs : goal.returns-then-not-has-clause-runs
 returns-then-not-has-clause-runs c =
     unseated_cut c.streams_are_ready.ensures c.args.self.now c.args.stream c.args.far c.args.hold c.in-Some.end (sym c.side.ensures ∙ c.in-Some.is)

@@ -1,11 +1,11 @@
 use Rattle.std.proofs.Common.{rules, ◌≡◌, refl, sym, ◌∙◌, length, None}
-use Rattle.grasp_network.specs.Plans.{IsNode}
-use Rattle.grasp_network.specs.Setting.{numbered}
+use Rattle.grasp_cbor.proofs.Facts.Options.{on_err}
+use Rattle.grasp_model_network.specs.Plans.{IsNode}
+use Rattle.grasp_model_network.specs.Setting.{numbered}
 use Rattle.grasp_simulator.proofs.DatagramsGo.{datagram_runs, datagram_starves, no_datagram, unseated_datagram}
-use Rattle.grasp_simulator.proofs.Starving.{on_err}
 use Rattle.grasp_simulator.proofs.world.World.datagram.Goals as goal
 
--- it wasn't sent
+-- the datagram wasn't sent
 pub returns-in_default-clause-runs : goal.returns-in_default-clause-runs
 returns-in_default-clause-runs c =
     let got : numbered c.args.self.now.parcels c.args.index ≡ None = search rules in

@@ -1,6 +1,6 @@
 use Rattle.std.proofs.Common.{rules, refl}
-use Rattle.grasp_network.specs.Runs.{first_world}
-use Rattle.grasp_network.specs.Setting.{script_setting}
+use Rattle.grasp_model_network.specs.Runs.{first_world}
+use Rattle.grasp_model_network.specs.Setting.{script_setting}
 use Rattle.grasp_simulator.proofs.FirstWorlds.{first_lives, first_count, first_reached}
 use Rattle.grasp_simulator.proofs.world.World.open.Goals as goal
 

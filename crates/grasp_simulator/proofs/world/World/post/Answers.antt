@@ -1,4 +1,4 @@
-use Rattle.std.proofs.Common.{◌≡◌, ◌∙◌, sym, ap, subst, ℕ, ◌+◌, min, List, Option, Some, None}
+use Rattle.std.proofs.Common.{sym, ap, subst, ℕ, ◌+◌, min, List, Some, None}
 use Rattle.grasp_simulator.proofs.PostGoes.{posts_nothing, posts_along}
 use Rattle.grasp_simulator.specs.Sends.{IsWay, Posts}
 use Rattle.grasp_simulator.specs.WorldStands.{most_count}
@@ -6,7 +6,7 @@ use Rattle.grasp_simulator.specs.declared.parcel.Parcel.{Parcel}
 use Rattle.grasp_simulator.specs.declared.world.World.{World}
 use Rattle.grasp_simulator.proofs.world.World.post.Goals as goal
 
--- there is no way
+-- there is no way for the datagram
 pub returns-in_default-clause-posts : goal.returns-in_default-clause-posts
 returns-in_default-clause-posts c =
     let self = c.args.self.now in

@@ -1,7 +1,8 @@
 use Rattle.std.proofs.Common.{◌≡◌, ◌∙◌, sym, ap, subst, arith, tests, ℕ, ◌+◌, ◌<◌, false, length, min, nat_le}
+use Rattle.std.proofs.lemmas.Result.{on_ok_weaker}
 use Rattle.grasp_types.specs.declared.address.Locator.{Locator}
 use Rattle.grasp_types.specs.declared.traffic.Output.TheVariants as output
-use Rattle.grasp_simulator.proofs.Puts.{on_ok, puts_datagram, puts_dial, puts_send, puts_close}
+use Rattle.grasp_simulator.proofs.Puts.{puts_datagram, puts_dial, puts_send, puts_close}
 use Rattle.grasp_simulator.specs.Sends.{Puts}
 use Rattle.grasp_simulator.specs.StreamsStand.{most_streams}
 use Rattle.grasp_simulator.specs.WorldStands.{most_count}
@@ -10,7 +11,7 @@ use Rattle.grasp_simulator.proofs.world.World.put.Goals as goal
 
 pub returns-in-Datagram-clause-puts : goal.returns-in-Datagram-clause-puts
 returns-in-Datagram-clause-puts c =
-    on_ok c.post.result (λ posts. puts_datagram c.args.self.now c.post.new.self c.args.node c.in-Datagram.link c.in-Datagram.to c.in-Datagram.bytes c.args.output.now c.in-Datagram.is posts) c.post.ensures.posts
+    on_ok_weaker c.post.result (λ posts. puts_datagram c.args.self.now c.post.new.self c.args.node c.in-Datagram.link c.in-Datagram.to c.in-Datagram.bytes c.args.output.now c.in-Datagram.is posts) c.post.ensures.posts
 
 has_room : (count : ℕ) → nat_le most_streams count ≡ false → count < most_streams
 has_room count few = grind (arith, tests)
@@ -20,7 +21,7 @@ dial-requires c = has_room (length c.args.self.now.streams.list.items) (sym c.is
 
 pub returns-in_ok-copy-in-Dial-clause-puts : goal.returns-in_ok-copy-in-Dial-clause-puts
 returns-in_ok-copy-in-Dial-clause-puts c =
-    on_ok c.dial.result
+    on_ok_weaker c.dial.result
     (λ stands. puts_dial c.args.self.now c.dial.new.self c.args.node c.in-Dial.stream c.in_ok-copy-in-Dial.field-0 c.args.output.now (c.in-Dial.is ∙ ap (λ (to : Locator). output.Dial c.in-Dial.stream to) (sym c.in_ok-copy-in-Dial.ensures)) stands)
     c.dial.ensures.stands
 

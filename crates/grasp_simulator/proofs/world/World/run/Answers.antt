@@ -1,10 +1,11 @@
 use Rattle.std.proofs.Common.{sym, subst, IfOk, OnErr}
-use Rattle.grasp_network.specs.Events.{AreLengths}
-use Rattle.grasp_network.specs.declared.event.Event.{Event}
-use Rattle.grasp_network.specs.declared.event.Event.TheVariants as event
-use Rattle.grasp_network.specs.declared.report.Report.TheVariants as report
+use Rattle.grasp_cbor.proofs.Facts.Options.{on_err}
+use Rattle.grasp_model_network.specs.Events.{AreLengths}
+use Rattle.grasp_model_network.specs.declared.event.Event.{Event}
+use Rattle.grasp_model_network.specs.declared.event.Event.TheVariants as event
+use Rattle.grasp_model_network.specs.declared.report.Report.TheVariants as report
 use Rattle.grasp_simulator.proofs.DrainGoes.{drain_runs}
-use Rattle.grasp_simulator.proofs.Starving.{on_err, agent_starves, call_starves, drain_starves}
+use Rattle.grasp_simulator.proofs.Starving.{agent_starves, call_starves, drain_starves}
 use Rattle.grasp_simulator.proofs.Stops.{asked_node, asked_of}
 use Rattle.grasp_simulator.specs.WorldSteps.{IsAsked, Runs, MayStarve}
 use Rattle.grasp_simulator.proofs.world.World.run.Goals as goal

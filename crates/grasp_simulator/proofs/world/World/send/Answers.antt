@@ -1,4 +1,4 @@
-use Rattle.std.proofs.Common.{◌≡◌, subst, List}
+use Rattle.std.proofs.Common.{subst, List}
 use Rattle.std.specs.Vec.{with_item}
 use Rattle.grasp_types.specs.declared.traffic.Output.{Output}
 use Rattle.grasp_simulator.proofs.SendGoes.{send_goes}

@@ -1,11 +1,11 @@
 use Rattle.std.proofs.Common.{sym, ap, ◌∙◌, subst, length, Err}
-use Rattle.grasp_network.specs.declared.report.WorldStop.{WorldStop}
+use Rattle.grasp_model_network.specs.declared.report.WorldStop.{WorldStop}
 use Rattle.grasp_simulator.proofs.Stops.{stays_stopped, stops, ends_so}
 use Rattle.grasp_simulator.specs.WorldSteps.{Stepped}
 use Rattle.grasp_simulator.specs.declared.world.World.{World}
 use Rattle.grasp_simulator.proofs.world.World.step.Goals as goal
 
--- it was stopped
+-- the network was stopped before the event
 pub returns-in-Some : goal.returns-in-Some
 returns-in-Some c = stays_stopped c.args.self.now c.in-Some.stop c.args.event c.in-Some.is
 

@@ -1,5 +1,0 @@
-use Rattle.grasp_agent.proofs.LawGains.{gains_accepted}
-use Rattle.grasp_agent.proofs.laws.gains_are_accepted.Goals as goal
-
-pub returns : goal.returns
-returns c = gains_accepted

@@ -1,0 +1,5 @@
+-- Small facts that several crates use, by what they are about.
+pub mod Bools
+pub mod Lists
+pub mod Numbers
+pub mod Options

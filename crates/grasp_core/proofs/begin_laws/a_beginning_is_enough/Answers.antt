@@ -1,8 +1,0 @@
-use Rattle.grasp_core.proofs.Beginning.{twice, drain_of_nothing}
-use Rattle.grasp_core.proofs.begin_laws.a_beginning_is_enough.Goals as goal
-
-pub returns-clause-once : goal.returns-clause-once
-returns-clause-once c = twice
-
-pub returns-clause-drained : goal.returns-clause-drained
-returns-clause-drained c = drain_of_nothing

@@ -1,5 +1,0 @@
-use Rattle.grasp_core.proofs.DrainedAll.{close_once}
-use Rattle.grasp_core.proofs.drain_laws.drains_close_once.Goals as goal
-
-pub returns : goal.returns
-returns c = close_once

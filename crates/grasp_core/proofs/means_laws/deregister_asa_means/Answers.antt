@@ -1,5 +1,0 @@
-use Rattle.grasp_core.proofs.MeaningRegistry.{deregister_asa_means_lem}
-use Rattle.grasp_core.proofs.means_laws.deregister_asa_means.Goals as goal
-
-pub returns : goal.returns
-returns c = deregister_asa_means_lem

@@ -1,5 +1,0 @@
-use Rattle.grasp_core.proofs.MeaningRegistry.{stop_listen_means_lem}
-use Rattle.grasp_core.proofs.means_laws.stop_listen_means.Goals as goal
-
-pub returns : goal.returns
-returns c = stop_listen_means_lem

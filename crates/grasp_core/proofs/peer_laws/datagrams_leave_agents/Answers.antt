@@ -1,5 +1,0 @@
-use Rattle.grasp_core.proofs.DatagramsAlone.{datagrams_leave}
-use Rattle.grasp_core.proofs.peer_laws.datagrams_leave_agents.Goals as goal
-
-pub returns : goal.returns
-returns c = datagrams_leave

@@ -1,9 +1,0 @@
-use Rattle.grasp_daemon.specs.Crew.{crew_with}
-use Rattle.grasp_daemon.proofs.Opened.{seats_begin}
-use Rattle.grasp_daemon.proofs.daemon.Daemon.open.Goals as goal
-
-pub returns : goal.returns
-returns c = record {
-  core = c.in_ok-core.ensures;
-  seats = seats_begin (crew_with c.args.roots.now c.args.wants c.args.beacons.now c.args.readers.now) c.in_ok-seats.seats.items c.in_ok-seats.ensures;
-}

@@ -1,8 +1,0 @@
-use Rattle.std.proofs.Common.{◌≡◌, ◌++◌, map, take}
-use Rattle.grasp_daemon.specs.Crew.{beacons_from}
-use Rattle.grasp_daemon.specs.Seats.{first_seat}
-use Rattle.grasp_daemon.proofs.opening.add_beacons.Given as goal
-
--- the beacons so far were added
-abbrev pub invariant-loop-place : goal.invariant-loop-place
-invariant-loop-place l = l.seats.items ≡ l.initial.seats.items ++ map first_seat (beacons_from 1 (take l.place l.beacons))

@@ -1,6 +1,0 @@
-use Rattle.std.proofs.Common.{◌≡◌, ◌++◌, string_bytes}
-use Rattle.grasp_generator.specs.Generator.{lines_text, agent_lines}
-use Rattle.grasp_generator.proofs.rounds.push_agents.Given as goal
-
-abbrev pub invariant-loop-time : goal.invariant-loop-time
-invariant-loop-time l = string_bytes l.out ≡ string_bytes l.initial.out ++ lines_text (agent_lines l._time l.node)

@@ -1,8 +1,0 @@
-//! What is so of the scripts that are drawn from numbers. It says nothing at run time.
-
-ghost use Rattle.grasp_generator_laws.specs.Generated.{DrawnTextsAreScripts};
-
-/// Whatever the number is, the text that is drawn from it is a script of 16 nodes and 20,000 lines.
-pub fn drawn_texts_are_scripts()
-    ensures { DrawnTextsAreScripts }
-{}

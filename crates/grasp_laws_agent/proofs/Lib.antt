@@ -1,0 +1,13 @@
+pub mod Facts
+pub mod LawCursors
+pub mod LawDuties
+pub mod LawEffects
+pub mod LawGains
+pub mod LawGiver
+pub mod LawKept
+pub mod LawMoves
+pub mod LawOffers
+pub mod LawReaders
+pub mod LawRequester
+pub mod LawSending
+pub mod LawStays

@@ -1,0 +1,10 @@
+//! Laws of the agents of a node: what they decide, offer and keep (RFC 8992). No code runs here.
+#![tactic(auto)]
+
+mod laws;
+
+pub use laws::{
+    agent_moves, agents_are_kept, cursors_turn, gains_are_accepted, givers_decide, givers_offer,
+    offers_stay_listed, openings_go_on, readers_agree, requesters_decide, values_are_read,
+    values_are_values,
+};

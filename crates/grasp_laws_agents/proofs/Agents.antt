@@ -1,0 +1,186 @@
+-- What each agent of prefixes of a network offers stands as it is to, and what its next call makes of that.
+use Rattle.std.proofs.Common.{◌≡◌, refl, sym, ap, ◌∙◌, subst, arith, ℕ, ◌-◌, ◌==◌, nat_lt, Bool, true, false, cond, List, [], Contains, map, slice_get, Option, None, Some, option_map, Ok, Err, Result}
+use Rattle.std.proofs.lemmas.Option.{none-some, slice_get-map}
+use Rattle.grasp_laws_agent.proofs.LawKept.{kept_reply, new_kept}
+use Rattle.grasp_agent.specs.Calls.{next_call, agent_name, objective_name}
+use Rattle.grasp_agent.specs.Kept.{IsKept}
+use Rattle.grasp_agent.specs.Replies.{after_reply, want_reply, after_want, new_want}
+use Rattle.grasp_agent.specs.States.{AgentState, want_session}
+use Rattle.grasp_agent.specs.declared.giving.Giving.{Giving}
+use Rattle.grasp_agent.specs.declared.want.Want.{Want}
+use Rattle.grasp_agent.specs.declared.want.WantFault.{WantFault}
+use Rattle.grasp_agent.specs.declared.want.WantFault.TheVariants as fault
+use Rattle.grasp_laws_node.proofs.Beginning.{drain_of_nothing}
+use Rattle.grasp_laws_node.proofs.Bounded.Nodes.{nodes_kept, begin_kept}
+use Rattle.grasp_model_node.specs.Begin.{begin, expired}
+use Rattle.grasp_model_node.specs.Draining.{drained, after_drain}
+use Rattle.grasp_model_node.specs.Moves.{with_reading, with_registrations, with_sessions, with_discoveries, with_floods, begin_closing}
+use Rattle.grasp_model_node.specs.Node.{NodeState}
+use Rattle.grasp_model_node.specs.BoundedNodes.{IsBoundedNode}
+use Rattle.grasp_model_node.specs.Step.{Coming, NodeStep, Calls}
+use Rattle.grasp_laws_node.specs.Consistent.{IsConsistent, TiesAreKept}
+use Rattle.grasp_laws_network.proofs.EachNode.{first_is}
+use Rattle.grasp_model_network.proofs.Facts.{first_reached}
+use Rattle.grasp_model_network.specs.EventSteps.{agent_input}
+use Rattle.grasp_model_network.specs.Events.{AreLengths}
+use Rattle.grasp_model_network.specs.Runs.{IsReached, answered_seat, first_seat, first_world}
+use Rattle.grasp_model_network.specs.Setting.{Member, Setting, numbered}
+use Rattle.grasp_model_network.specs.World.{Seat, WorldState, seat_at}
+use Rattle.grasp_pool.specs.Pools.{room_of}
+use Rattle.grasp_laws_session.proofs.Runs.{none_live}
+use Rattle.grasp_session.proofs.Tables.{state_slot}
+use Rattle.grasp_session.specs.Sessions.{SessionState, Sessions, no_sessions, session_at}
+use Rattle.grasp_types.specs.declared.address.Locator.{Locator}
+use Rattle.grasp_types.specs.declared.reply.Reply.{Reply}
+use Rattle.grasp_types.specs.declared.reply.Reply.TheVariants as reply
+use Rattle.grasp_types.specs.declared.session.Handle.{Handle}
+use Rattle.grasp_types.specs.declared.traffic.Input.TheVariants as input
+use Rattle.grasp_laws_agents.proofs.EachSeat.{Keeps, reached_members}
+use Rattle.grasp_laws_agents.proofs.Owning.{others_same}
+use Rattle.grasp_laws_agents.proofs.Serving.{IsServed, serving_kept, first_serves}
+use Rattle.grasp_laws_agents.specs.GoingOn.{OwnGoOn}
+use Rattle.grasp_laws_agents.specs.Laws.{AgentsAreKept}
+use Rattle.grasp_laws_agents.specs.Serving.{OfEachSeat}
+use Rattle.grasp_laws_agents.proofs.Begun.{moves_before}
+use Rattle.grasp_laws_agents.proofs.Calling.{called}
+use Rattle.grasp_laws_agents.proofs.Going.{gives_on}
+use Rattle.grasp_laws_agents.proofs.Standing.{Moved}
+use Rattle.grasp_laws_agents.specs.Calls.{CallsMean}
+use Rattle.grasp_laws_agents.specs.Giving.{Gives}
+use Rattle.grasp_laws_agents.specs.OfferLaws.{AgentMoves, AgentsGive, AgentsMove}
+
+-- ---- what is so of a node and its agent
+
+pub record IsGiving (n : NodeState) (a : AgentState) : Type 0 where
+  pub served : IsServed n a
+  pub tied : IsConsistent n
+  pub kept : IsKept a
+  pub gives : Gives n a
+
+-- ---- a new want
+
+wants_kept : (a : AgentState) (o : Option Want) (wanted longest : ℕ) (peer : Locator) → AreLengths wanted longest → IsKept (record a { want = o })
+    → IsKept (after_want (record a { want = o }) wanted longest peer (want_reply (record a { want = o })))
+wants_kept a (Some w) wanted longest peer are k = k
+wants_kept a None wanted longest peer are k = by_room (nat_lt 0 (room_of a.pool)) where
+  by_room : (b : Bool) → IsKept (after_want (record a { want = None }) wanted longest peer (cond b (Ok tt) (Err fault.Full)))
+  by_room true = new_kept a (new_want wanted longest peer) refl (are.least, are.rising, are.most) k
+  by_room false = k
+
+wants_given : (n : NodeState) (a : AgentState) (wanted longest : ℕ) (peer : Locator) (r : Result (Unit {0}) WantFault) → Gives n a → Gives n (after_want a wanted longest peer r)
+wants_given n a wanted longest peer (Ok done) k = record {
+  want = λ h e. none h e;
+  entries = λ place g at. let s = k.entries place g at in record { session = s.session; own = s.own; offer = s.offer };
+  apart = k.apart;
+  live = k.live;
+  gone = k.gone;
+} where
+  none : {A : Type 0} (h : Handle) → None ≡ Some h → A
+  none h e = absurd (cc)
+wants_given n a wanted longest peer (Err refused) k = k
+
+-- ---- a step
+
+pub begin_tied : TiesAreKept → (n : NodeState) (now : ℕ) (x : Coming) → IsBoundedNode n → IsConsistent n → IsConsistent (begin n now)
+begin_tied ties n now x k t =
+    subst IsConsistent (drain_of_nothing n now)
+    (ties.1 n (after_drain (begin n now) 0) now (input.Drain 0) x (reply.Outputs (drained (begin n now) 0)) k t (record { is_coming = tt; acts = (refl, refl) }))
+
+module _ (ties : TiesAreKept) (means : CallsMean) (begins : (n : NodeState) (now : ℕ) → OwnGoOn n.sessions (begin n now).sessions) where
+  -- the agent's own call
+  own_moved : (n after : NodeState) (a : AgentState) (now : ℕ) (x : Coming) (r : Reply) → IsGiving n a → NodeStep n now (agent_input a) x r after → Moved (begin n now) after a (after_reply a r)
+  own_moved n after a now x r k step =
+      called means (begin n now) after a (begin_kept n now k.served.sound) (begin_tied ties n now x k.served.sound k.tied).fresh k.kept k.served.stage
+      (gives_on n (begin n now) a (begins n now) k.gives) r (subst (λ asa. Calls (begin n now) asa (next_call a) r after) k.served.number step.acts)
+
+  own_gives : (n after : NodeState) (a : AgentState) (now : ℕ) (x : Coming) (r : Reply) → IsGiving n a → NodeStep n now (agent_input a) x r after → IsGiving after (after_reply a r)
+  own_gives n after a now x r k step = record {
+    served = serving_kept.own n after a now x r k.served step;
+    tied = ties.1 n after now (agent_input a) x r k.served.sound k.tied step;
+    kept = kept_reply a r k.kept;
+    gives = (own_moved n after a now x r k step).gives;
+  }
+
+  pub own_moves : (n after : NodeState) (a : AgentState) (now : ℕ) (x : Coming) (r : Reply) → IsGiving n a → NodeStep n now (agent_input a) x r after → AgentMoves n after a (after_reply a r)
+  own_moves n after a now x r k step = moves_before n after now a (after_reply a r) k.served.sound (begins n now) (own_moved n after a now x r k step).moves
+
+  giving_kept : Keeps IsGiving
+  giving_kept = record {
+    others = λ n after a now i x r k o step. record {
+      served = serving_kept.others n after a now i x r k.served o step;
+      tied = ties.1 n after now i x r k.served.sound k.tied step;
+      kept = k.kept;
+      gives = gives_on n after a (others_same n after a now i x r k.served o step).goes_on k.gives;
+    };
+    own = own_gives;
+    wants = λ n a wanted longest peer are k. record {
+      served = serving_kept.wants n a wanted longest peer are k.served;
+      tied = k.tied;
+      kept = wants_kept a a.want wanted longest peer are k.kept;
+      gives = wants_given n a wanted longest peer (want_reply a) k.gives;
+    };
+  }
+
+-- ---- the beginning
+
+record IsEmptySeat (s : Seat) : Type 0 where
+  sessions : s.core.sessions ≡ no_sessions
+  want : s.agent.want ≡ None
+  giving : s.agent.giving ≡ []
+
+first_empty : (m : Member) → IsEmptySeat (first_seat m)
+unfolding answered_seat first_seat next_call agent_name objective_name after_reply begin expired with_reading with_registrations with_sessions with_discoveries with_floods begin_closing
+first_empty m = record { sessions = refl; want = refl; giving = refl }
+
+empty_gives : (n : NodeState) (a : AgentState) → n.sessions ≡ no_sessions → a.want ≡ None → a.giving ≡ [] → Gives n a
+empty_gives n a z w g = record {
+  want = λ h e. no_want h (sym (ap want_session w) ∙ e);
+  entries = λ place f at. nothing f (sym (ap (λ (l : List Giving). slice_get l place) g) ∙ at);
+  apart = λ i j f h at there same. nothing f (sym (ap (λ (l : List Giving). slice_get l i) g) ∙ at);
+  live = λ h x p own pending. absurd (none_live 64 h.place x (state_slot no_sessions h x (subst (λ (y : Sessions). session_at y h ≡ Some x) z own.at)));
+  gone = λ x p has owner role pending. nobody x (subst (λ (y : Sessions). Contains y.gone x) z has);
+} where
+  no_want : {A : Type 0} (h : Handle) → None ≡ Some h → A
+  no_want h e = absurd (cc)
+
+  nothing : {A : Type 0} (f : Giving) → None ≡ Some f → A
+  nothing f e = absurd (cc)
+
+  nobody : {A : Type 0} (x : SessionState) → Contains {X = SessionState} [] x → A
+  nobody x (i, below, is) = absurd (omega (arith, below))
+
+first_gives : (m : Member) → Gives (first_seat m).core (first_seat m).agent
+first_gives m = let e = first_empty m in empty_gives (first_seat m).core (first_seat m).agent e.sessions e.want e.giving
+
+first_tied : TiesAreKept → (m : Member) → IsConsistent (first_seat m).core
+first_tied ties m =
+    (first_is (λ k n. IsBoundedNode n × IsConsistent n) 1 m (λ k n after now i x r p step. (nodes_kept.1 n after now i x r p.0 step, ties.1 n after now i x r p.0 p.1 step))
+    (nodes_kept.0 m.plan, ties.0 m.plan)).1
+
+first_stands : (s : Setting) (k : ℕ) (m : Member) → numbered s.members k ≡ Some m → seat_at (first_world s) k ≡ Some (first_seat m)
+unfolding first_world
+first_stands s k m e = by_zero (k == 0) e where
+  by_zero : (b : Bool) → cond b None (slice_get s.members (k - 1)) ≡ Some m → cond b None (slice_get (map first_seat s.members) (k - 1)) ≡ Some (first_seat m)
+  by_zero true f = absurd (none-some m f)
+  by_zero false f = slice_get-map first_seat s.members (k - 1) ∙ ap (λ o. option_map first_seat o) f
+
+-- ---- networks
+
+module _ (ties : TiesAreKept) (means : CallsMean) (begins : (n : NodeState) (now : ℕ) → OwnGoOn n.sessions (begin n now).sessions)
+    (are_kept : AgentsAreKept) where
+  reached_giving : (s : Setting) (w : WorldState) → IsReached s w → OfEachSeat IsGiving w
+  reached_giving s w r =
+      reached_members IsGiving (giving_kept ties means begins) s
+      (λ k m e. record {
+        served = first_serves m;
+        tied = first_tied ties m;
+        kept = are_kept s (first_world s) (first_reached s r.good) k (first_seat m) (first_stands s k m e);
+        gives = first_gives m;
+      })
+      w r
+
+  pub agents_give : AgentsGive
+  agents_give s w r node seat here = (reached_giving s w r node seat here).gives
+
+  pub agents_move : AgentsMove
+  agents_move s w r node seat here now x q after step = own_moves ties means begins seat.core after seat.agent now x q (reached_giving s w r node seat here) step

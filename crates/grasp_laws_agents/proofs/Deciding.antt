@@ -1,0 +1,76 @@
+-- What the agent's decisions make of its act, its entry and its pool.
+use Rattle.std.proofs.Common.{◌≡◌, refl, ap, ◌∙◌, ℕ, ◌&&◌, nat_le, nat_lt, Bool, true, false, Option, None, Some}
+use Rattle.grasp_agent.proofs.KeepDecisions.{GivenBy, give_given}
+use Rattle.grasp_agent.specs.Decisions.{after_deciding, candidates, first_given, giver_decision, requester_decision}
+use Rattle.grasp_agent.specs.Replies.{deciding, give_act, want_act}
+use Rattle.grasp_agent.specs.Values.{asked_in, offered_in}
+use Rattle.grasp_agent.specs.declared.act.Act.{Act}
+use Rattle.grasp_agent.specs.declared.act.Act.TheVariants as act
+use Rattle.grasp_agent.specs.declared.decision.Reason.{Reason}
+use Rattle.grasp_agent.specs.declared.giving.Giving.{Giving}
+use Rattle.grasp_cbor.specs.DataItem.{DataItem}
+use Rattle.grasp_pool.specs.Functions.{can_gain}
+use Rattle.grasp_pool.specs.Holdings.{Holding, Reserves}
+use Rattle.grasp_pool.specs.Pools.{IsPool}
+use Rattle.grasp_session.specs.Transcript.{Transcript, peer_offer}
+use Rattle.grasp_types.specs.Prefix.{AddressBlock as Prefix}
+use Rattle.grasp_types.specs.declared.session.Handle.{Handle}
+use Rattle.grasp_laws_agents.specs.Giving.{AcceptStands, IsDeciding, is_offering}
+
+-- ---- as one that requests
+
+-- an act in the session of a want, on this value: it offers nothing, and accepts only what the value offers
+pub record Asks (h : Handle) (value : Option DataItem) (a : Act) : Type 0 where
+  pub offers : (place : ℕ) → is_offering (Some a) place ≡ false
+  pub accepts : (v : Transcript) → IsDeciding v → (peer_offer v).value ≡ value → AcceptStands (Some a) h v
+
+asks_nothing : (h : Handle) (value : Option DataItem) (reason : Reason) → Asks h value (act.Decline h reason)
+asks_nothing h value reason = record { offers = λ place. refl; accepts = λ v d s. tt }
+
+asks_again : (h : Handle) (value : Option DataItem) (n : ℕ) → Asks h value (act.Counter h n)
+asks_again h value n = record { offers = λ place. refl; accepts = λ v d s. tt }
+
+asks_accepting : (h : Handle) (value : Option DataItem) (p : Prefix) → offered_in value ≡ Some p → Asks h value (act.Accept h p)
+asks_accepting h value p e = record { offers = λ place. refl; accepts = λ v d s same. (d, ap offered_in s ∙ e) }
+
+pub asks : (pool : Holding) (wanted longest : ℕ) (value : Option DataItem) (loops : ℕ) (h : Handle) → Asks h value (want_act h (requester_decision pool wanted longest value loops))
+unfolding requester_decision
+asks pool wanted longest value loops h = by_prefix (offered_in value) refl where
+  by_tests : (p : Prefix) → offered_in value ≡ Some p → (b c d : Bool) → nat_lt longest p.length ≡ b → (nat_lt p.length wanted && nat_le 2 loops) ≡ c → can_gain pool p ≡ d
+      → Asks h value (want_act h (requester_decision pool wanted longest value loops))
+  by_tests p e true c d f i j = rw (e, f) (asks_nothing h value _)
+  by_tests p e false true d f i j = rw (e, f, i) (asks_again h value wanted)
+  by_tests p e false false true f i j = rw (e, f, i, j) (asks_accepting h value p e)
+  by_tests p e false false false f i j = rw (e, f, i, j) (asks_nothing h value _)
+
+  by_prefix : (o : Option Prefix) → offered_in value ≡ o → Asks h value (want_act h (requester_decision pool wanted longest value loops))
+  by_prefix None e = rw e (asks_nothing h value _)
+  by_prefix (Some p) e = by_tests p e (nat_lt longest p.length) (nat_lt p.length wanted && nat_le 2 loops) (can_gain pool p) refl refl refl
+
+-- ---- as a giver
+
+-- an act in the session of this entry, the entry then, and the pool: a prefix is offered and reserved, or none is
+pub data TurnsTo (place : ℕ) (g : Giving) (old : Holding) (a : Act) (f : Giving) (new : Holding) : Type 0 where
+  offers : (p : Prefix) → a ≡ act.Offer place g.handle p → f ≡ record { handle = g.handle; offer = Some p; first = false } → Reserves old new p → TurnsTo place g old a f new
+  declines : (reason : Reason) → a ≡ act.Decline g.handle reason → f ≡ record { handle = g.handle; offer = None; first = g.first } → new ≡ old → TurnsTo place g old a f new
+
+module _ (place : ℕ) (g : Giving) (pool : Holding) (value : Option DataItem) (loops : ℕ) (first : Bool) where
+  abbrev Decided : Type 0
+  Decided =
+      GivenBy pool (giver_decision pool value loops first)
+      → TurnsTo place g pool (give_act place g.handle (giver_decision pool value loops first)) (deciding g (giver_decision pool value loops first)) (after_deciding pool (giver_decision pool value loops first))
+
+  by_given : (n : ℕ) → asked_in value ≡ Some n → (b : Bool) → nat_le loops 1 ≡ b → (o : Option Prefix) → first_given pool (candidates n loops first) ≡ o → Decided
+  unfolding giver_decision
+  by_given n e true f o i = rw (e, f) (λ s. declines _ refl refl refl)
+  by_given n e false f None i = rw (e, f, i) (λ s. declines _ refl refl refl)
+  by_given n e false f (Some p) i = rw (e, f, i) (λ s. offers p refl refl s.reserves)
+
+  by_asked : (o : Option ℕ) → asked_in value ≡ o → Decided
+  unfolding giver_decision
+  by_asked None e = rw e (λ s. declines _ refl refl refl)
+  by_asked (Some n) e = by_given n e (nat_le loops 1) refl (first_given pool (candidates n loops first)) refl
+
+  pub decided : IsPool pool
+      → TurnsTo place g pool (give_act place g.handle (giver_decision pool value loops first)) (deciding g (giver_decision pool value loops first)) (after_deciding pool (giver_decision pool value loops first))
+  decided is = by_asked (asked_in value) refl (give_given pool value loops first is)

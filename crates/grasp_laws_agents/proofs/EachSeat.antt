@@ -1,0 +1,209 @@
+-- What each step of a node and its agent keeps is so of each node and agent of a network that events lead to.
+use Rattle.std.proofs.Common.{◌≡◌, ◌≢◌, refl, sym, ap, ◌∙◌, subst, arith, tests, ℕ, ◌-◌, ◌≤◌, ◌==◌, Bool, true, false, cond, map, slice_get, slice_set, take, Option, Some, None}
+use Rattle.std.proofs.lemmas.Option.{none-some, same_Some}
+use Rattle.grasp_agent.specs.Replies.{after_reply, want_reply, after_want}
+use Rattle.grasp_agent.specs.States.{AgentState}
+use Rattle.grasp_model_node.specs.Begin.{begin}
+use Rattle.grasp_model_node.specs.Draining.{closes, drained, after_drain}
+use Rattle.grasp_model_node.specs.Node.{NodeState}
+use Rattle.grasp_model_node.specs.Queue.{encoding}
+use Rattle.grasp_model_node.specs.Step.{Coming, NodeStep}
+use Rattle.grasp_session.specs.Messages.{other}
+use Rattle.grasp_types.specs.declared.address.Locator.{Locator}
+use Rattle.grasp_types.specs.declared.reply.Reply.{Reply}
+use Rattle.grasp_types.specs.declared.reply.Reply.TheVariants as reply
+use Rattle.grasp_types.specs.declared.traffic.Input.{Input}
+use Rattle.grasp_types.specs.declared.traffic.Input.TheVariants as input
+use Rattle.grasp_laws_network.proofs.EachNode.{put_is, IsMade, is_made}
+use Rattle.grasp_laws_network.proofs.Here.{visits_are_here}
+use Rattle.grasp_laws_network.proofs.Others.{put_elsewhere, arrived_keeps, delivered_keeps, told_keeps}
+use Rattle.grasp_laws_network.proofs.Reached.{reached_keeps}
+use Rattle.grasp_laws_network.proofs.Sent.{sending_keeps_nodes}
+use Rattle.grasp_model_network.specs.EventSteps.{after_agent_call, after_agent, agent_visit, agent_seat, agent_input, after_arrival, clock_seat, after_clock, wanted_by, wanted_at, after_wanting, cut_visit, cut_at, after_cut, datagram_visit, datagram_at, after_delivery, piece_visit, piece_at, after_piece}
+use Rattle.grasp_model_network.specs.StreamChanges.{arrived, told, Reached, reached_side, side_named, delivered}
+use Rattle.grasp_model_network.specs.Events.{visit_of, after_visit, after_none, after_by, after_event, drains, drained_behind, AreLengths, IsFit, Occurs}
+use Rattle.grasp_laws_network.specs.Keeping.{IsHere}
+use Rattle.grasp_model_network.specs.Notes.{noted}
+use Rattle.grasp_model_network.specs.Runs.{IsReached, first_seat, first_world}
+use Rattle.grasp_model_network.specs.Sending as network
+use Rattle.grasp_model_network.specs.Sending.{seat_with, stepped, drained_at, drained_from, event_drain}
+use Rattle.grasp_model_network.specs.Setting.{Member, Setting, numbered}
+use Rattle.grasp_model_network.specs.Streams.{next_bytes, stream_numbered}
+use Rattle.grasp_model_network.specs.Visits.{Visit, Choice, MayCome, no_choice}
+use Rattle.grasp_model_network.specs.World.{Seat, SentDatagram, WorldState, seat_at, with_seat}
+use Rattle.grasp_model_network.specs.declared.event.Event.{Event}
+use Rattle.grasp_model_network.specs.declared.event.Event.TheVariants as event
+use Rattle.grasp_laws_delivery.proofs.Inputs.{Arrives, arrives, visit_input}
+use Rattle.grasp_laws_agents.specs.Serving.{OfEachSeat}
+use Rattle.grasp_laws_agents.specs.Staying.{IsOthers}
+
+-- ---- inputs
+
+abbrev input_in : Visit → Input
+input_in v = v.input
+
+abbrev seat_in : Visit → Seat
+seat_in v = v.seat
+
+clock_others : (node millis : ℕ) (v : Visit) (o : Option Seat) → clock_seat node millis o ≡ Some v → IsOthers v.input
+clock_others node millis v None is = absurd (none-some v is)
+clock_others node millis v (Some seat) is = subst IsOthers (ap input_in (same_Some (record { node = node; seat = seat; now = millis; input = input.Drain 0 }) v is)) tt
+
+datagram_others : (w : WorldState) (v : Visit) (o : Option SentDatagram) → datagram_at w o ≡ Some v → IsOthers v.input
+datagram_others w v None is = absurd (none-some v is)
+datagram_others w v (Some d) is = subst IsOthers (visit_input d.route.receiver (input.Datagram d.route.link d.route.from (encoding d.message)) v (seat_at w d.route.receiver) is) tt
+
+piece_others : (w : WorldState) (far : Bool) (count : ℕ) (v : Visit) (o : Option Reached) → piece_at w (side_named far) count o ≡ Some v → IsOthers v.input
+piece_others w far count v None is = absurd (none-some v is)
+piece_others w far count v (Some x) is = subst IsOthers (visit_input x.at.node (input.Bytes x.at.number (next_bytes x.talk (other (side_named far)) count)) v (seat_at w x.at.node) is) tt
+
+cut_others : (w : WorldState) (v : Visit) (o : Option Reached) → cut_at w o ≡ Some v → IsOthers v.input
+cut_others w v None is = absurd (none-some v is)
+cut_others w v (Some x) is = subst IsOthers (visit_input x.at.node (input.Closed x.at.number) v (seat_at w x.at.node) is) tt
+
+-- the agent's own call, at its node
+own_call : (node : ℕ) (v : Visit) (o : Option Seat) → agent_seat node o ≡ Some v → agent_input v.seat.agent ≡ v.input
+own_call node v None is = absurd (none-some v is)
+own_call node v (Some seat) is =
+    let same : record { node = node; seat = seat; now = seat.core.reading; input = agent_input seat.agent } ≡ v = same_Some (record { node = node; seat = seat; now = seat.core.reading; input = agent_input seat.agent }) v is in
+    sym (ap (λ (x : Seat). agent_input x.agent) (ap seat_in same)) ∙ ap input_in same
+
+-- ---- what is kept
+
+-- each step of the node keeps it, where the input isn't a call of agent 1; so does each call of the agent, which takes the reply; and
+-- so does a want
+pub record Keeps (P : NodeState → AgentState → Type 0) : Type 0 where
+  pub others : (n after : NodeState) (a : AgentState) (now : ℕ) (i : Input) (x : Coming) (r : Reply) → P n a → IsOthers i → NodeStep n now i x r after → P after a
+  pub own : (n after : NodeState) (a : AgentState) (now : ℕ) (x : Coming) (r : Reply) → P n a → NodeStep n now (agent_input a) x r after → P after (after_reply a r)
+  pub wants : (n : NodeState) (a : AgentState) (wanted longest : ℕ) (peer : Locator) → AreLengths wanted longest → P n a → P n (after_want a wanted longest peer (want_reply a))
+
+-- ---- one node is put
+
+put_each : (P : NodeState → AgentState → Type 0) (w x : WorldState) (node : ℕ) (seat : Seat) → 1 ≤ node → x.seats ≡ slice_set w.seats (node - 1) seat → P seat.core seat.agent → OfEachSeat P w → OfEachSeat P x
+put_each P w x node seat least e p each n other found = by_node (n == node) refl where
+  at : numbered (slice_set w.seats (node - 1) seat) n ≡ Some other
+  at = subst (λ seats. numbered seats n ≡ Some other) e found
+
+  same : (a b : ℕ) → (a == b) ≡ true → a ≡ b
+  same a b is = grind (arith, tests)
+
+  differ : (a b : ℕ) → (a == b) ≡ false → a ≢ b
+  differ a b is = λ f. grind (arith, tests)
+
+  by_node : (z : Bool) → (n == node) ≡ z → P other.core other.agent
+  by_node true is = subst (λ (y : Seat). P y.core y.agent) (put_is w.seats node seat other least (subst (λ k. numbered (slice_set w.seats (node - 1) seat) k ≡ Some other) (same n node is) at)) p
+  by_node false is = each n other (sym (put_elsewhere w.seats node n seat least (differ n node is)) ∙ at)
+
+-- ---- a drain
+
+drain_steps : (n : NodeState) (max : ℕ) (x : Coming) → NodeStep n n.reading (input.Drain max) x (reply.Outputs (drained (begin n n.reading) max)) (after_drain (begin n n.reading) max)
+drain_steps n max x = record { is_coming = tt; acts = (refl, refl) }
+
+module _ (P : NodeState → AgentState → Type 0) (keep : Keeps P) (s : Setting) where
+  drained_by : (w : WorldState) (node max : ℕ) (o : Option Seat) → 1 ≤ node → seat_at w node ≡ o → OfEachSeat P w → OfEachSeat P (drained_at s w node max o)
+  drained_by w node max None least here each = each
+  drained_by w node max (Some seat) least here each =
+      from (begin seat.core seat.core.reading)
+      (keep.others seat.core (after_drain (begin seat.core seat.core.reading) max) seat.agent seat.core.reading (input.Drain max) no_choice.coming
+      (reply.Outputs (drained (begin seat.core seat.core.reading) max)) (each node seat here) tt (drain_steps seat.core max no_choice.coming))
+    where
+      from : (m : NodeState) → P (after_drain m max) seat.agent → OfEachSeat P (drained_from s w node seat m max)
+      from m p =
+          put_each P w (drained_from s w node seat m max) node (seat_with seat (after_drain m max) seat.agent) least
+          (sending_keeps_nodes s (with_seat w node (seat_with seat (after_drain m max) seat.agent)) node seat (take max m.queue) (closes m max)) p each
+
+  drained_each : (w : WorldState) (node max : ℕ) → 1 ≤ node → OfEachSeat P w → OfEachSeat P (network.drained s w node max)
+  unfolding network.drained
+  drained_each w node max least each = drained_by w node max (seat_at w node) least refl each
+
+  behind_each : (b : Bool) (w : WorldState) (node : ℕ) → 1 ≤ node → OfEachSeat P w → OfEachSeat P (drained_behind b s w node)
+  behind_each true w node least each = drained_each w node event_drain least each
+  behind_each false w node least each = each
+
+  -- ---- a step
+
+  stepped_each : (w x y : WorldState) (v : Visit) (core : NodeState) (agent : AgentState) → 1 ≤ v.node → x.seats ≡ w.seats → y.seats ≡ (stepped x v core agent).seats → P core agent → OfEachSeat P w
+      → OfEachSeat P y
+  unfolding stepped
+  stepped_each w x y v core agent least e f p each = put_each P w y v.node (seat_with v.seat core agent) least (f ∙ ap (λ seats. slice_set seats (v.node - 1) (seat_with v.seat core agent)) e) p each
+
+  visit_each : (w : WorldState) (e : Event) (v : Visit) (c : Choice) → visit_of s w e ≡ Some v → IsFit s w e → IsHere w v → NodeStep v.seat.core v.now v.input c.coming c.reply c.after → OfEachSeat P w
+      → OfEachSeat P (after_visit s w e v c)
+  unfolding after_clock after_agent after_agent_call after_delivery after_arrival after_piece after_cut noted agent_visit datagram_visit piece_visit cut_visit
+  visit_each w e v c is fit here step each = by_event e is fit where
+    own : P v.seat.core v.seat.agent
+    own = each v.node v.seat here.stands
+
+    stays : IsOthers v.input → P c.after v.seat.agent
+    stays o = keep.others v.seat.core c.after v.seat.agent v.now v.input c.coming c.reply own o step
+
+    by_event : (e : Event) → visit_of s w e ≡ Some v → IsFit s w e → OfEachSeat P (after_visit s w e v c)
+    by_event (event.Clock node millis) is fit = stepped_each w w (after_clock w v c) v c.after v.seat.agent here.member.least refl refl (stays (clock_others node millis v (seat_at w node) is)) each
+    by_event (event.Want node wanted longest peer) is fit = each
+    by_event (event.Agent node hold) is fit =
+        stepped_each w w (after_agent w v c) v c.after (after_reply v.seat.agent c.reply) here.member.least refl refl
+        (keep.own v.seat.core c.after v.seat.agent v.now c.coming c.reply own (subst (λ i. NodeStep v.seat.core v.now i c.coming c.reply c.after) (sym (own_call node v (seat_at w node) is)) step)) each
+    by_event (event.Api node asa call hold) is fit =
+        stepped_each w w (after_agent_call w v asa call c) v c.after v.seat.agent here.member.least refl refl (stays (subst IsOthers (visit_input node (input.Api asa call) v (seat_at w node) is) fit.1)) each
+    by_event (event.Datagram index hold) is fit =
+        stepped_each w w (after_delivery w v index c) v c.after v.seat.agent here.member.least refl refl (stays (datagram_others w v (numbered w.datagrams index) is)) each
+    by_event (event.Arrive stream hold) is fit =
+        let a : Arrives s w stream v = arrives s w stream hold v is in
+        stepped_each w (arrived w v (s.arrives_as v.node stream) c.reply (stream_numbered w.streams stream)) (after_arrival s w v stream c) v c.after v.seat.agent here.member.least
+        (arrived_keeps w v (s.arrives_as v.node stream) c.reply (stream_numbered w.streams stream)) refl (stays (subst IsOthers (sym a.input_is) tt)) each
+    by_event (event.Bytes stream far count hold) is fit =
+        stepped_each w (delivered w count (reached_side w stream (side_named far))) (after_piece w v stream (side_named far) count c) v c.after v.seat.agent here.member.least
+        (delivered_keeps w count (reached_side w stream (side_named far))) refl (stays (piece_others w far count v (reached_side w stream (side_named far)) is)) each
+    by_event (event.Cut stream far hold) is fit =
+        stepped_each w (told w (reached_side w stream (side_named far))) (after_cut w v stream (side_named far) c) v c.after v.seat.agent here.member.least
+        (told_keeps w (reached_side w stream (side_named far))) refl (stays (cut_others w v (reached_side w stream (side_named far)) is)) each
+    by_event (event.Drain node max) is fit = drained_each w v.node max here.member.least each
+
+  -- ---- a want
+
+  wanted_each : (w : WorldState) (node : ℕ) (seat : Seat) (wanted longest : ℕ) (peer : Option Locator) → 1 ≤ node → AreLengths wanted longest → seat_at w node ≡ Some seat → OfEachSeat P w
+      → OfEachSeat P (wanted_by w node seat wanted longest peer)
+  wanted_each w node seat wanted longest None least are here each = each
+  wanted_each w node seat wanted longest (Some peer) least are here each =
+      put_each P w (wanted_by w node seat wanted longest (Some peer)) node (seat_with seat seat.core (after_want seat.agent wanted longest peer (want_reply seat.agent))) least refl
+      (keep.wants seat.core seat.agent wanted longest peer are (each node seat here)) each
+
+  wanting_each : (w : WorldState) (node wanted longest peer : ℕ) (o : Option Seat) → 1 ≤ node → AreLengths wanted longest → seat_at w node ≡ o → OfEachSeat P w → OfEachSeat P (wanted_at s w node wanted longest peer o)
+  wanting_each w node wanted longest peer None least are here each = each
+  wanting_each w node wanted longest peer (Some seat) least are here each = wanted_each w node seat wanted longest (numbered s.peers peer) least are here each
+
+  none_each : (w : WorldState) (e : Event) → IsFit s w e → OfEachSeat P w → OfEachSeat P (after_none s w e)
+  unfolding after_wanting
+  none_each w (event.Want node wanted longest peer) fit each = wanting_each w node wanted longest peer (seat_at w node) fit.0.least fit.2 refl each
+  none_each w _ fit each = each
+
+  -- ---- an event
+
+  by_each : (w : WorldState) (e : Event) (c : Choice) (o : Option Visit) → visit_of s w e ≡ o → IsFit s w e → MayCome o c → OfEachSeat P w → OfEachSeat P (after_by s w e c o)
+  by_each w e c None is fit comes each = none_each w e fit each
+  by_each w e c (Some v) is fit comes each = at_node (visits_are_here s w e v is) where
+    at_node : IsHere w v → OfEachSeat P (after_by s w e c (Some v))
+    at_node here = behind_each (drains e) (after_visit s w e v c) v.node here.member.least (visit_each w e v c is fit here comes.steps each)
+
+  event_each : (w : WorldState) (e : Event) (c : Choice) → Occurs s w e c → OfEachSeat P w → OfEachSeat P (after_event s w e c)
+  unfolding after_event
+  event_each w e c occurs each = by_each w e c (visit_of s w e) refl occurs.fit occurs.comes each
+
+  -- ---- the beginning
+
+  -- P holds of each node and agent of the first network, where it holds of those of each member, whose agent has made its opening calls
+  first_each : ((k : ℕ) (m : Member) → numbered s.members k ≡ Some m → P (first_seat m).core (first_seat m).agent) → OfEachSeat P (first_world s)
+  unfolding first_world
+  first_each first node seat found = by_zero (node == 0) refl where
+    by_member : (node == 0) ≡ false → IsMade first_seat s.members (node - 1) seat → P seat.core seat.agent
+    by_member is m = subst (λ (y : Seat). P y.core y.agent) m.made (first node m.of (rw is m.stands))
+
+    by_zero : (b : Bool) → (node == 0) ≡ b → P seat.core seat.agent
+    by_zero true is = absurd (none-some seat (subst (λ z. cond z None (slice_get (map first_seat s.members) (node - 1)) ≡ Some seat) is found))
+    by_zero false is = by_member is (is_made first_seat s.members (node - 1) seat (subst (λ z. cond z None (slice_get (map first_seat s.members) (node - 1)) ≡ Some seat) is found))
+
+  pub reached_members : ((k : ℕ) (m : Member) → numbered s.members k ≡ Some m → P (first_seat m).core (first_seat m).agent) → (w : WorldState) → IsReached s w → OfEachSeat P w
+  reached_members first w r = reached_keeps s (OfEachSeat P) (first_each first) (λ x e c o h. event_each x e c o h) w r
+
+  pub reached_seats : ((m : Member) → P (first_seat m).core (first_seat m).agent) → (w : WorldState) → IsReached s w → OfEachSeat P w
+  reached_seats first w r = reached_members (λ k m e. first m) w r

@@ -1,0 +1,170 @@
+-- How the sessions of the agent of prefixes stand where one place is set, or nothing changes.
+use Rattle.std.proofs.Common.{◌≡◌, ◌≢◌, ◌⊎◌, refl, sym, ap, ◌∙◌, subst, arith, inl, inr, ℕ, false, List, Option, None, Some, Contains, slice_get, slice_set, slice_index_or}
+use Rattle.grasp_laws_agent.specs.Moves.{NothingMoves}
+use Rattle.grasp_agent.specs.States.{AgentState, want_session}
+use Rattle.grasp_agent.specs.declared.act.Act.{Act}
+use Rattle.grasp_agent.specs.declared.giving.Giving.{Giving}
+use Rattle.grasp_model_node.specs.Node.{NodeState}
+use Rattle.grasp_pool.specs.Holdings.{Holding, IsFree}
+use Rattle.grasp_laws_session.proofs.Runs.{some_state}
+use Rattle.grasp_session.proofs.Tables.{state_slot}
+use Rattle.grasp_session.specs.Messages.{Side, Near, Far}
+use Rattle.grasp_session.specs.Says.{IsAt}
+use Rattle.grasp_session.specs.Sessions.{SessionState, Sessions, session_at}
+use Rattle.grasp_types.specs.Prefix.{AddressBlock as Prefix}
+use Rattle.grasp_types.specs.declared.session.Handle.{Handle}
+use Rattle.grasp_laws_agents.proofs.Places.{one_there, set_other, set_back}
+use Rattle.grasp_laws_agents.specs.Giving.{IsOpenOffer, is_offering, OfferStands, IsOwnSession, EntryStands, AcceptStands, WantStands, Gives}
+use Rattle.grasp_laws_agents.specs.OfferLaws.{was_there, was_gone, AgentMoves}
+
+-- a call keeps what the agent gives, and this is what it makes of it
+pub record Moved (n after : NodeState) (a b : AgentState) : Type 0 where
+  pub gives : Gives after b
+  pub moves : AgentMoves n after a b
+
+-- ---- entries
+
+-- a session with this handle is that of an entry
+abbrev pub HasEntry : AgentState → Handle → Type 0
+HasEntry a h = (place : ℕ) × ((g : Giving) × (slice_get a.giving place ≡ Some g) × (g.handle ≡ h))
+
+-- where the entries stay
+module _ (a b : AgentState) (still : b.giving ≡ a.giving) where
+  pub same_entry : (place : ℕ) (g : Giving) → slice_get b.giving place ≡ Some g → slice_get a.giving place ≡ Some g
+  same_entry place g at = ap (λ (l : List Giving). slice_get l place) (sym still) ∙ at
+
+  pub same_has : (h : Handle) → HasEntry a h → HasEntry b h
+  same_has h r = (r.0, (r.1.0, ap (λ (l : List Giving). slice_get l r.0) still ∙ r.1.1, r.1.2))
+
+pub same_apart : (n : NodeState) (a b : AgentState) → b.giving ≡ a.giving → Gives n a → (i j : ℕ) (g h : Giving) → slice_get b.giving i ≡ Some g → slice_get b.giving j ≡ Some h → g.handle ≡ h.handle → i ≡ j
+same_apart n a b still k i j g h at there same = k.apart i j g h (same_entry a b still i g at) (same_entry a b still j h there) same
+
+-- an entry whose offer, where it has one, was made
+pub record PlainEntry (z : Sessions) (g : Giving) : Type 0 where
+  pub session : SessionState
+  pub own : IsOwnSession z g.handle Far session
+  pub offer : OfferStands false g.offer session.view
+
+pub plain : (z : Sessions) (a : AgentState) (place : ℕ) (g : Giving) → is_offering a.act place ≡ false → EntryStands z a place g → PlainEntry z g
+plain z a place g f s = record { session = s.session; own = s.own; offer = subst (λ b. OfferStands b g.offer s.session.view) f s.offer }
+
+pub stands : (z : Sessions) (a : AgentState) (place : ℕ) (g : Giving) → is_offering a.act place ≡ false → PlainEntry z g → EntryStands z a place g
+stands z a place g f s = record { session = s.session; own = s.own; offer = subst (λ b. OfferStands b g.offer s.session.view) (sym f) s.offer }
+
+pub idle_offers : (a : AgentState) (place : ℕ) → a.act ≡ None → is_offering a.act place ≡ false
+idle_offers a place e = ap (λ (o : Option Act). is_offering o place) e
+
+-- each entry of an agent that has no act
+pub idle_entry : (n : NodeState) (a : AgentState) (place : ℕ) (g : Giving) → Gives n a → a.act ≡ None → slice_get a.giving place ≡ Some g → PlainEntry n.sessions g
+idle_entry n a place g k e at = plain n.sessions a place g (idle_offers a place e) (k.entries place g at)
+
+-- ---- sessions
+
+pub same_own : (z : Sessions) (h : Handle) (side : Side) (x y : SessionState) → IsOwnSession z h side x → session_at z h ≡ Some y → x ≡ y
+same_own z h side x y o e = some_state x y (sym o.at ∙ e)
+
+-- the two sides of a node lie at different places
+pub sides_apart : (z : Sessions) (h k : Handle) (x y : SessionState) → IsOwnSession z h Near x → IsOwnSession z k Far y → k.place ≢ h.place
+sides_apart z h k x y o p e =
+    let same : x ≡ y = one_there z h.place x y (state_slot z h x o.at) (subst (λ q. IsAt z q y) e (state_slot z k y p.at)) in
+    let clash : Near ≡ Far = sym o.role ∙ (ap (λ (u : SessionState). u.view.role) same ∙ p.role) in
+    absurd (cc)
+
+-- so do its sessions and one that no agent has taken
+pub untaken_apart : (z : Sessions) (h k : Handle) (side : Side) (x y : SessionState) → IsAt z h.place x → x.owner ≡ 0 → IsOwnSession z k side y → k.place ≢ h.place
+untaken_apart z h k side x y at none p e =
+    let same : x ≡ y = one_there z h.place x y at (subst (λ q. IsAt z q y) e (state_slot z k y p.at)) in
+    let clash : 0 ≡ 1 = sym none ∙ (ap (λ (u : SessionState). u.owner) same ∙ p.owner) in
+    absurd (omega (arith, clash))
+
+-- no session of agent 1 is at an empty place
+pub empty_apart : (z : Sessions) (place : ℕ) (k : Handle) (side : Side) (y : SessionState) → slice_index_or z.places place None ≡ None → IsOwnSession z k side y → k.place ≢ place
+empty_apart z place k side y empty p e =
+    let clash : None ≡ Some y = sym empty ∙ subst (λ q. IsAt z q y) e (state_slot z k y p.at) in
+    absurd (cc)
+
+module _ (z w : Sessions) (p : ℕ) (v : Option SessionState) (set : w.places ≡ slice_set z.places p v) where
+  pub elsewhere : (k : Handle) (side : Side) (y : SessionState) → k.place ≢ p → IsOwnSession z k side y → IsOwnSession w k side y
+  elsewhere k side y n o = record { at = set_other z w p v set k n ∙ o.at; owner = o.owner; role = o.role }
+
+  pub own_was : (k : Handle) (side : Side) (y : SessionState) → IsOwnSession w k side y → ((k.place ≡ p) × (v ≡ Some y)) ⊎ ((k.place ≢ p) × IsOwnSession z k side y)
+  own_was k side y o = by_case (set_back z w p v set k y o.at) where
+    by_case : ((k.place ≡ p) × (v ≡ Some y)) ⊎ ((k.place ≢ p) × (session_at z k ≡ Some y)) → ((k.place ≡ p) × (v ≡ Some y)) ⊎ ((k.place ≢ p) × IsOwnSession z k side y)
+    by_case (inl i) = inl i
+    by_case (inr i) = inr (i.0, record { at = i.1; owner = o.owner; role = o.role })
+
+  pub plain_elsewhere : (g : Giving) (s : PlainEntry z g) → g.handle.place ≢ p → PlainEntry w g
+  plain_elsewhere g s n = record { session = s.session; own = elsewhere g.handle Far s.session n s.own; offer = s.offer }
+
+  -- a session that was live and still is lies on its stream
+  pub set_streams : ((x y : SessionState) → IsAt z p x → v ≡ Some y → y.stream ≡ x.stream) → (h : Handle) (x y : SessionState) → session_at z h ≡ Some x → session_at w h ≡ Some y → y.stream ≡ x.stream
+  set_streams f h x y e g = by_case (set_back z w p v set h y g) where
+    by_case : ((h.place ≡ p) × (v ≡ Some y)) ⊎ ((h.place ≢ p) × (session_at z h ≡ Some y)) → y.stream ≡ x.stream
+    by_case (inl i) = f x y (subst (λ q. IsAt z q x) i.0 (state_slot z h x e)) i.1
+    by_case (inr i) = ap (λ (u : SessionState). u.stream) (some_state y x (sym i.1 ∙ e))
+
+pub same_streams : (z w : Sessions) → w ≡ z → (h : Handle) (x y : SessionState) → session_at z h ≡ Some x → session_at w h ≡ Some y → y.stream ≡ x.stream
+same_streams z w same h x y e g = ap (λ (u : SessionState). u.stream) (some_state y x (sym (ap (λ (s : Sessions). session_at s h) (sym same) ∙ g) ∙ e))
+
+-- ---- where the agent changes nothing, and the node none of its sessions
+
+pub gives_again : (n m : NodeState) (a b : AgentState) → m.sessions ≡ n.sessions → NothingMoves a b → Gives n a → Gives m b
+gives_again n m a b z q k = record { want = want; entries = entries; apart = same_apart n a b q.giving k; live = live; gone = gone } where
+  want : (h : Handle) → want_session b.want ≡ Some h → WantStands m.sessions b h
+  want h e =
+      let s = k.want h (ap want_session (sym q.want.0) ∙ e) in
+      record {
+        session = s.session;
+        own = subst (λ (y : Sessions). IsOwnSession y h Near s.session) (sym z) s.own;
+        accept = subst (λ (o : Option Act). AcceptStands o h s.session.view) (sym q.act) s.accept;
+      }
+
+  entries : (place : ℕ) (g : Giving) → slice_get b.giving place ≡ Some g → EntryStands m.sessions b place g
+  entries place g at =
+      let s = k.entries place g (same_entry a b q.giving place g at) in
+      record {
+        session = s.session;
+        own = subst (λ (y : Sessions). IsOwnSession y g.handle Far s.session) (sym z) s.own;
+        offer = subst (λ (o : Option Act). OfferStands (is_offering o place) g.offer s.session.view) (sym q.act) s.offer;
+      }
+
+  live : (h : Handle) (x : SessionState) (p : Prefix) → IsOwnSession m.sessions h Far x → IsOpenOffer x.view p → HasEntry b h
+  live h x p own pending = same_has a b q.giving h (k.live h x p (subst (λ (y : Sessions). IsOwnSession y h Far x) z own) pending)
+
+  gone : (x : SessionState) (p : Prefix) → Contains m.sessions.gone x → x.owner ≡ 1 → x.view.role ≡ Far → IsOpenOffer x.view p → Contains b.pool.doubtful p
+  gone x p has owner role pending =
+      subst (λ (h : Holding). Contains h.doubtful p) (sym q.pool) (k.gone x p (subst (λ (y : Sessions). Contains y.gone x) z has) owner role pending)
+
+-- ---- where the pool stays, and so do offers
+
+-- no offer is new, and no session with an offer is no longer live
+pub record IsQuiet (n after : NodeState) (a b : AgentState) : Type 0 where
+  pub streams : (h : Handle) (x y : SessionState) → session_at n.sessions h ≡ Some x → session_at after.sessions h ≡ Some y → y.stream ≡ x.stream
+  pub pool : b.pool ≡ a.pool
+  pub entries : (place : ℕ) (g : Giving) (p : Prefix) → slice_get b.giving place ≡ Some g → g.offer ≡ Some p → (old : ℕ) × ((h : Giving) × (slice_get a.giving old ≡ Some h) × (h.handle ≡ g.handle) × (h.offer ≡ Some p))
+  pub left : (x : SessionState) → x.view.role ≡ Far → Contains after.sessions.gone x → Contains n.sessions.gone x
+
+pub quiet : (n after : NodeState) (a b : AgentState) → IsQuiet n after a b → AgentMoves n after a b
+quiet n after a b q = record {
+  streams = λ h x y at owner there. q.streams h x y at there;
+  freed = λ address f. inl (subst (λ (h : Holding). IsFree h address) q.pool f);
+  entries = λ place g p at offer. let e = q.entries place g p at offer in was_there e.0 e.1.0 e.1.1 e.1.2 e.1.3;
+  doubts = λ x p has owner role pending. was_gone (q.left x role has);
+  reserved = λ p has. inl (subst (λ (h : Holding). Contains h.reserved p) q.pool has);
+  doubtful = λ p has. inl (subst (λ (h : Holding). Contains h.doubtful p) q.pool has);
+}
+
+pub still_entries : (a b : AgentState) → b.giving ≡ a.giving → (place : ℕ) (g : Giving) (p : Prefix) → slice_get b.giving place ≡ Some g → g.offer ≡ Some p
+    → (old : ℕ) × ((h : Giving) × (slice_get a.giving old ≡ Some h) × (h.handle ≡ g.handle) × (h.offer ≡ Some p))
+still_entries a b same place g p at offer = (place, (g, ap (λ (l : List Giving). slice_get l place) (sym same) ∙ at, refl, offer))
+
+pub nothing_moved : (n m : NodeState) (a b : AgentState) → m.sessions ≡ n.sessions → NothingMoves a b → Gives n a → Moved n m a b
+nothing_moved n m a b z q k = record {
+  gives = gives_again n m a b z q k;
+  moves = quiet n m a b (record {
+    streams = same_streams n.sessions m.sessions z;
+    pool = q.pool;
+    entries = still_entries a b q.giving;
+    left = λ x role has. subst (λ (y : Sessions). Contains y.gone x) z has;
+  });
+}

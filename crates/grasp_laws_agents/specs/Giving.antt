@@ -1,0 +1,92 @@
+-- How the sessions of the agent of prefixes at a node stand with what it offers and wants (RFC 8992, sections 4.1 and 4.2).
+use Rattle.std.specs.Prelude.{◌≡◌, ◌⊎◌, ℕ, ◌==◌, Bool, true, false, Contains, Option, None, Some, slice_get}
+use Rattle.grasp_agent.specs.States.{AgentState, want_session}
+use Rattle.grasp_agent.specs.Values.{offered_in}
+use Rattle.grasp_agent.specs.declared.act.Act.{Act}
+use Rattle.grasp_agent.specs.declared.act.Act.TheVariants as act
+use Rattle.grasp_agent.specs.declared.giving.Giving.{Giving}
+use Rattle.grasp_model_node.specs.Node.{NodeState}
+use Rattle.grasp_session.specs.Conversation.{answered, accepted_by, ended, has_offered, turn}
+use Rattle.grasp_session.specs.Messages.{Side, Near, Far}
+use Rattle.grasp_session.specs.Sessions.{SessionState, Sessions, session_at}
+use Rattle.grasp_session.specs.Transcript.{Transcript, known, my_offer, peer_offer}
+use Rattle.grasp_types.specs.Prefix.{AddressBlock as Prefix}
+use Rattle.grasp_types.specs.declared.session.Handle.{Handle}
+
+-- ---- what a transcript tells of an offer
+
+-- the last request or step of this end offers this prefix
+pub record HasOffered (v : Transcript) (p : Prefix) : Type 0 where
+  pub made : has_offered v.role (known v) ≡ true
+  pub offer : offered_in (my_offer v).value ≡ Some p
+
+-- the last offer of this end is this prefix, and it has kept no step and no end of the other since
+pub record IsOpenOffer (v : Transcript) (p : Prefix) : Type 0 where
+  pub offered : HasOffered v p
+  pub unanswered : answered v.role (known v) ≡ false
+
+-- as far as it knows, the turn is its own and nothing has ended
+pub record IsDeciding (v : Transcript) : Type 0 where
+  pub mine : turn (known v) ≡ v.role
+  pub no_end : ended (known v) ≡ false
+
+-- the newest message that it knows is no acceptance, and the turn is its own or that message is an end: so it knows the whole
+pub record IsUnaccepted (v : Transcript) : Type 0 where
+  pub whole : (turn (known v) ≡ v.role) ⊎ (ended (known v) ≡ true)
+  pub no_acceptance : (side : Side) → accepted_by side (known v) ≡ false
+
+-- ---- the sessions in which the agent gives
+
+-- an offer is decided in the giving entry at this place, and isn't made yet
+abbrev pub is_offering : Option Act → ℕ → Bool
+is_offering None place = false
+is_offering (Some (act.Offer at h p)) place = at == place
+is_offering (Some (act.Counter h n)) place = false
+is_offering (Some (act.Accept h p)) place = false
+is_offering (Some (act.Decline h reason)) place = false
+
+-- while an offer is decided and not made yet, the session is deciding; what an entry offers is the last offer of its session; and one
+-- without an offer leaves none open
+abbrev pub OfferStands : Bool → Option Prefix → Transcript → Type 0
+OfferStands true offer v = IsDeciding v
+OfferStands false (Some p) v = HasOffered v p
+OfferStands false None v = (p : Prefix) → ¬ IsOpenOffer v p
+
+-- a live session of agent 1, of which the node is this side
+pub record IsOwnSession (z : Sessions) (h : Handle) (side : Side) (x : SessionState) : Type 0 where
+  pub at : session_at z h ≡ Some x
+  pub owner : x.owner ≡ 1
+  pub role : x.view.role ≡ side
+
+pub record EntryStands (z : Sessions) (a : AgentState) (place : ℕ) (g : Giving) : Type 0 where
+  pub session : SessionState
+  pub own : IsOwnSession z g.handle Far session
+  pub offer : OfferStands (is_offering a.act place) g.offer session.view
+
+-- ---- the session of its want
+
+-- what it is about to accept is the last offer of the other end, which it knows to be the last word
+abbrev pub AcceptStands : Option Act → Handle → Transcript → Type 0
+AcceptStands None h v = Unit {0}
+AcceptStands (Some (act.Accept at p)) h v = (at ≡ h) → IsDeciding v × (offered_in (peer_offer v).value ≡ Some p)
+AcceptStands (Some (act.Offer place at p)) h v = Unit {0}
+AcceptStands (Some (act.Counter at n)) h v = Unit {0}
+AcceptStands (Some (act.Decline at reason)) h v = Unit {0}
+
+pub record WantStands (z : Sessions) (a : AgentState) (h : Handle) : Type 0 where
+  pub session : SessionState
+  pub own : IsOwnSession z h Near session
+  pub accept : AcceptStands a.act h session.view
+
+-- ---- all of it
+
+pub record Gives (n : NodeState) (a : AgentState) : Type 0 where
+  pub want : (h : Handle) → want_session a.want ≡ Some h → WantStands n.sessions a h
+  pub entries : (place : ℕ) (g : Giving) → slice_get a.giving place ≡ Some g → EntryStands n.sessions a place g
+  -- no two entries are of one session
+  pub apart : (i j : ℕ) (g k : Giving) → slice_get a.giving i ≡ Some g → slice_get a.giving j ≡ Some k → g.handle ≡ k.handle → i ≡ j
+  -- an open offer of a live session is that of an entry
+  pub live : (h : Handle) (x : SessionState) (p : Prefix) → IsOwnSession n.sessions h Far x → IsOpenOffer x.view p
+      → (place : ℕ) × ((g : Giving) × (slice_get a.giving place ≡ Some g) × (g.handle ≡ h))
+  -- the prefix of an open offer in a session that is no longer live is in doubt
+  pub gone : (x : SessionState) (p : Prefix) → Contains n.sessions.gone x → x.owner ≡ 1 → x.view.role ≡ Far → IsOpenOffer x.view p → Contains a.pool.doubtful p

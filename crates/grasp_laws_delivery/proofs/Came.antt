@@ -1,0 +1,2 @@
+-- What comes to a node with each kind of event.
+pub mod Inputs

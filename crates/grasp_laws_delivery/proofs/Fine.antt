@@ -1,0 +1,6 @@
+-- What a node's tables keep is in range.
+pub mod Cache
+pub mod Registry
+pub mod Said
+pub mod Sessions
+pub mod Short

@@ -1,0 +1,108 @@
+-- In every network that events lead to, a side that isn't there said nothing, and no more is delivered than was sent.
+use Rattle.std.proofs.Common.{◌≡◌, refl, sym, subst, ℕ, ◌+◌, false, List, [], ◌∷◌, fold, take, Option, None, Some}
+use Rattle.std.proofs.lemmas.Option.{none-some}
+use Rattle.grasp_model_node.specs.Begin.{begin}
+use Rattle.grasp_model_node.specs.Draining.{closes, after_drain}
+use Rattle.grasp_model_node.specs.Node.{NodeState}
+use Rattle.grasp_model_node.specs.Queue.{Queued, datagram, dial, send}
+use Rattle.grasp_types.specs.declared.reply.Reply.{Reply}
+use Rattle.grasp_types.specs.declared.reply.Reply.TheVariants as reply
+use Rattle.grasp_model_network.specs.StreamChanges.{arrival_by, arrived, told, Reached, reached_side, side_named, delivered}
+use Rattle.grasp_model_network.specs.Events.{after_visit, after_none}
+use Rattle.grasp_model_network.specs.Routes.{route_of}
+use Rattle.grasp_model_network.specs.Runs.{IsReached, first_world}
+use Rattle.grasp_model_network.specs.Sending.{gained, having_made, streams_made, seat_with, having_sent, having_closed, handed_over, drained, drained_at, drained_from}
+use Rattle.grasp_model_network.specs.Setting.{Setting}
+use Rattle.grasp_model_network.specs.Streams.{StreamState, told_closed, is_waiting, fresh_stream, with_said, with_sent, with_ended, with_number, with_delivered, with_side, with_far, stream_numbered}
+use Rattle.grasp_model_network.specs.Visits.{Visit, Choice}
+use Rattle.grasp_model_network.specs.World.{Seat, WorldState, seat_at, with_seat, end_of}
+use Rattle.grasp_model_network.specs.declared.event.Event.{Event}
+use Rattle.grasp_model_network.specs.declared.event.Event.TheVariants as event
+use Rattle.grasp_laws_delivery.proofs.AfterSteps.{posted_each, streams_before, streams_stepped, IsWanted, same, wanted, none_wanted}
+use Rattle.grasp_laws_delivery.proofs.Holding.{IsStep, PartsKeep, parts_keep}
+use Rattle.grasp_laws_delivery.proofs.Sane.{IsSane, said_sane, sent_sane, ended_sane, numbered_sane, delivered_sane, told_sane, opened_sane, dialled_sane}
+use Rattle.grasp_laws_delivery.proofs.Sides.{each_changed, each_push}
+use Rattle.grasp_laws_delivery.specs.Saying.{OfEachStream}
+
+abbrev pub AreSane : List StreamState → Type 0
+AreSane ts = OfEachStream IsSane ts
+
+-- ---- a step
+
+made_sane : (node : ℕ) (seat : Seat) (qs : List Queued) (ts : List StreamState) → AreSane ts → AreSane (fold (having_made node seat) ts qs)
+made_sane node seat [] ts each = each
+made_sane node seat (datagram link to m ∷ qs) ts each = made_sane node seat qs ts each
+made_sane node seat (dial stream to ∷ qs) ts each =
+    made_sane node seat qs (having_made node seat ts (dial stream to)) (each_push IsSane ts (fresh_stream (end_of node seat stream) to) (dialled_sane (end_of node seat stream) to) each)
+made_sane node seat (send stream m ∷ qs) ts each =
+    made_sane node seat qs (having_made node seat ts (send stream m)) (each_changed IsSane IsSane ts (end_of node seat stream) (with_said m) (said_sane (end_of node seat stream) m) each)
+
+gone : (r : Reply) → is_waiting (arrival_by r) ≡ false
+gone reply.Turned = refl
+gone _ = refl
+
+arrived_sane : (w : WorldState) (v : Visit) (number : ℕ) (r : Reply) (o : Option StreamState) → AreSane w.streams → AreSane (arrived w v number r o).streams
+arrived_sane w v number r None each = each
+arrived_sane w v number r (Some t) each =
+    each_changed IsSane IsSane w.streams t.near (with_far (end_of v.node v.seat number) (arrival_by r)) (λ u k. opened_sane t.near (end_of v.node v.seat number) (arrival_by r) u (gone r) k) each
+
+delivered_all_sane : (w : WorldState) (count : ℕ) (o : Option Reached) → AreSane w.streams → AreSane (delivered w count o).streams
+delivered_all_sane w count None each = each
+delivered_all_sane w count (Some x) each = each_changed IsSane IsSane w.streams x.at (with_delivered count) (delivered_sane x.at count) each
+
+told_all_sane : (w : WorldState) (o : Option Reached) → AreSane w.streams → AreSane (told w o).streams
+told_all_sane w None each = each
+told_all_sane w (Some x) each = each_changed IsSane IsSane w.streams x.at (with_side told_closed) (told_sane x.at) each
+
+before_sane : (s : Setting) (w : WorldState) (e : Event) (v : Visit) (c : Choice) → AreSane w.streams → AreSane (streams_before s w e v c)
+before_sane s w (event.Arrive stream hold) v c each = arrived_sane w v (s.arrives_as v.node stream) c.reply (stream_numbered w.streams stream) each
+before_sane s w (event.Bytes stream far count hold) v c each = delivered_all_sane w count (reached_side w stream (side_named far)) each
+before_sane s w (event.Cut stream far hold) v c each = told_all_sane w (reached_side w stream (side_named far)) each
+before_sane s w _ v c each = each
+
+step_sane : (s : Setting) (w : WorldState) (e : Event) (v : Visit) (c : Choice) → IsStep e → AreSane w.streams → AreSane (after_visit s w e v c).streams
+unfolding streams_made
+step_sane s w e v c is each = subst AreSane (sym (streams_stepped s w e v c is)) (made_sane v.node v.seat (gained v.seat.core c.after) (streams_before s w e v c) (before_sane s w e v c each))
+
+-- ---- a drain
+
+handed_sane : (s : Setting) (node : ℕ) (seat : Seat) (qs : List Queued) (w : WorldState) → AreSane w.streams → AreSane (fold (having_sent s node seat) w qs).streams
+handed_sane s node seat [] w each = each
+handed_sane s node seat (datagram link to m ∷ qs) w each = handed_sane s node seat qs (having_sent s node seat w (datagram link to m)) (posted_each IsSane w m (route_of s node link to) each)
+handed_sane s node seat (dial stream to ∷ qs) w each =
+    handed_sane s node seat qs (having_sent s node seat w (dial stream to))
+    (each_changed IsSane IsSane w.streams (end_of node seat stream) (with_number (w.dials + 1)) (numbered_sane (end_of node seat stream) (w.dials + 1)) each)
+handed_sane s node seat (send stream m ∷ qs) w each =
+    handed_sane s node seat qs (having_sent s node seat w (send stream m)) (each_changed IsSane IsSane w.streams (end_of node seat stream) (with_sent m) (sent_sane (end_of node seat stream) m) each)
+
+closed_sane : (node : ℕ) (seat : Seat) (streams : List ℕ) (w : WorldState) → AreSane w.streams → AreSane (fold (having_closed node seat) w streams).streams
+closed_sane node seat [] w each = each
+closed_sane node seat (stream ∷ streams) w each =
+    closed_sane node seat streams (having_closed node seat w stream) (each_changed IsSane IsSane w.streams (end_of node seat stream) with_ended (ended_sane (end_of node seat stream)) each)
+
+drained_sane : (s : Setting) (w : WorldState) (node max : ℕ) (o : Option Seat) → AreSane w.streams → AreSane (drained_at s w node max o).streams
+unfolding handed_over
+drained_sane s w node max None each = each
+drained_sane s w node max (Some seat) each = from (begin seat.core seat.core.reading) where
+  from : (m : NodeState) → AreSane (drained_from s w node seat m max).streams
+  from m =
+      closed_sane node seat (closes m max) (fold (having_sent s node seat) (with_seat w node (seat_with seat (after_drain m max) seat.agent)) (take max m.queue))
+      (handed_sane s node seat (take max m.queue) (with_seat w node (seat_with seat (after_drain m max) seat.agent)) each)
+
+-- ---- every event
+
+want_sane : (w x : WorldState) → IsWanted w x → AreSane w.streams → AreSane x.streams
+want_sane w x (same e) each = subst (λ (y : WorldState). AreSane y.streams) (sym e) each
+want_sane w x (wanted node seat agent least here e) each = subst (λ (y : WorldState). AreSane y.streams) (sym e) each
+
+sane_parts : (s : Setting) → PartsKeep s (λ w. AreSane w.streams)
+unfolding drained
+sane_parts s = record {
+  steps = λ w e c v r each o is step reached. step_sane s w e v c step each;
+  wants = λ w e r each fit. want_sane w (after_none s w e) (none_wanted s w e fit) each;
+  drains = λ w node max r each least. drained_sane s w node max (seat_at w node) each;
+}
+
+pub sane : (s : Setting) (w : WorldState) → IsReached s w → AreSane w.streams
+unfolding first_world
+sane s w r = parts_keep s (λ x. AreSane x.streams) (sane_parts s) (λ place t found. absurd (none-some t found)) w r

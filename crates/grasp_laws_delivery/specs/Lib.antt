@@ -1,0 +1,9 @@
+pub mod Divided
+pub mod Fits
+pub mod Heads
+pub mod Kept
+pub mod Pieces
+pub mod Ready
+pub mod Records
+pub mod Saying
+pub mod Undrained

@@ -1,0 +1,96 @@
+-- What is queued at a node can be sent in order: each dial's stream waits for it, and each message's stream was dialled before.
+use Rattle.std.specs.Prelude.{◌≡◌, ◌≤◌, ◌<◌, ◌*◌, ◌%◌, ℕ, true, List, [], ◌∷◌, Option, None, Some, length, count_by, All}
+use Rattle.grasp_model_node.specs.Queue.{Queued, datagram, dial, send}
+use Rattle.grasp_model_node.specs.Streams.{StreamRecord}
+use Rattle.grasp_types.specs.declared.address.Locator.{Locator}
+use Rattle.grasp_model_network.specs.Plans.{IsNode}
+use Rattle.grasp_model_network.specs.Runs.{IsReached}
+use Rattle.grasp_model_network.specs.Setting.{Setting}
+use Rattle.grasp_model_network.specs.Streams.{StreamEnd, StreamState, is_waiting, is_number, has_end, count_at_end, change_at_end, with_number, with_sent}
+use Rattle.grasp_model_network.specs.World.{Seat, WorldState, seat_at, end_of}
+
+-- the property holds of each of the list
+abbrev pub Every : {X : Type 0} → (X → Type 0) → List X → Type 0
+Every P [] = Unit {0}
+Every P (x ∷ xs) = P x × Every P xs
+
+-- ---- what can be sent
+
+-- one stream has this end; its dial is queued and goes there
+abbrev pub WaitsFor : StreamEnd → Locator → StreamState → Type 0
+WaitsFor e to t = has_end e t ≡ true → (t.number ≡ None) × (t.to ≡ to)
+
+pub record IsDialOf (ts : List StreamState) (e : StreamEnd) (to : Locator) : Type 0 where
+  pub once : count_at_end ts e ≡ 1
+  pub waits : Every (WaitsFor e to) ts
+
+-- each stream with this end was dialled
+abbrev pub IsSent : Option ℕ → Type 0
+IsSent None = ⊥
+IsSent (Some k) = Unit {0}
+
+abbrev pub AreSent : List StreamState → StreamEnd → Type 0
+AreSent ts e = Every (λ t. has_end e t ≡ true → IsSent t.number) ts
+
+-- the queued outputs of a node can be sent one after the other
+abbrev pub AreReady : ℕ → Seat → List Queued → List StreamState → Type 0
+AreReady node seat [] ts = Unit {0}
+AreReady node seat (datagram link to m ∷ qs) ts = AreReady node seat qs ts
+AreReady node seat (dial stream to ∷ qs) ts =
+    IsDialOf ts (end_of node seat stream) to × ((k : ℕ) → AreReady node seat qs (change_at_end ts (end_of node seat stream) (with_number k)))
+AreReady node seat (send stream m ∷ qs) ts =
+    (count_at_end ts (end_of node seat stream) ≡ 1) × AreSent ts (end_of node seat stream) × AreReady node seat qs (change_at_end ts (end_of node seat stream) (with_sent m))
+
+-- ---- the ends of a stream
+
+-- a stream that was dialled has a number among those of the dials that were sent
+abbrev pub HasGoodNumber : ℕ → Option ℕ → Type 0
+HasGoodNumber dials None = Unit {0}
+HasGoodNumber dials (Some k) = (1 ≤ k) × (k ≤ dials)
+
+-- the far end is at a node, under the number with which the stream arrives there; a stream whose dial isn't sent has none
+abbrev pub HasGoodFar : Setting → ℕ → Option ℕ → Option StreamEnd → Type 0
+HasGoodFar s nodes number None = Unit {0}
+HasGoodFar s nodes None (Some e) = ⊥
+HasGoodFar s nodes (Some k) (Some e) = IsNode nodes e.node × (e.life ≡ 0) × (e.number ≡ s.arrives_as e.node k)
+
+-- among so many nodes, of which all are in their first life: the near end is at one of them, and has an even number
+pub record HasGoodEnds (s : Setting) (nodes dials : ℕ) (near : StreamEnd) (number : Option ℕ) (far : Option StreamEnd) : Type 0 where
+  pub member : IsNode nodes near.node
+  pub life : near.life ≡ 0
+  pub even : near.number % 2 ≡ 0
+  pub dialled : HasGoodNumber dials number
+  pub opened : HasGoodFar s nodes number far
+
+-- a stream that waits to be opened has no far end
+abbrev pub FarWaits : StreamState → Type 0
+FarWaits t = is_waiting t.far_side ≡ true → t.far ≡ None
+
+-- ---- the law
+
+-- the streams of this number
+abbrev pub count_numbered : List StreamState → ℕ → ℕ
+count_numbered ts k = count_by (λ t. is_number k t.number) ts
+
+pub record StreamsAreReady : Type 0 where
+  -- no two streams have one end
+  pub apart : (s : Setting) (w : WorldState) → IsReached s w → (e : StreamEnd) → count_at_end w.streams e ≤ 1
+  -- what each node has queued can be sent in order
+  pub ready : (s : Setting) (w : WorldState) → IsReached s w → (node : ℕ) (seat : Seat) → seat_at w node ≡ Some seat → AreReady node seat seat.core.queue w.streams
+  -- the near end of each stream has an even number; the far end is that with which it arrived
+  pub ends : (s : Setting) (w : WorldState) → IsReached s w → Every (λ t. HasGoodEnds s (length w.seats) w.dials t.near t.number t.far) w.streams
+  -- the dials that were sent have the numbers from 1 on, each that of one stream
+  pub once : (s : Setting) (w : WorldState) → IsReached s w → (k : ℕ) → 1 ≤ k → k ≤ w.dials → count_numbered w.streams k ≡ 1
+  -- every node is in its first life
+  pub lives : (s : Setting) (w : WorldState) → IsReached s w → (node : ℕ) (seat : Seat) → seat_at w node ≡ Some seat → seat.earlier ≡ []
+  -- each record of a node is that of a stream
+  pub records : (s : Setting) (w : WorldState) → IsReached s w → (node : ℕ) (seat : Seat) → seat_at w node ≡ Some seat
+      → All (λ (x : StreamRecord). count_at_end w.streams (end_of node seat x.number) ≡ 1) seat.core.streams.records
+  -- a stream that a node dialled has a number below that of the next one
+  pub next : (s : Setting) (w : WorldState) → IsReached s w → (node : ℕ) (seat : Seat) → seat_at w node ≡ Some seat
+      → Every (λ t. t.near.node ≡ node → t.near.number < 2 * seat.core.streams.dialled) w.streams
+  -- each stream that a node dialled is there
+  pub nears : (s : Setting) (w : WorldState) → IsReached s w → (node : ℕ) (seat : Seat) → seat_at w node ≡ Some seat → (d : ℕ) → d < seat.core.streams.dialled
+      → count_at_end w.streams (end_of node seat (2 * d)) ≡ 1
+  -- a stream that waits to be opened was opened nowhere
+  pub waits : (s : Setting) (w : WorldState) → IsReached s w → Every FarWaits w.streams

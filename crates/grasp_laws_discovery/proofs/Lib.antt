@@ -1,0 +1,15 @@
+pub mod Answering
+pub mod Asking
+pub mod Caching
+pub mod Calling
+pub mod Discovering
+pub mod Finding
+pub mod Hearing
+pub mod Keeping
+pub mod Longer
+pub mod Networks
+pub mod Noting
+pub mod Real
+pub mod Sourcing
+pub mod Stepping
+pub mod Telling

@@ -1,0 +1,3 @@
+pub mod Laws
+pub mod Locators
+pub mod Sources

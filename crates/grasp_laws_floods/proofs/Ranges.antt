@@ -1,0 +1,43 @@
+-- What is within its range in a network: the parts of calls from which messages to neighbours are made, and the addresses of members.
+use Rattle.std.proofs.Common.{ℕ, ◌<◌, ◌≤◌, ◌^◌, All}
+use Rattle.std.specs.Str.{IsUtf8}
+use Rattle.std.proofs.lemmas.List.Elements.{All-weaker}
+use Rattle.grasp_model_network.specs.Events.{IsFitAmong}
+use Rattle.grasp_model_network.specs.GoodSetting.{IsGoodMember, IsGoodSetting}
+use Rattle.grasp_model_network.specs.Ranges.{IsCall}
+use Rattle.grasp_model_network.specs.Setting.{Member, Setting}
+use Rattle.grasp_model_network.specs.declared.event.Event.{Event}
+use Rattle.grasp_model_network.specs.declared.event.Event.TheVariants as event
+use Rattle.grasp_types.specs.Address.{IsAddress}
+use Rattle.grasp_types.specs.Objective.{IsValue}
+use Rattle.grasp_types.specs.declared.call.Call.{Call}
+use Rattle.grasp_types.specs.declared.call.Call.TheVariants.{RegisterObjective, Discover, Flood}
+
+-- what is sent to neighbours for this call, and the flags that it registers, are within their ranges
+abbrev pub IsInRange : Call → Type 0
+IsInRange (RegisterObjective name flags) = flags ≤ 15
+IsInRange (Discover name kind loops timeout) = IsUtf8 name × (loops < 2 ^ 8)
+IsInRange (Flood name value ttl loops) = IsUtf8 name × IsValue value × (ttl < 2 ^ 32) × (loops < 2 ^ 8)
+IsInRange _ = Unit {0}
+
+call_range : (it : Call) → IsCall it → IsInRange it
+call_range (RegisterObjective name flags) k = k.1
+call_range (Discover name kind loops timeout) k = k
+call_range (Flood name value ttl loops) k = k
+call_range _ k = tt
+
+-- what the call of an event sends and registers is within its range, where the event has a call
+abbrev pub IsEventInRange : Event → Type 0
+IsEventInRange (event.Api node asa call hold) = IsInRange call
+IsEventInRange _ = Unit {0}
+
+pub event_range : (nodes peers : ℕ) (e : Event) → IsFitAmong nodes peers e → IsEventInRange e
+event_range nodes peers (event.Api node asa call hold) fit = call_range call fit.2
+event_range nodes peers _ fit = tt
+
+-- each member's address has 32 or 128 bits
+abbrev pub HasAddresses : Setting → Type 0
+HasAddresses s = All (λ (m : Member). IsAddress m.plan.address) s.members
+
+pub good_addresses : (s : Setting) → IsGoodSetting s → HasAddresses s
+good_addresses s good = All-weaker (IsGoodMember good.limit) (λ (m : Member). IsAddress m.plan.address) (λ m k. k.address) s.members good.members

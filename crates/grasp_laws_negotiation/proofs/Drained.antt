@@ -1,0 +1,251 @@
+-- A drain, a want and the first network.
+use Rattle.std.proofs.Common.{◌≡◌, ◌≤◌, ◌-◌, ℕ, ◌==◌, Bool, true, false, cond, List, [], inl, inr, Option, Some, None, length, slice_get, slice_set, map, take, drop, refl, sym, ap, ◌∙◌, subst, arith}
+use Rattle.std.proofs.Math.ListN.{drop_of_length-le}
+use Rattle.std.proofs.lemmas.Bool.{eqb-true, eqb-false, true≢false}
+use Rattle.std.proofs.lemmas.List.{length-drop}
+use Rattle.std.proofs.lemmas.Option.{none-some, same_Some as some_same}
+use Rattle.grasp_agent.specs.Calls.{next_call, agent_name, objective_name}
+use Rattle.grasp_agent.specs.Replies.{after_reply}
+use Rattle.grasp_agent.specs.States.{AgentState}
+use Rattle.grasp_model_node.specs.Begin.{begin, expired}
+use Rattle.grasp_model_node.specs.Draining.{closes, drained, after_drain}
+use Rattle.grasp_model_node.specs.Moves.{with_reading, with_registrations, with_sessions, with_discoveries, with_floods, begin_closing}
+use Rattle.grasp_model_node.specs.Node.{NodeState}
+use Rattle.grasp_model_node.specs.Queue.{Queued}
+use Rattle.grasp_model_node.specs.BoundedNodes.{IsGiven}
+use Rattle.grasp_model_node.specs.Step.{Coming, NodeStep}
+use Rattle.grasp_model_node.specs.Streams.{past_of}
+use Rattle.grasp_types.specs.declared.reply.Reply.TheVariants.{Outputs}
+use Rattle.grasp_types.specs.declared.traffic.Input.TheVariants as input
+use Rattle.grasp_laws_node.proofs.Drains.{drains_dial_nothing}
+use Rattle.grasp_laws_node_stories.specs.Stories.{came_by, fault_by, gained, IsClear}
+use Rattle.grasp_laws_node_stories.specs.StreamMoves.{view_on, is_dial, some_move}
+use Rattle.grasp_session.specs.Messages.{Side, Near, Far}
+use Rattle.grasp_session.specs.Talk.{Party}
+use Rattle.grasp_laws_network.proofs.EachNode.{IsMade, is_made, drain_steps}
+use Rattle.grasp_laws_network.proofs.Others.{put_elsewhere}
+use Rattle.grasp_laws_network.proofs.Sent.{sending_keeps_nodes}
+use Rattle.grasp_laws_network.proofs.Staying.{put_here}
+use Rattle.grasp_model_network.specs.Runs.{IsReached, answered_seat, first_seat, first_world}
+use Rattle.grasp_model_network.specs.Sending as network
+use Rattle.grasp_model_network.specs.Sending.{seat_with, drained_at, drained_from}
+use Rattle.grasp_model_network.specs.Setting.{Member, Setting, numbered}
+use Rattle.grasp_model_network.specs.Streams.{StreamEnd, StreamState, end_at, is_same_end}
+use Rattle.grasp_model_network.specs.Visits.{no_choice}
+use Rattle.grasp_model_network.specs.World.{Seat, WorldState, seat_at, with_seat, life_of}
+use Rattle.grasp_laws_delivery.proofs.AfterSteps.{IsPutOr, put_or, IsWanted, same, wanted}
+use Rattle.grasp_laws_negotiation.proofs.Events.{like_ends}
+use Rattle.grasp_laws_negotiation.proofs.Harmless.{IsLike, Harmless, handed_harmless}
+use Rattle.grasp_laws_negotiation.proofs.NodeMoves.{FromOld, NodeMove, move_stands, move_goes}
+use Rattle.grasp_laws_negotiation.proofs.Standing.{view_seat, EndStands, SideStands, Stands, GoesTo, NoStream, NetworkStands}
+use Rattle.grasp_laws_negotiation.proofs.Steps.{story_of, clear_of, comes_of, nothing_added, is_recorded, life_is, ends_apart}
+use Rattle.grasp_laws_negotiation.specs.Grounds.{Grounds}
+use Rattle.grasp_laws_negotiation.proofs.TalkRuns.{joined}
+use Rattle.grasp_laws_negotiation.proofs.TalkSteps.{Fits}
+use Rattle.grasp_laws_negotiation.proofs.Voices.{voices}
+
+-- ---- a drain
+
+like_before : (t u : StreamState) → IsLike t u → (side : Side) (e : StreamEnd) → end_at u side ≡ Some e → end_at t side ≡ Some e
+like_before t u like Near e at = ap (λ x. Some x) (sym like.near) ∙ at
+like_before t u like Far e at = sym like.far ∙ at
+
+drain_brings : (max : ℕ) (x : Coming) (stream : ℕ) → (came_by (input.Drain max) x stream ≡ []) × (fault_by (input.Drain max) x stream ≡ false)
+drain_brings max x stream = (refl, refl)
+
+module _ (l : Grounds) (s : Setting) (w : WorldState) (r : IsReached s w) (k : NetworkStands w) (node max : ℕ) (seat : Seat) (here : seat_at w node ≡ Some seat) (least : 1 ≤ node) where
+  abbrev now_core : NodeState
+  now_core = begin seat.core seat.core.reading
+
+  abbrev core : NodeState
+  core = after_drain (begin seat.core seat.core.reading) max
+
+  abbrev new : Seat
+  new = seat_with seat (after_drain (begin seat.core seat.core.reading) max) seat.agent
+
+  abbrev y : WorldState
+  y = drained_from s w node seat (begin seat.core seat.core.reading) max
+
+  step : NodeStep seat.core seat.core.reading (input.Drain max) no_choice.coming (Outputs (drained (begin seat.core seat.core.reading) max)) (after_drain (begin seat.core seat.core.reading) max)
+  step = drain_steps seat.core max no_choice.coming
+
+  dials : (core.streams.dialled ≡ seat.core.streams.dialled) × (core.queue ≡ drop max seat.core.queue)
+  dials = drains_dial_nothing seat.core core seat.core.reading max no_choice.coming (Outputs (drained now_core max)) step
+
+  gains_nothing : gained seat.core core ≡ []
+  gains_nothing =
+      let a : core.queue ≡ drop max seat.core.queue = dials.1 in
+      let b : length core.queue ≡ length (drop max seat.core.queue) = ap (λ (q : List Queued). length q) a in
+      let c : length (drop max seat.core.queue) ≡ length seat.core.queue - max = length-drop max seat.core.queue in
+      drop_of_length-le core.queue (omega (arith, b, c))
+
+  put : y.seats ≡ slice_set w.seats (node - 1) new
+  put = sending_keeps_nodes s (with_seat w node new) node seat (take max now_core.queue) (closes now_core max)
+
+  harmless : Harmless w.streams y.streams
+  harmless = handed_harmless s (with_seat w node new) node seat (take max now_core.queue) (closes now_core max)
+
+  old : (place : ℕ) (u : StreamState) → slice_get y.streams place ≡ Some u → FromOld w node seat (input.Drain max) (gained seat.core core) place u
+  old place u is =
+      let m = harmless.back place u is in
+      record {
+        before = m.before;
+        stands = m.stands;
+        near = m.like.near;
+        said = m.like.said ∙ sym (ap (λ q. joined (voices node seat u.near u.far q) m.before.said) gains_nothing);
+        far = inl m.like.far;
+      }
+
+  -- a drain is a step of one node, in which no stream is new
+  pub drain_is : NodeMove w y
+  drain_is = record {
+    node = node;
+    seat = seat;
+    new = new;
+    now = seat.core.reading;
+    i = input.Drain max;
+    x = no_choice.coming;
+    here = here;
+    there = ap (λ z. numbered z node) put ∙ put_here w.seats node seat new here;
+    others = λ n apart. ap (λ z. numbered z n) put ∙ put_elsewhere w.seats node n new least apart;
+    life = refl;
+    story = story_of l s w r k node seat here core seat.core.reading (input.Drain max) no_choice.coming (Outputs (drained now_core max)) step;
+    clear = clear_of l s w r k node seat here core seat.core.reading (input.Drain max) no_choice.coming (Outputs (drained now_core max)) step;
+    comes = comes_of l s w r k node seat here core seat.core.reading (input.Drain max) no_choice.coming (Outputs (drained now_core max)) step
+        (nothing_added l s w r k node seat here core seat.core.reading (input.Drain max) no_choice.coming (Outputs (drained now_core max)) step (drain_brings max));
+    opened = λ stream o. absurd o;
+    opened_given = λ stream o. absurd o;
+    dialled = λ stream d none. none_dialled stream d;
+    recorded = is_recorded l s w r k node seat here core seat.core.reading (input.Drain max) no_choice.coming (Outputs (drained now_core max)) step;
+    ends_stay = λ e none place t is side at. let m = harmless.forth place t is in none place m.after m.stands side (like_ends t m.after m.like side e at);
+    stays = λ place t is. let m = harmless.forth place t is in (m.after, m.stands, m.like.near);
+    lives = λ place u is side e at here_node. let m = harmless.back place u is in life_is l s w r place m.before m.stands side e (like_before m.before u m.like side e at)
+        ∙ sym (ap (λ (x : List NodeState). length x) (l.ready.lives s w r node seat here));
+    apart = λ place u is e at. let m = harmless.back place u is in ap (λ n. is_same_end e n) m.like.near ∙ ends_apart l s w r place m.before m.stands e (sym m.like.far ∙ at);
+    comes_from = λ place u is. inl (old place u is);
+  } where
+    none_dialled : (stream : ℕ) → some_move is_dial (story_of l s w r k node seat here core seat.core.reading (input.Drain max) no_choice.coming (Outputs (drained now_core max)) step stream).moves ≡ true → ⊥
+    none_dialled stream d =
+        let q = story_of l s w r k node seat here core seat.core.reading (input.Drain max) no_choice.coming (Outputs (drained now_core max)) step stream in
+        true≢false (sym d ∙ q.new (subst (λ n. IsGiven n stream) dials.0 (q.given d)))
+
+  pub drain_stands : NetworkStands y
+  drain_stands = move_stands w y drain_is k
+
+  pub drain_goes : (place : ℕ) (t u : StreamState) → slice_get w.streams place ≡ Some t → slice_get y.streams place ≡ Some u → (m : Stands w t) → GoesTo y u m.talk
+  drain_goes place t u was there m = move_goes w y drain_is k place t u was there m
+
+pub drained_stands : (l : Grounds) (s : Setting) (w : WorldState) (node max : ℕ) → IsReached s w → NetworkStands w → 1 ≤ node → NetworkStands (network.drained s w node max)
+unfolding network.drained
+drained_stands l s w node max r k least = by_seat (seat_at w node) refl where
+  by_seat : (o : Option Seat) → seat_at w node ≡ o → NetworkStands (drained_at s w node max o)
+  by_seat None here = k
+  by_seat (Some seat) here = drain_stands l s w r k node max seat here least
+
+-- a stream is the same
+pub same_goes : (w : WorldState) (place : ℕ) (t u : StreamState) → slice_get w.streams place ≡ Some t → slice_get w.streams place ≡ Some u → (m : Stands w t) → GoesTo w u m.talk
+same_goes w place t u was there m =
+    subst (λ z. GoesTo w z m.talk) (some_same t u (sym was ∙ there)) (record { stands = m; moves = []; ran = refl })
+
+pub drained_goes : (l : Grounds) (s : Setting) (w : WorldState) (node max : ℕ) → IsReached s w → NetworkStands w → 1 ≤ node → (place : ℕ) (t u : StreamState) → slice_get w.streams place ≡ Some t
+    → slice_get (network.drained s w node max).streams place ≡ Some u → (m : Stands w t) → GoesTo (network.drained s w node max) u m.talk
+unfolding network.drained
+drained_goes l s w node max r k least place t u was there m = by_seat (seat_at w node) refl there where
+  by_seat : (o : Option Seat) → seat_at w node ≡ o → slice_get (drained_at s w node max o).streams place ≡ Some u → GoesTo (drained_at s w node max o) u m.talk
+  by_seat None here found = same_goes w place t u was found m
+  by_seat (Some seat) here found = drain_goes l s w r k node max seat here least place t u was found m
+
+-- ---- a want
+
+module _ (w : WorldState) (node : ℕ) (seat : Seat) (agent : AgentState) (least : 1 ≤ node) (here : seat_at w node ≡ Some seat) where
+  -- each node has the core that it had
+  pub had : (n : ℕ) (other : Seat) → seat_at (with_seat w node (seat_with seat seat.core agent)) n ≡ Some other
+      → (before : Seat) × (seat_at w n ≡ Some before) × (other.core ≡ before.core) × (life_of other ≡ life_of before)
+  had n other found = by_put (put_or w.seats node (seat_with seat seat.core agent) n other least found) where
+    by_put : IsPutOr w.seats node (seat_with seat seat.core agent) n other → (before : Seat) × (seat_at w n ≡ Some before) × (other.core ≡ before.core) × (life_of other ≡ life_of before)
+    by_put (inl t) = (seat, ap (λ z. seat_at w z) t.0 ∙ here, ap (λ (z : Seat). z.core) (sym t.1), ap (λ (z : Seat). life_of z) (sym t.1))
+    by_put (inr t) = (other, t.1, refl, refl)
+
+module _ (w : WorldState) (k : NetworkStands w) (node : ℕ) (seat : Seat) (agent : AgentState) (least : 1 ≤ node) (here : seat_at w node ≡ Some seat) where
+  abbrev asked : Seat
+  asked = seat_with seat seat.core agent
+
+  abbrev x : WorldState
+  x = with_seat w node (seat_with seat seat.core agent)
+
+  same_view : (e : StreamEnd) → view_seat e.number (seat_at x e.node) ≡ view_seat e.number (seat_at w e.node)
+  same_view e = by_node (e.node == node) refl where
+    by_node : (b : Bool) → (e.node == node) ≡ b → view_seat e.number (seat_at x e.node) ≡ view_seat e.number (seat_at w e.node)
+    by_node true is =
+        let at : e.node ≡ node = eqb-true e.node node is in
+        ap (λ o. view_seat e.number o) (ap (λ n. seat_at x n) at ∙ put_here w.seats node seat asked here) ∙ sym (ap (λ o. view_seat e.number o) (ap (λ n. seat_at w n) at ∙ here))
+    by_node false is = ap (λ o. view_seat e.number o) (put_elsewhere w.seats node e.node asked least (eqb-false e.node node is))
+
+  end_still : (e : StreamEnd) (p : Party) → EndStands w e p → EndStands x e p
+  end_still e p stands = record {
+    fits = subst (λ v. Fits v p.stage) (sym (same_view e)) stands.fits;
+    opens = λ other past found is. let h = had w node seat agent least here e.node other found in stands.opens h.0 past h.1 (subst (λ (z : NodeState). past_of z.streams e.number ≡ Some past) h.2 is);
+  }
+
+  side_still : (o : Option StreamEnd) (p : Party) → SideStands w o p → SideStands x o p
+  side_still None p stands = stands
+  side_still (Some e) p stands = end_still e p stands
+
+  pub want_stands : NetworkStands x
+  want_stands = record {
+    clear = λ n other found stream. let h = had w node seat agent least here n other found in subst (λ (z : NodeState). IsClear z stream) (sym h.2) (k.clear n h.0 h.1 stream);
+    unseen = λ n other found stream none. let h = had w node seat agent least here n other found in
+        subst (λ (z : NodeState). view_on z stream ≡ None) (sym h.2)
+        (k.unseen n h.0 h.1 stream (subst (λ life. NoStream w.streams (record { node = n; life = life; number = stream })) h.3 none));
+    streams = λ place t is negotiation. still t (k.streams place t is negotiation);
+  } where
+    still : (t : StreamState) → Stands w t → Stands x t
+    still t m = record { talk = m.talk; reached = m.reached; said_is = m.said_is; near = end_still t.near m.talk.near m.near; far = side_still t.far m.talk.far m.far }
+
+  -- a change of the agent of one node leaves each stream as it was, with no move made
+  pub want_goes : (place : ℕ) (t u : StreamState) → slice_get w.streams place ≡ Some t → slice_get w.streams place ≡ Some u → (m : Stands w t) → GoesTo x u m.talk
+  want_goes place t u was there m = subst (λ z. GoesTo x z m.talk) (some_same t u (sym was ∙ there)) (record {
+    stands = record { talk = m.talk; reached = m.reached; said_is = m.said_is; near = end_still t.near m.talk.near m.near; far = side_still t.far m.talk.far m.far };
+    moves = [];
+    ran = refl;
+  })
+
+pub wanted_stands : (w x : WorldState) → NetworkStands w → IsWanted w x → NetworkStands x
+wanted_stands w x k (same e) = subst NetworkStands (sym e) k
+wanted_stands w x k (wanted node seat agent least here e) = subst NetworkStands (sym e) (want_stands w k node seat agent least here)
+
+pub wanted_goes : (w x : WorldState) → NetworkStands w → IsWanted w x → (place : ℕ) (t u : StreamState) → slice_get w.streams place ≡ Some t → slice_get x.streams place ≡ Some u → (m : Stands w t) → GoesTo x u m.talk
+wanted_goes w x k (same e) place t u was there m =
+    subst (λ z. slice_get z.streams place ≡ Some u → GoesTo z u m.talk) (sym e) (λ found. same_goes w place t u was found m) there
+wanted_goes w x k (wanted node seat agent least here e) place t u was there m =
+    subst (λ z. slice_get z.streams place ≡ Some u → GoesTo z u m.talk) (sym e) (λ found. want_goes w k node seat agent least here place t u was found m) there
+
+-- ---- the first network
+
+first_unseen : (m : Member) (stream : ℕ) → view_on (first_seat m).core stream ≡ None
+unfolding answered_seat first_seat next_call agent_name objective_name after_reply begin expired with_reading with_registrations with_sessions with_discoveries with_floods begin_closing
+first_unseen m stream = refl
+
+first_closed : (m : Member) (stream : ℕ) → past_of (first_seat m).core.streams stream ≡ None
+unfolding answered_seat first_seat next_call agent_name objective_name after_reply begin expired with_reading with_registrations with_sessions with_discoveries with_floods begin_closing
+first_closed m stream = refl
+
+first_clear : (m : Member) (stream : ℕ) → IsClear (first_seat m).core stream
+first_clear m stream = record { opens = λ past e. absurd (none-some past (sym (first_closed m stream) ∙ e)); unborn = inr (first_unseen m stream) }
+
+first_of : (s : Setting) (node : ℕ) (seat : Seat) → seat_at (first_world s) node ≡ Some seat → (m : Member) × (first_seat m ≡ seat)
+unfolding first_world
+first_of s node seat found = by_zero (node == 0) refl where
+  by_zero : (b : Bool) → (node == 0) ≡ b → (m : Member) × (first_seat m ≡ seat)
+  by_zero true is = absurd (none-some seat (subst (λ z. cond z None (slice_get (map first_seat s.members) (node - 1)) ≡ Some seat) is found))
+  by_zero false is = made (is_made first_seat s.members (node - 1) seat (subst (λ z. cond z None (slice_get (map first_seat s.members) (node - 1)) ≡ Some seat) is found)) where
+    made : IsMade first_seat s.members (node - 1) seat → (m : Member) × (first_seat m ≡ seat)
+    made i = (i.of, i.made)
+
+pub first_stands : (s : Setting) → NetworkStands (first_world s)
+unfolding first_world
+first_stands s = record {
+  clear = λ node seat found stream. let f = first_of s node seat found in subst (λ (z : Seat). IsClear z.core stream) f.1 (first_clear f.0 stream);
+  unseen = λ node seat found stream none. let f = first_of s node seat found in subst (λ (z : Seat). view_on z.core stream ≡ None) f.1 (first_unseen f.0 stream);
+  streams = λ place t is negotiation. absurd (none-some t is);
+}

@@ -1,0 +1,96 @@
+-- In every network that events lead to the sessions on the ends of each stream are those of its two sides.
+use Rattle.std.proofs.Common.{◌≡◌, ◌≤◌, ◌%◌, ℕ, length, Option, Some, None, take, refl, sym, subst}
+use Rattle.std.proofs.lemmas.Option.{none-some}
+use Rattle.grasp_agent.specs.States.{AgentState}
+use Rattle.grasp_model_node.specs.Begin.{begin}
+use Rattle.grasp_model_node.specs.Draining.{closes, after_drain}
+use Rattle.grasp_model_node.specs.Node.{NodeState}
+use Rattle.grasp_model_network.specs.Events.{Occurs, visit_of, after_visit, after_none}
+use Rattle.grasp_model_network.specs.Runs.{IsReached, first_world}
+use Rattle.grasp_model_network.specs.Sending as network
+use Rattle.grasp_model_network.specs.Sending.{seat_with, drained_at, drained_from}
+use Rattle.grasp_model_network.specs.Setting.{Setting}
+use Rattle.grasp_model_network.specs.Streams.{StreamEnd, StreamState}
+use Rattle.grasp_model_network.specs.Visits.{Visit, Choice}
+use Rattle.grasp_model_network.specs.World.{Seat, WorldState, seat_at, with_seat}
+use Rattle.grasp_model_network.specs.declared.event.Event.{Event}
+use Rattle.grasp_laws_delivery.proofs.AfterSteps.{IsWanted, same, wanted, none_wanted}
+use Rattle.grasp_laws_delivery.proofs.Holding.{IsStep, parts_keep}
+use Rattle.grasp_laws_delivery.specs.Ready.{HasGoodEnds}
+use Rattle.grasp_laws_negotiation.proofs.Drained.{drain_is, had}
+use Rattle.grasp_laws_negotiation.proofs.Harmless.{Harmless, handed_harmless}
+use Rattle.grasp_laws_negotiation.proofs.Networks.{network_stands, steps}
+use Rattle.grasp_laws_negotiation.proofs.Standing.{NetworkStands}
+use Rattle.grasp_laws_negotiation.proofs.Steps.{every_at}
+use Rattle.grasp_laws_negotiation.specs.Grounds.{Grounds}
+use Rattle.grasp_laws_negotiation.proofs.EndsSeen.{NearAt, FarAt}
+use Rattle.grasp_laws_negotiation.proofs.TalksSeen.{near_said, TalksSeen, AreEven, move_seen}
+
+-- ---- the near ends
+
+even_ends : (l : Grounds) (s : Setting) (w : WorldState) → IsReached s w → AreEven w
+even_ends l s w r place t is =
+    (every_at (λ (x : StreamState). HasGoodEnds s (length w.seats) w.dials x.near x.number x.far) w.streams place t (l.ready.ends s w r) is).even
+
+-- ---- a drain
+
+module _ (l : Grounds) (s : Setting) (w : WorldState) (r : IsReached s w) (each : TalksSeen w) (node max : ℕ) (seat : Seat) (here : seat_at w node ≡ Some seat) (least : 1 ≤ node) where
+  abbrev core : NodeState
+  core = begin seat.core seat.core.reading
+
+  abbrev y : WorldState
+  y = drained_from s w node seat (begin seat.core seat.core.reading) max
+
+  harmless : Harmless w.streams y.streams
+  harmless = handed_harmless s (with_seat w node (seat_with seat (after_drain core max) seat.agent)) node seat (take max core.queue) (closes core max)
+
+  still_even : AreEven y
+  still_even place u is = let m = harmless.back place u is in subst (λ (e : StreamEnd). e.number % 2 ≡ 0) (sym m.like.near) (even_ends l s w r place m.before m.stands)
+
+  drain_seen : TalksSeen y
+  drain_seen =
+      let k : NetworkStands w = network_stands l s w r in
+      move_seen l s w y r still_even (drain_is l s w r k node max seat here least) k each
+
+drained_seen : (l : Grounds) (s : Setting) (w : WorldState) (node max : ℕ) → IsReached s w → TalksSeen w → 1 ≤ node → TalksSeen (network.drained s w node max)
+unfolding network.drained
+drained_seen l s w node max r each least = by_seat (seat_at w node) refl where
+  by_seat : (o : Option Seat) → seat_at w node ≡ o → TalksSeen (drained_at s w node max o)
+  by_seat None here = each
+  by_seat (Some seat) here = drain_seen l s w r each node max seat here least
+
+-- ---- a want
+
+module _ (w : WorldState) (each : TalksSeen w) (node : ℕ) (seat : Seat) (agent : AgentState) (least : 1 ≤ node) (here : seat_at w node ≡ Some seat) where
+  want_seen : TalksSeen (with_seat w node (seat_with seat seat.core agent))
+  want_seen place t is = record {
+    speaks = (each place t is).speaks;
+    near = λ o found. let h = had w node seat agent least here t.near.node o found in
+        subst (λ (z : NodeState). NearAt z t.near.number (near_said t)) (sym h.2) ((each place t is).near h.0 h.1);
+    far = λ e at o found. let h = had w node seat agent least here e.node o found in
+        subst (λ (z : NodeState). FarAt z e.number (near_said t)) (sym h.2) ((each place t is).far e at h.0 h.1);
+  }
+
+wanted_seen : (w x : WorldState) → TalksSeen w → IsWanted w x → TalksSeen x
+wanted_seen w x each (same e) = subst TalksSeen (sym e) each
+wanted_seen w x each (wanted node seat agent least here e) = subst TalksSeen (sym e) (want_seen w each node seat agent least here)
+
+-- ---- every network
+
+first_seen : (s : Setting) → TalksSeen (first_world s)
+unfolding first_world
+first_seen s place t is = absurd (none-some t is)
+
+step_seen : (l : Grounds) (s : Setting) (w : WorldState) (e : Event) (c : Choice) (v : Visit) → IsReached s w → TalksSeen w → Occurs s w e c → visit_of s w e ≡ Some v → IsStep e → IsReached s (after_visit s w e v c)
+    → TalksSeen (after_visit s w e v c)
+step_seen l s w e c v r each o is stepping q =
+    let k : NetworkStands w = network_stands l s w r in
+    let y : WorldState = after_visit s w e v c in
+    move_seen l s w y r (even_ends l s y q) (steps l s w e c v r k o is stepping q) k each
+
+pub talks_seen : (l : Grounds) (s : Setting) (w : WorldState) → IsReached s w → TalksSeen w
+talks_seen l s w r = parts_keep s TalksSeen (record {
+  steps = λ w e c v r each o is stepping q. step_seen l s w e c v r each o is stepping q;
+  wants = λ w e r each fit. wanted_seen w (after_none s w e) each (none_wanted s w e fit);
+  drains = λ w node max r each least. drained_seen l s w node max r each least;
+}) (first_seen s) w r

@@ -1,0 +1,6 @@
+pub mod GoingOn
+pub mod Grounds
+pub mod Knowing
+pub mod Negotiations
+pub mod Safe
+pub mod Streams

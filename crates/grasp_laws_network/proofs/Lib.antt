@@ -1,0 +1,16 @@
+pub mod Agreeing
+pub mod Counted
+pub mod EachNode
+pub mod Going
+pub mod GoodPlans
+pub mod Growing
+pub mod Here
+pub mod Links
+pub mod Opened
+pub mod Openings
+pub mod Others
+pub mod Queues
+pub mod Reached
+pub mod Routing
+pub mod Sent
+pub mod Staying

@@ -1,0 +1,14 @@
+pub mod Alone
+pub mod Beginnings
+pub mod Consistent
+pub mod Dials
+pub mod Drains
+pub mod Laws
+pub mod Means
+pub mod MeansRegistry
+pub mod MeansRequests
+pub mod MeansSearches
+pub mod Numbers
+pub mod Order
+pub mod Relays
+pub mod Sends

@@ -1,0 +1,144 @@
+-- What an open offer of a giver is at its node: that of an entry, or in doubt.
+use Rattle.std.proofs.Common.{◌≡◌, refl, sym, ap, ◌∙◌, subst, ℕ, Bool, true, false, inl, inr, ◌⊎◌, Contains, Option, Some, None, slice_get}
+use Rattle.std.proofs.lemmas.Bool.{true≢false, cases_eq}
+use Rattle.std.proofs.lemmas.Option.{same_Some}
+use Rattle.grasp_agent.proofs.Offers.{offer_there}
+use Rattle.grasp_agent.specs.Calls.{objective_name}
+use Rattle.grasp_agent.specs.declared.giving.Giving.{Giving}
+use Rattle.grasp_pool.specs.Holdings.{IsFree, IsListed}
+use Rattle.grasp_laws_session.proofs.Trailing.{trails_legal}
+use Rattle.grasp_session.proofs.Facts.{at_handle}
+use Rattle.grasp_session.specs.Conversation.{strip, requested, has_offered, IsLegal}
+use Rattle.grasp_session.specs.Laws.{IsView}
+use Rattle.grasp_session.specs.Made.{AreFresh, IsFresh}
+use Rattle.grasp_session.specs.Messages.{Far}
+use Rattle.grasp_session.specs.Runs.{WasMade}
+use Rattle.grasp_session.specs.Says.{IsAt}
+use Rattle.grasp_session.specs.Sessions.{SessionState}
+use Rattle.grasp_session.specs.Transcript.{Transcript, known, request_of}
+use Rattle.grasp_types.specs.Prefix.{AddressBlock as Prefix, span_of}
+use Rattle.grasp_types.specs.declared.objective.Objective.{Objective}
+use Rattle.grasp_types.specs.declared.session.Handle.{Handle}
+use Rattle.grasp_laws_network.specs.Authorities.{Holds, Keeps}
+use Rattle.grasp_model_network.specs.Runs.{IsReached}
+use Rattle.grasp_model_network.specs.Setting.{Setting}
+use Rattle.grasp_model_network.specs.Streams.{StreamEnd, StreamState}
+use Rattle.grasp_laws_network.specs.Views.{session_of_end}
+use Rattle.grasp_model_network.specs.World.{Seat, WorldState, seat_at}
+use Rattle.grasp_laws_agents.specs.GoingOn.{IsOwnedGone}
+use Rattle.grasp_laws_agents.specs.Owning.{IsOwned}
+use Rattle.grasp_laws_agents.specs.Giving.{IsOpenOffer, IsOwnSession, OfferStands, EntryStands, is_offering}
+use Rattle.grasp_laws_delivery.proofs.Worlds.{reached_in_order}
+use Rattle.grasp_laws_negotiation.specs.Negotiations.{IsNegotiation}
+use Rattle.grasp_laws_prefixes.proofs.OwnSessions.{one_session, IsSessionAt, session_there, IsViewOf, view_of}
+use Rattle.grasp_laws_prefixes.proofs.Speech.{deciding_closed, same_requested}
+use Rattle.grasp_laws_prefixes.specs.Grounds.{Grounds}
+use Rattle.grasp_laws_prefixes.specs.Apart.{IsSetAside, OffersAreSetAside}
+
+-- the session that made it: that of an entry with this offer, or one that is no longer live
+pub data Gave (seat : Seat) (x : SessionState) (p : Prefix) : Type 0 where
+  by_entry : (place : ℕ) (g : Giving) → slice_get seat.agent.giving place ≡ Some g → g.offer ≡ Some p → IsOwnSession seat.core.sessions g.handle Far x → Gave seat x p
+  by_gone : Contains seat.core.sessions.gone x → x.owner ≡ 1 → Gave seat x p
+
+-- a listener that has only heard the request has offered nothing
+fresh_offers : (v : Transcript) → IsFresh v → has_offered v.role (known v) ≡ false
+fresh_offers v f = ap (λ (u : Transcript). has_offered u.role (known u)) f.fresh
+
+module _ (l : Grounds) (s : Setting) (w : WorldState) (r : IsReached s w) where
+  module _ (node : ℕ) (seat : Seat) (here : seat_at w node ≡ Some seat) (x : SessionState) (p : Prefix) (role : x.view.role ≡ Far) (name : (request_of x.view).name ≡ objective_name) (legal : IsLegal (known x.view))
+      (is_open : IsOpenOffer x.view p) where
+    has_not : has_offered Far (known x.view) ≡ false → ⊥
+    has_not e = true≢false (sym is_open.offered.made ∙ (ap (λ k. has_offered k (known x.view)) role ∙ e))
+
+    -- an entry of this session has this offer
+    of_entry : (place : ℕ) (g : Giving) → slice_get seat.agent.giving place ≡ Some g → IsOwnSession seat.core.sessions g.handle Far x → Gave seat x p
+    of_entry place g at own = by_entry place g at (offer_is (is_offering seat.agent.act place) g.offer stands.offer) own where
+      stands : EntryStands seat.core.sessions seat.agent place g
+      stands = (l.give s w r node seat here).entries place g at
+
+      same : stands.session ≡ x
+      same = one_session seat.core.sessions g.handle stands.session x stands.own.at own.at
+
+      still_open : IsOpenOffer stands.session.view p
+      still_open = subst (λ (z : SessionState). IsOpenOffer z.view p) (sym same) is_open
+
+      offer_is : (b : Bool) (o : Option Prefix) → OfferStands b o stands.session.view → o ≡ Some p
+      offer_is true o d = absurd (deciding_closed stands.session.view p (subst (λ (z : SessionState). IsLegal (known z.view)) (sym same) legal) d still_open)
+      offer_is false None none = absurd (none p still_open)
+      offer_is false (Some q) has = sym has.offer ∙ still_open.offered.offer
+
+    own_live : (place : ℕ) → IsAt seat.core.sessions place x → x.owner ≡ 1 → Gave seat x p
+    own_live place at own =
+        let h : Handle = record { place = place; number = x.number } in
+        let mine : IsOwnSession seat.core.sessions h Far x = record { at = at_handle seat.core.sessions h x at refl; owner = own; role = role } in
+        let e = (l.give s w r node seat here).live h x p mine is_open in
+        of_entry e.0 e.1.0 e.1.1 (subst (λ k. IsOwnSession seat.core.sessions k Far x) (sym e.1.2) mine)
+
+    untaken_live : (place : ℕ) → IsAt seat.core.sessions place x → x.owner ≡ 0 → ⊥
+    untaken_live place at own =
+        let fresh : AreFresh seat.core.sessions = ((reached_in_order l.ties s w r).sound node seat here).1.fresh in
+        true≢false (sym is_open.offered.made ∙ fresh_offers x.view (fresh place x at own))
+
+    -- the session is agent 1's
+    pub gave : WasMade seat.core.sessions x → Gave seat x p
+    gave (inl live) = by_owner (cases_eq x.owner 1) (cases_eq x.owner 0) where
+      owned : IsOwned x
+      owned = l.owned s w r node seat here live.0 x live.1
+
+      by_owner : (x.owner ≡ 1) ⊎ (x.owner ≡ 1 → ⊥) → (x.owner ≡ 0) ⊎ (x.owner ≡ 0 → ⊥) → Gave seat x p
+      by_owner (inl own) u = own_live live.0 live.1 own
+      by_owner (inr foreign) (inl untaken) = absurd (untaken_live live.0 live.1 untaken)
+      by_owner (inr foreign) (inr taken) = absurd (owned.foreign taken foreign name)
+    gave (inr gone) = by_owner (cases_eq x.owner 1) (cases_eq x.owner 0) where
+      owned : IsOwnedGone x
+      owned = l.gone_owned s w r node seat here x gone
+
+      by_owner : (x.owner ≡ 1) ⊎ (x.owner ≡ 1 → ⊥) → (x.owner ≡ 0) ⊎ (x.owner ≡ 0 → ⊥) → Gave seat x p
+      by_owner (inl own) u = by_gone gone own
+      by_owner (inr foreign) (inl untaken) = absurd (has_not (owned.untaken untaken).1)
+      by_owner (inr foreign) (inr taken) = absurd (owned.foreign taken foreign name)
+
+  -- the node has reserved it, or has it in doubt
+  pub gave_listed : (node : ℕ) (seat : Seat) → seat_at w node ≡ Some seat → (x : SessionState) (p : Prefix) → x.view.role ≡ Far → IsOpenOffer x.view p → Gave seat x p → IsListed seat.agent.pool p
+  gave_listed node seat here x p role is_open (by_entry place g at offer own) = inl (((l.kept s w r node seat here).reserved p).1 (offer_there seat.agent.giving place g p at offer))
+  gave_listed node seat here x p role is_open (by_gone gone own) = inr ((l.give s w r node seat here).gone x p gone own role is_open)
+
+  -- what is reserved or in doubt isn't held there
+  pub listed_unheld : (node : ℕ) (seat : Seat) → seat_at w node ≡ Some seat → (p : Prefix) → IsListed seat.agent.pool p → (a : ℕ) → span_of p a → ¬ IsFree seat.agent.pool a
+  listed_unheld node seat here p listed a i free = (l.kept s w r node seat here).pool.held p a listed i free
+
+  -- ---- what is offered is set aside
+
+  -- of a session at this end that saw this
+  module _ (e : StreamEnd) (place : ℕ) (t : StreamState) (stands : slice_get w.streams place ≡ Some t) (negotiation : IsNegotiation t) (x : SessionState) (there : IsSessionAt w e x) (p : Prefix)
+      (view : IsView Far t.said x.view) (name : (requested (strip t.said)).name ≡ objective_name) (is_open : IsOpenOffer x.view p) where
+    pub gave_there : Gave there.seat x p
+    gave_there =
+        gave e.node there.seat there.here x p view.role (ap (λ (o : Objective). o.name) view.same_request ∙ name)
+        (trails_legal Far (known x.view) (strip t.said) (l.in_order s w r place t stands negotiation).legal view.trails) is_open there.made
+
+    pub kept_there : Keeps w e.node p
+    kept_there = record { seat = there.seat; here = there.here; listed = gave_listed e.node there.seat there.here x p view.role is_open gave_there }
+
+  pub set_aside : OffersAreSetAside w
+  set_aside place e v p giver is_open = by_view (view_of w giver.talk Far v giver.saw) where
+    view : IsView Far giver.talk.said v
+    view = (l.known s w r place giver.talk giver.stands giver.negotiation).views Far v giver.saw
+
+    name : (requested (strip giver.talk.said)).name ≡ objective_name
+    name = ap (λ (o : Objective). o.name) (same_requested giver.talk.said) ∙ giver.objective
+
+    aside : Keeps w e.node p → IsSetAside w e.node p
+    aside kept = record { kept = kept; unheld = unheld } where
+      unheld : (a : ℕ) → span_of p a → ¬ Holds w e.node a
+      unheld a i h =
+          let same : h.seat ≡ kept.seat = same_Some h.seat kept.seat (sym h.here ∙ kept.here) in
+          listed_unheld e.node kept.seat kept.here p kept.listed a i (subst (λ (z : Seat). IsFree z.agent.pool a) same h.free)
+
+    by_view : IsViewOf w giver.talk Far v → IsSetAside w e.node p
+    by_view z = aside (kept_there e place giver.talk giver.stands giver.negotiation z.session there p (subst (λ u. IsView Far giver.talk.said u) (sym z.view) view) name (subst (λ u. IsOpenOffer u p) (sym z.view) is_open)) where
+      at : z.at ≡ e
+      at = same_Some z.at e (sym z.ends ∙ giver.end_is)
+
+      there : IsSessionAt w e z.session
+      there = session_there l.ready s w r place giver.talk giver.stands Far e giver.end_is z.session (ap (λ k. session_of_end w (Some k)) (sym at) ∙ z.found)

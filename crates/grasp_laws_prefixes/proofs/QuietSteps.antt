@@ -1,0 +1,232 @@
+-- A step that isn't an agent's own, a drain and a want leave what every agent offers.
+use Rattle.std.proofs.Common.{◌≡◌, refl, sym, ap, ◌∙◌, subst, ℕ, ◌-◌, ◌≤◌, ◌==◌, Bool, true, false, inl, inr, List, [], ◌∷◌, fold, take, slice_set, Option, Some, None}
+use Rattle.std.proofs.lemmas.Bool.{eqb-true, eqb-false}
+use Rattle.std.proofs.lemmas.Option.{same_Some}
+use Rattle.grasp_model_node.specs.Begin.{begin}
+use Rattle.grasp_model_node.specs.Draining.{closes, after_drain}
+use Rattle.grasp_model_node.specs.Draining as core
+use Rattle.grasp_model_node.specs.Node.{NodeState}
+use Rattle.grasp_model_node.specs.Queue.{Queued, datagram, dial, send, encoding}
+use Rattle.grasp_session.specs.Messages.{other}
+use Rattle.grasp_types.specs.declared.message.Message.{Message}
+use Rattle.grasp_types.specs.declared.reply.Reply.{Reply}
+use Rattle.grasp_types.specs.declared.reply.Reply.TheVariants as reply
+use Rattle.grasp_types.specs.declared.traffic.Input.{Input}
+use Rattle.grasp_types.specs.declared.traffic.Input.TheVariants as input
+use Rattle.grasp_laws_network.proofs.EachNode.{drain_steps}
+use Rattle.grasp_laws_network.proofs.Here.{visits_are_here}
+use Rattle.grasp_laws_network.proofs.Others.{arrived_keeps, delivered_keeps, told_keeps}
+use Rattle.grasp_laws_network.proofs.Sent.{sending_keeps_nodes}
+use Rattle.grasp_laws_network.proofs.Staying.{wanting_changes}
+use Rattle.grasp_model_network.specs.EventSteps.{after_agent_call, after_arrival, after_clock, wanted_at, after_wanting, after_cut, datagram_visit, after_delivery, after_piece}
+use Rattle.grasp_model_network.specs.StreamChanges.{arrived, told, Reached, reached_side, side_named, delivered}
+use Rattle.grasp_model_network.specs.Events.{visit_of, after_visit, after_none, IsFit, Occurs}
+use Rattle.grasp_laws_network.specs.Keeping.{IsHere, WantChanges}
+use Rattle.grasp_model_network.specs.Notes.{noted}
+use Rattle.grasp_model_network.specs.Routes.{Route, route_of}
+use Rattle.grasp_model_network.specs.Runs.{IsReached}
+use Rattle.grasp_model_network.specs.Sending as network
+use Rattle.grasp_model_network.specs.Sending.{seat_with, stepped, posted, having_sent, having_closed, handed_over, drained_from, drained_at}
+use Rattle.grasp_model_network.specs.Setting.{Setting, numbered}
+use Rattle.grasp_model_network.specs.Streams.{StreamState, stream_numbered, next_bytes}
+use Rattle.grasp_model_network.specs.Visits.{Visit, Choice, MayCome, VisitStep, no_choice}
+use Rattle.grasp_model_network.specs.World.{Seat, WorldState, seat_at, with_seat}
+use Rattle.grasp_model_network.specs.declared.event.Event.{Event}
+use Rattle.grasp_model_network.specs.declared.event.Event.TheVariants as event
+use Rattle.grasp_laws_agents.specs.Staying.{IsOthers}
+use Rattle.grasp_laws_delivery.proofs.AfterSteps.{IsPutOr, put_or}
+use Rattle.grasp_laws_delivery.proofs.Holding.{IsStep}
+use Rattle.grasp_laws_delivery.proofs.Came.Inputs.{at_visit, clock_visit_is, datagram_visit_is, opening_is, piece_is, cut_is}
+use Rattle.grasp_laws_prefixes.proofs.OwnSessions.{same_sessions}
+use Rattle.grasp_laws_prefixes.proofs.Places.{step_stays, same_stay, handed_stay}
+use Rattle.grasp_laws_prefixes.proofs.Standing.{SeatGoesOn, WorldGoesOn, AllStay}
+use Rattle.grasp_laws_prefixes.specs.Grounds.{Grounds}
+
+-- a step, and not one of an agent of prefixes
+abbrev pub IsOthersStep : Event → Type 0
+IsOthersStep (event.Want node length longest peer) = ⊥
+IsOthersStep (event.Agent node hold) = ⊥
+IsOthersStep (event.Drain node max) = ⊥
+IsOthersStep _ = Unit {0}
+
+steps_so : (e : Event) → IsOthersStep e → IsStep e
+steps_so (event.Want node length longest peer) o = absurd o
+steps_so (event.Agent node hold) o = absurd o
+steps_so (event.Drain node max) o = absurd o
+steps_so _ o = tt
+
+-- ---- what comes in such a step
+
+as_others : (v : Visit) (i : Input) → v.input ≡ i → IsOthers i → IsOthers v.input
+as_others v i e o = subst IsOthers (sym e) o
+
+step_others : (s : Setting) (w : WorldState) (e : Event) (v : Visit) → IsOthersStep e → IsFit s w e → visit_of s w e ≡ Some v → IsOthers v.input
+unfolding datagram_visit
+step_others s w (event.Clock node millis) v o fit is = as_others v (input.Drain 0) (clock_visit_is node millis v (seat_at w node) is).input_is tt
+step_others s w (event.Api node asa call hold) v o fit is = as_others v (input.Api asa call) (at_visit w node (input.Api asa call) v is).input_is fit.1
+step_others s w (event.Datagram index hold) v o fit is =
+    let d = datagram_visit_is w v (numbered w.datagrams index) is in
+    as_others v (input.Datagram d.0.route.link d.0.route.from (encoding d.0.message)) d.1.input_is tt
+step_others s w (event.Arrive stream hold) v o fit is =
+    let p = opening_is s w stream v is in
+    as_others v (input.Opened (s.arrives_as v.node stream) (s.arrives_from stream p.near.plan.address)) p.is.input_is tt
+step_others s w (event.Bytes stream far count hold) v o fit is =
+    let p = piece_is w stream (side_named far) count v is in
+    as_others v (input.Bytes p.reached.at.number (next_bytes p.reached.talk (other (side_named far)) count)) p.is.input_is tt
+step_others s w (event.Cut stream far hold) v o fit is =
+    let p = cut_is w stream (side_named far) v is in
+    as_others v (input.Closed p.reached.at.number) p.is.input_is tt
+step_others s w _ v o fit is = absurd o
+
+-- ---- what such a step leaves
+
+-- the node of the step is put, with its agent as it was
+seats_put : (w x y : WorldState) (v : Visit) (core : NodeState) → x.seats ≡ w.seats → y.seats ≡ (stepped x v core v.seat.agent).seats → y.seats ≡ slice_set w.seats (v.node - 1) (seat_with v.seat core v.seat.agent)
+unfolding stepped
+seats_put w x y v core e f = f ∙ ap (λ seats. slice_set seats (v.node - 1) (seat_with v.seat core v.seat.agent)) e
+
+step_seats : (s : Setting) (w : WorldState) (e : Event) (v : Visit) (c : Choice) → IsOthersStep e → (after_visit s w e v c).seats ≡ slice_set w.seats (v.node - 1) (seat_with v.seat c.after v.seat.agent)
+unfolding after_clock after_agent_call after_delivery after_arrival after_piece after_cut noted
+step_seats s w (event.Clock node millis) v c o = seats_put w w (after_clock w v c) v c.after refl refl
+step_seats s w (event.Api node asa call hold) v c o = seats_put w w (after_agent_call w v asa call c) v c.after refl refl
+step_seats s w (event.Datagram index hold) v c o = seats_put w w (after_delivery w v index c) v c.after refl refl
+step_seats s w (event.Arrive stream hold) v c o =
+    seats_put w (arrived w v (s.arrives_as v.node stream) c.reply (stream_numbered w.streams stream)) (after_arrival s w v stream c) v c.after
+    (arrived_keeps w v (s.arrives_as v.node stream) c.reply (stream_numbered w.streams stream)) refl
+step_seats s w (event.Bytes stream far count hold) v c o =
+    seats_put w (delivered w count (reached_side w stream (side_named far))) (after_piece w v stream (side_named far) count c) v c.after
+    (delivered_keeps w count (reached_side w stream (side_named far))) refl
+step_seats s w (event.Cut stream far hold) v c o =
+    seats_put w (told w (reached_side w stream (side_named far))) (after_cut w v stream (side_named far) c) v c.after
+    (told_keeps w (reached_side w stream (side_named far))) refl
+step_seats s w _ v c o = absurd o
+
+arrived_offers : (w : WorldState) (v : Visit) (number : ℕ) (r : Reply) (o : Option StreamState) → (arrived w v number r o).offers ≡ w.offers
+arrived_offers w v number r None = refl
+arrived_offers w v number r (Some t) = refl
+
+delivered_offers : (w : WorldState) (count : ℕ) (o : Option Reached) → (delivered w count o).offers ≡ w.offers
+delivered_offers w count None = refl
+delivered_offers w count (Some x) = refl
+
+told_offers : (w : WorldState) (o : Option Reached) → (told w o).offers ≡ w.offers
+told_offers w None = refl
+told_offers w (Some x) = refl
+
+step_offers : (s : Setting) (w : WorldState) (e : Event) (v : Visit) (c : Choice) → IsOthersStep e → (after_visit s w e v c).offers ≡ w.offers
+unfolding after_clock after_agent_call after_delivery after_arrival after_piece after_cut noted stepped
+step_offers s w (event.Want node length longest peer) v c o = absurd o
+step_offers s w (event.Agent node hold) v c o = absurd o
+step_offers s w (event.Arrive stream hold) v c o = arrived_offers w v (s.arrives_as v.node stream) c.reply (stream_numbered w.streams stream)
+step_offers s w (event.Bytes stream far count hold) v c o = delivered_offers w count (reached_side w stream (side_named far))
+step_offers s w (event.Cut stream far hold) v c o = told_offers w (reached_side w stream (side_named far))
+step_offers s w (event.Drain node max) v c o = absurd o
+step_offers s w _ v c o = refl
+
+-- ---- one node goes on, and the others are the same
+
+seat_still : (seat : Seat) → SeatGoesOn seat seat
+seat_still seat = record { life = refl; pool = refl; giving = refl; sessions = same_sessions seat.core.sessions }
+
+goes_on_from : (w y : WorldState) (node : ℕ) (seat new : Seat) → 1 ≤ node → seat_at w node ≡ Some seat → y.seats ≡ slice_set w.seats (node - 1) new → y.offers ≡ w.offers → AllStay w.streams y.streams → SeatGoesOn seat new
+    → WorldGoesOn w y
+goes_on_from w y node seat new least here seats offers talks goes = record { offers = offers; seats = each; streams = talks } where
+  each : (n : ℕ) (other : Seat) → seat_at y n ≡ Some other → (before : Seat) × (seat_at w n ≡ Some before) × SeatGoesOn before other
+  each n other found = by_node (put_or w.seats node new n other least (subst (λ xs. numbered xs n ≡ Some other) seats found)) where
+    by_node : IsPutOr w.seats node new n other → (before : Seat) × (seat_at w n ≡ Some before) × SeatGoesOn before other
+    by_node (inl t) = (seat, ap (λ k. seat_at w k) t.0 ∙ here, subst (λ z. SeatGoesOn seat z) t.1 goes)
+    by_node (inr t) = (other, t.1, seat_still other)
+
+pub world_still : (w : WorldState) → WorldGoesOn w w
+world_still w = record { offers = refl; seats = λ node new found. (new, found, seat_still new); streams = same_stay w.streams w.streams refl }
+
+-- ---- each of them
+
+module _ (l : Grounds) (s : Setting) where
+  pub others_go_on : (w : WorldState) (e : Event) (c : Choice) (v : Visit) → IsReached s w → Occurs s w e c → visit_of s w e ≡ Some v → IsOthersStep e → WorldGoesOn w (after_visit s w e v c)
+  others_go_on w e c v r o is others =
+      let here : IsHere w v = visits_are_here s w e v is in
+      let step : VisitStep v c = subst (λ (x : Option Visit). MayCome x c) is o.comes in
+      goes_on_from w (after_visit s w e v c) v.node v.seat (seat_with v.seat c.after v.seat.agent) here.member.least here.stands (step_seats s w e v c others) (step_offers s w e v c others)
+      (step_stays l.ready s w r e v c is (steps_so e others))
+      (record {
+        life = refl;
+        pool = refl;
+        giving = refl;
+        sessions = l.goes_on.steps s w r v.node v.seat here.stands v.now v.input c.coming c.reply c.after (step_others s w e v others o.fit is) step.steps;
+      })
+
+  -- ---- a drain
+
+  posted_offers : (w : WorldState) (m : Message) (route : Option Route) → (posted w m route).offers ≡ w.offers
+  posted_offers w m None = refl
+  posted_offers w m (Some route) = refl
+
+  sent_offers : (node : ℕ) (seat : Seat) (w : WorldState) (q : Queued) → (having_sent s node seat w q).offers ≡ w.offers
+  sent_offers node seat w (datagram link to m) = posted_offers w m (route_of s node link to)
+  sent_offers node seat w (dial stream to) = refl
+  sent_offers node seat w (send stream m) = refl
+
+  all_sent_offers : (node : ℕ) (seat : Seat) (qs : List Queued) (w : WorldState) → (fold (having_sent s node seat) w qs).offers ≡ w.offers
+  all_sent_offers node seat [] w = refl
+  all_sent_offers node seat (q ∷ qs) w = all_sent_offers node seat qs (having_sent s node seat w q) ∙ sent_offers node seat w q
+
+  all_closed_offers : (node : ℕ) (seat : Seat) (streams : List ℕ) (w : WorldState) → (fold (having_closed node seat) w streams).offers ≡ w.offers
+  all_closed_offers node seat [] w = refl
+  all_closed_offers node seat (stream ∷ streams) w = all_closed_offers node seat streams (having_closed node seat w stream)
+
+  handed_offers : (w : WorldState) (node : ℕ) (seat : Seat) (qs : List Queued) (streams : List ℕ) → (handed_over s w node seat qs streams).offers ≡ w.offers
+  unfolding handed_over
+  handed_offers w node seat qs streams = all_closed_offers node seat streams (fold (having_sent s node seat) w qs) ∙ all_sent_offers node seat qs w
+
+  drained_by : (w : WorldState) (node max : ℕ) (o : Option Seat) → IsReached s w → 1 ≤ node → seat_at w node ≡ o → WorldGoesOn w (drained_at s w node max o)
+  drained_by w node max None r least here = world_still w
+  drained_by w node max (Some seat) r least here =
+      from (begin seat.core seat.core.reading)
+      (record {
+        life = refl;
+        pool = refl;
+        giving = refl;
+        sessions = l.goes_on.steps s w r node seat here seat.core.reading (input.Drain max) no_choice.coming (reply.Outputs (core.drained (begin seat.core seat.core.reading) max))
+            (after_drain (begin seat.core seat.core.reading) max) tt (drain_steps seat.core max no_choice.coming);
+      })
+    where
+      from : (m : NodeState) → SeatGoesOn seat (seat_with seat (after_drain m max) seat.agent) → WorldGoesOn w (drained_from s w node seat m max)
+      from m goes =
+          let put = with_seat w node (seat_with seat (after_drain m max) seat.agent) in
+          goes_on_from w (drained_from s w node seat m max) node seat (seat_with seat (after_drain m max) seat.agent) least here (sending_keeps_nodes s put node seat (take max m.queue) (closes m max))
+          (handed_offers put node seat (take max m.queue) (closes m max)) (handed_stay s put node seat (take max m.queue) (closes m max)) goes
+
+  pub drains_go_on : (w : WorldState) (node max : ℕ) → IsReached s w → 1 ≤ node → WorldGoesOn w (network.drained s w node max)
+  unfolding network.drained
+  drains_go_on w node max r least = drained_by w node max (seat_at w node) r least refl
+
+  -- ---- a want
+
+  wanted_by : (w : WorldState) (node wanted longest peer : ℕ) (o : Option Seat) → 1 ≤ node → seat_at w node ≡ o → WorldGoesOn w (wanted_at s w node wanted longest peer o)
+  wanted_by w node wanted longest peer None least here = world_still w
+  wanted_by w node wanted longest peer (Some seat) least here =
+      from (wanted_at s w node wanted longest peer (Some seat)) (wanting_changes s w node wanted longest peer (Some seat) least here)
+    where
+      from : (y : WorldState) → WantChanges w y node → WorldGoesOn w y
+      from y changes = record {
+        offers = ap (λ (z : WorldState). z.offers) changes.rest;
+        seats = each;
+        streams = same_stay w.streams y.streams (ap (λ (z : WorldState). z.streams) changes.rest);
+      } where
+        each : (n : ℕ) (new : Seat) → seat_at y n ≡ Some new → (before : Seat) × (seat_at w n ≡ Some before) × SeatGoesOn before new
+        each n new found = by_node (n == node) refl where
+          own : n ≡ node → (before : Seat) × (seat_at w n ≡ Some before) × SeatGoesOn before new
+          own e =
+              let c = changes.own seat here in
+              let same : record seat { agent = record seat.agent { want = c.0 } } ≡ new = same_Some (record seat { agent = record seat.agent { want = c.0 } }) new (sym c.1 ∙ (ap (λ k. seat_at y k) (sym e) ∙ found)) in
+              (seat, ap (λ k. seat_at w k) e ∙ here, subst (λ z. SeatGoesOn seat z) same (record { life = refl; pool = refl; giving = refl; sessions = same_sessions seat.core.sessions }))
+
+          by_node : (b : Bool) → (n == node) ≡ b → (before : Seat) × (seat_at w n ≡ Some before) × SeatGoesOn before new
+          by_node true e = own (eqb-true n node e)
+          by_node false e = (new, sym (changes.others n (eqb-false n node e)) ∙ found, seat_still new)
+
+  pub wants_go_on : (w : WorldState) (e : Event) → IsFit s w e → WorldGoesOn w (after_none s w e)
+  unfolding after_wanting
+  wants_go_on w (event.Want node wanted longest peer) fit = wanted_by w node wanted longest peer (seat_at w node) fit.0.least refl
+  wants_go_on w _ fit = world_still w

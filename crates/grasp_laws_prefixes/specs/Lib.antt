@@ -1,0 +1,4 @@
+pub mod Apart
+pub mod Grounds
+pub mod Hands
+pub mod Known

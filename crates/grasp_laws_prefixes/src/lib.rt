@@ -1,0 +1,9 @@
+//! Laws of the prefixes in a network, which never overlap, and of the addresses of its roots, each of which is in one hand at every
+//! moment. No code runs here.
+#![tactic(auto)]
+
+mod address_laws;
+mod prefix_laws;
+
+pub use address_laws::{first_holdings, nothing_appears, nothing_is_lost, offers_are_known};
+pub use prefix_laws::{grounds_hold, prefixes_stay_apart};

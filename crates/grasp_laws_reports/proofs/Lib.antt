@@ -1,0 +1,10 @@
+pub mod Agreements
+pub mod Closed
+pub mod Closing
+pub mod LongerRuns
+pub mod OnlyPolls
+pub mod Onward
+pub mod Polling
+pub mod Readings
+pub mod SameRuns
+pub mod ToldOnce

@@ -1,0 +1,5 @@
+pub mod Expiry
+pub mod InWords
+pub mod Moves
+pub mod Sample
+pub mod Turns

@@ -1,0 +1,13 @@
+pub mod DiscoveryLaws
+pub mod FloodLaws
+pub mod LawKept
+pub mod LawLeast
+pub mod LawOthers
+pub mod Lifetimes
+pub mod Lists
+pub mod RefusalLaws
+pub mod RegistryCalls
+pub mod RegistryLaws
+pub mod Responses
+pub mod SearchLaws
+pub mod SynchronizationLaws

@@ -1,0 +1,9 @@
+pub mod Discoveries
+pub mod Dropping
+pub mod Floods
+pub mod Laws
+pub mod Refusals
+pub mod Registering
+pub mod Registrations
+pub mod Searches
+pub mod Synchronizations

@@ -1,0 +1,39 @@
+-- Facts of a network's worlds and seats that several crates use.
+use Rattle.std.proofs.Common.{[], refl, ℕ, Option, ◌≡◌, Some, None, sym, ap, ◌∙◌, List, All, ◌==◌, Bool, cond, slice_get, ◌-◌, true, false, ◌∷◌, zero, subst, suc}
+use Rattle.std.proofs.lemmas.List.Elements.{All-head, All-tail}
+use Rattle.std.proofs.lemmas.Option.{none-some, same_Some}
+use Rattle.grasp_model_network.specs.EventSteps.{agent_seat, agent_input}
+use Rattle.grasp_model_network.specs.GoodSetting.{IsGoodSetting}
+use Rattle.grasp_model_network.specs.Runs.{IsReached, first_world, IsRun, world_after, first_seat, answered_seat}
+use Rattle.grasp_model_network.specs.Setting.{Setting, numbered, Member}
+use Rattle.grasp_model_network.specs.Visits.{Visit}
+use Rattle.grasp_model_network.specs.World.{Seat}
+
+-- the first world of a good setting is reached
+pub first_reached : (s : Setting) → IsGoodSetting s → IsReached s (first_world s)
+unfolding IsRun world_after
+first_reached s good = record { good = good; happenings = []; run = tt; last = refl }
+
+-- an agent's visit has the agent's input
+pub agent_given : (node : ℕ) (v : Visit) (o : Option Seat) → agent_seat node o ≡ Some v → v.input ≡ agent_input v.seat.agent
+agent_given node v None is = absurd (none-some v is)
+agent_given node v (Some seat) is = at_seat (same_Some (record { node = node; seat = seat; now = seat.core.reading; input = agent_input seat.agent }) v is) where
+  at_seat : record { node = node; seat = seat; now = seat.core.reading; input = agent_input seat.agent } ≡ v → v.input ≡ agent_input v.seat.agent
+  at_seat e = sym (ap (λ (x : Visit). x.input) e) ∙ ap (λ (x : Visit). agent_input x.seat.agent) e
+
+slice_all : {X : Type 0} (P : X → Type 0) (xs : List X) (i : ℕ) (x : X) → All P xs → slice_get xs i ≡ Some x → P x
+slice_all P [] i x all e = absurd (none-some x e)
+slice_all P (y ∷ ys) zero x all e = subst P (same_Some y x e) (All-head P y ys all)
+slice_all P (y ∷ ys) (suc i) x all e = slice_all P ys i x (All-tail P y ys all) e
+
+-- what holds of all holds of each by its number
+pub numbered_all : {X : Type 0} (P : X → Type 0) (xs : List X) (n : ℕ) (x : X) → All P xs → numbered xs n ≡ Some x → P x
+numbered_all P xs n x all e = by_zero (n == 0) e where
+  by_zero : (b : Bool) → cond b None (slice_get xs (n - 1)) ≡ Some x → P x
+  by_zero true f = absurd (none-some x f)
+  by_zero false f = slice_all P xs (n - 1) x all f
+
+-- a member's first seat has had none before
+pub first_life : (m : Member) → (first_seat m).earlier ≡ []
+unfolding first_seat answered_seat
+first_life m = refl

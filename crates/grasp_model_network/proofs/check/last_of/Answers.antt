@@ -1,0 +1,14 @@
+use Rattle.std.proofs.Common.{rules, ◌≡◌, ◌+◌, ◌-◌, ◌<◌, ◌^◌, arith}
+use Rattle.grasp_pool.specs.Roots.{block_of}
+use Rattle.grasp_pool.specs.Spans.{size}
+use Rattle.grasp_pool.proofs.Dyadic.{ends_within, size_pos}
+use Rattle.grasp_model_network.proofs.check.last_of.Goals as goal
+
+pub overflow_add-result : goal.overflow_add-result
+overflow_add-result c =
+    let q = block_of c.args.root in
+    let w = ends_within q c.requires in
+    let pos = size_pos q in
+    let e : c.size_of-size.result ≡ size q = c.size_of-size.ensures in
+    let b : c.args.root.address + (c.size_of-size.result - 1) < 2 ^ 128 = omega arith in
+    search rules

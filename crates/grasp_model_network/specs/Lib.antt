@@ -1,0 +1,17 @@
+pub mod Checks
+pub mod EventSteps
+pub mod Events
+pub mod GoodSetting
+pub mod Notes
+pub mod Offers
+pub mod Plans
+pub mod Ranges
+pub mod Reports
+pub mod Routes
+pub mod Runs
+pub mod Sending
+pub mod Setting
+pub mod StreamChanges
+pub mod Streams
+pub mod Visits
+pub mod World

@@ -1,0 +1,131 @@
+-- A network: its nodes with their agents, and all that was ever sent between them. What it is made of, its setting, stands beside it.
+use Rattle.std.specs.Prelude.{ℕ, ◌+◌, ◌-◌, ◌==◌, ◌&&◌, Bool, List, Option, None, Some, find, length, sum_by, slice_set, nat_lt}
+use Rattle.grasp_agent.specs.States.{AgentState}
+use Rattle.grasp_cbor.specs.DataItem.{DataItem}
+use Rattle.grasp_model_node.specs.Node.{NodeState}
+use Rattle.grasp_model_node.specs.Queue.{encoding}
+use Rattle.grasp_types.specs.Prefix.{AddressBlock as Prefix}
+use Rattle.grasp_types.specs.declared.flood.FloodRead.{FloodRead}
+use Rattle.grasp_types.specs.declared.message.Message.{Message}
+use Rattle.grasp_types.specs.declared.objective.Objective.{Objective}
+use Rattle.grasp_types.specs.declared.session.Handle.{Handle}
+use Rattle.grasp_wire.specs.Laws.{encoded}
+use Rattle.grasp_model_network.specs.Routes.{Route}
+use Rattle.grasp_model_network.specs.Setting.{numbered}
+use Rattle.grasp_model_network.specs.Streams.{StreamEnd, StreamState}
+
+-- a node: what it is in its present life, what it was at the end of each earlier one, oldest first, and its agent. Nothing begins a life anew yet
+pub record Seat : Type 0 where
+  pub core : NodeState
+  pub earlier : List NodeState
+  pub agent : AgentState
+
+-- the number of a node's present life, from 0
+abbrev pub life_of : Seat → ℕ
+life_of seat = length seat.earlier
+
+-- a datagram that was sent: where it goes, and its message
+pub record SentDatagram : Type 0 where
+  pub route : Route
+  pub message : Message
+
+-- a flood that an agent began: its node, the objective's name, value and registered flags, and the loop count
+pub record FloodCall : Type 0 where
+  pub node : ℕ
+  pub name : List ℕ
+  pub value : DataItem
+  pub flags : ℕ
+  pub loops : ℕ
+
+-- a search that an agent began: its node, in which of its lives, and under which session number
+pub record SearchCall : Type 0 where
+  pub node : ℕ
+  pub life : ℕ
+  pub session : ℕ
+
+-- a discovery that a node answered with its own locator: what was looked for, and the flags that it had registered
+pub record DiscoveryAnswer : Type 0 where
+  pub node : ℕ
+  pub objective : Objective
+  pub flags : Option ℕ
+
+-- a handle that a node gave in one of its lives
+pub record GivenHandle : Type 0 where
+  pub node : ℕ
+  pub life : ℕ
+  pub handle : Handle
+
+-- a prefix that a node has reserved or in doubt, and the place of the stream for which it was taken. A prefix without a stream
+-- doesn't come yet: it is one that is to be given back and wasn't requested, or that was in doubt from the beginning of a life
+pub record Offered : Type 0 where
+  pub node : ℕ
+  pub prefix : Prefix
+  pub talk : Option ℕ
+
+-- the nodes, numbered from 1; the datagrams, numbered from 1 in the order of their sending; the streams, in the order in which their
+-- dials were queued; how many dials were sent; how many bytes of datagrams and streams; the floods that were begun, and those that
+-- were read; the searches that were begun; the discoveries that were answered; the handles that were given; what is reserved or
+-- in doubt for which stream; and the offers that were settled, of which there are none yet
+pub record WorldState : Type 0 where
+  pub seats : List Seat
+  pub datagrams : List SentDatagram
+  pub streams : List StreamState
+  pub dials : ℕ
+  pub byte_count : ℕ
+  pub flood_calls : List FloodCall
+  pub floods_read : List FloodRead
+  pub searches : List SearchCall
+  pub answers : List DiscoveryAnswer
+  pub handles : List GivenHandle
+  pub offers : List Offered
+  pub settled : List Offered
+
+-- ---- nodes
+
+abbrev pub seat_at : WorldState → ℕ → Option Seat
+seat_at w node = numbered w.seats node
+
+abbrev pub with_seat : WorldState → ℕ → Seat → WorldState
+with_seat w node seat = record w { seats = slice_set w.seats (node - 1) seat }
+
+-- the stream of this number at a node in its present life
+abbrev pub end_of : ℕ → Seat → ℕ → StreamEnd
+end_of node seat stream = record { node = node; life = life_of seat; number = stream }
+
+-- ---- handles
+
+-- the handle of this number was given by this node in this life
+abbrev pub is_given : ℕ → ℕ → ℕ → GivenHandle → Bool
+is_given node life number g = g.node == node && (g.life == life && g.handle.number == number)
+
+abbrev pub place_in : Option GivenHandle → ℕ
+place_in None = 0
+place_in (Some g) = g.handle.place
+
+abbrev pub place_at : WorldState → ℕ → ℕ → Option Seat → ℕ
+place_at w node number None = 0
+place_at w node number (Some seat) = place_in (find (is_given node (life_of seat) number) w.handles)
+
+-- the place of the handle with this number that a node gave in its present life, and 0 where it gave none
+abbrev pub handle_place : WorldState → ℕ → ℕ → ℕ
+handle_place w node number = place_at w node number (seat_at w node)
+
+-- ---- how much was sent
+
+abbrev pub datagram_bytes : SentDatagram → ℕ
+datagram_bytes d = length (encoding d.message)
+
+abbrev pub stream_bytes : StreamState → ℕ
+stream_bytes t = length (encoded t.from_near.sent) + length (encoded t.from_far.sent)
+
+-- the bytes of all datagrams and streams that were sent; a law says that the network's count is this
+unfoldable pub bytes_sent : WorldState → ℕ
+bytes_sent w = sum_by datagram_bytes w.datagrams + sum_by stream_bytes w.streams
+
+-- how many bytes may be sent
+abbrev pub most_bytes : ℕ
+most_bytes = 268435456
+
+-- more was sent than may be
+abbrev pub is_too_much : WorldState → Bool
+is_too_much w = nat_lt most_bytes w.byte_count

@@ -1,0 +1,3 @@
+pub mod ClosingThenGone
+pub mod Facts
+pub mod OneAddition

@@ -1,0 +1,43 @@
+-- Laws on the runs of scripts.
+use Rattle.std.specs.Prelude.{◌≡◌, ℕ, List}
+use Rattle.grasp_model_network.specs.Runs.{IsRun, world_after, world_of}
+use Rattle.grasp_model_network.specs.Setting.{Setting, script_setting}
+use Rattle.grasp_model_network.specs.World.{WorldState}
+use Rattle.grasp_model_network.specs.declared.plan.WorldPlan.{WorldPlan}
+use Rattle.grasp_model_network.specs.Plans.{IsGoodPlan}
+use Rattle.grasp_model_script.specs.LineRuns.{LineRun}
+use Rattle.grasp_script.specs.declared.line.Line.{Line}
+use Rattle.grasp_model_script.specs.ScriptRuns.{MayRunAll, network_after, happenings_from, RunsSafely, IsRunText, Replays}
+use Rattle.grasp_model_script.specs.Stops.{SendsTooMuch, IsStoppedText, TextSendsTooMuch}
+use Rattle.grasp_model_script.specs.Summary.{IsSummary}
+
+-- a run of lines is a run of their events
+pub record LinesRunEvents (s : Setting) (w : WorldState) (xs : List LineRun) : Type 0 where
+  pub run : IsRun s w (happenings_from s w xs)
+  pub last : network_after s w xs ≡ world_after s w (happenings_from s w xs)
+
+abbrev pub RunsOfLinesAreRuns : Type 0
+RunsOfLinesAreRuns = (s : Setting) (w : WorldState) (xs : List LineRun) → MayRunAll s w xs → LinesRunEvents s w xs
+
+-- however lines come out in the network of a good plan, each network that they lead to is safe
+abbrev pub EachRunIsSafe : Type 0
+EachRunIsSafe = (plan : WorldPlan) (xs : List LineRun) → IsGoodPlan plan → MayRunAll (script_setting plan) (world_of plan) xs → RunsSafely plan xs
+
+-- ---- a script has one run
+
+-- the run of a script has one text
+pub record TextsAgree : Type 0 where
+  -- of its lines in the network of a plan
+  pub lines : (plan : WorldPlan) (lines : List Line) (a b : List ℕ) → IsRunText plan lines a → IsRunText plan lines b → a ≡ b
+  -- up to where it sends too much
+  pub stopped : (plan : WorldPlan) (lines : List Line) (a b : List ℕ) → IsStoppedText plan lines a → IsStoppedText plan lines b → a ≡ b
+  -- of a text that is a script
+  pub replays : (text a b : List ℕ) → Replays text a → Replays text b → a ≡ b
+  -- a text that is a script has one summary for a number
+  pub summaries : (text : List ℕ) (number : ℕ) (a b : List ℕ) → IsSummary text number a → IsSummary text number b → a ≡ b
+
+-- a run that ends sends never too much
+pub record RunsOrStops : Type 0 where
+  pub lines : (plan : WorldPlan) (lines : List Line) (a : List ℕ) → IsRunText plan lines a → ¬ SendsTooMuch plan lines
+  pub replays : (text a : List ℕ) → Replays text a → ¬ TextSendsTooMuch text
+  pub summaries : (text : List ℕ) (number : ℕ) (a : List ℕ) → IsSummary text number a → ¬ TextSendsTooMuch text

@@ -1,5 +1,0 @@
-use Rattle.grasp_network.proofs.GoodPlans.{script_pool_opens}
-use Rattle.grasp_network.proofs.setting_laws.script_pools_open.Goals as goal
-
-pub returns : goal.returns
-returns c = script_pool_opens

@@ -1,5 +1,0 @@
-use Rattle.grasp_network_addresses.proofs.Listings.{offers_are_known}
-use Rattle.grasp_network_addresses.proofs.laws.offers_are_known.Goals as goal
-
-pub returns : goal.returns
-returns c = offers_are_known c.grounds_hold.ensures

@@ -1,3 +1,0 @@
-pub mod Locators
-pub mod Sources
-pub mod Laws

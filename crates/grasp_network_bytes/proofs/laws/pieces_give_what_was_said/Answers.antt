@@ -1,5 +1,0 @@
-use Rattle.grasp_network_bytes.proofs.Fronts.{fronts_are_cut, pieces_add}
-use Rattle.grasp_network_bytes.proofs.laws.pieces_give_what_was_said.Goals as goal
-
-pub returns : goal.returns
-returns c = record { cut = fronts_are_cut; add = pieces_add }

@@ -1,5 +1,0 @@
-use Rattle.grasp_network_bytes.proofs.SaidNetworks.{said_is_sent_or_queued}
-use Rattle.grasp_network_bytes.proofs.laws.what_is_said_is_sent_or_queued.Goals as goal
-
-pub returns : goal.returns
-returns c = said_is_sent_or_queued c.streams_are_ready.ensures

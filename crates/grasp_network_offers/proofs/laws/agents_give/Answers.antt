@@ -1,5 +1,0 @@
-use Rattle.grasp_network_offers.proofs.Agents.{agents_give}
-use Rattle.grasp_network_offers.proofs.laws.agents_give.Goals as goal
-
-pub returns : goal.returns
-returns c = agents_give c.ties_are_kept.ensures c.calls_mean.ensures c.own_sessions_go_on.ensures.begins c.agents_are_kept.ensures

@@ -1,5 +1,0 @@
-use Rattle.grasp_network_outcomes.proofs.Closed.{cuts_are_final}
-use Rattle.grasp_network_outcomes.proofs.laws.cuts_are_final.Goals as goal
-
-pub returns : goal.returns
-returns c = cuts_are_final c.streams_are_ready.ensures

@@ -1,5 +1,0 @@
-use Rattle.grasp_network_prefixes.proofs.Safe.{stay_apart}
-use Rattle.grasp_network_prefixes.proofs.laws.prefixes_stay_apart.Goals as goal
-
-pub returns : goal.returns
-returns c = stay_apart c.grounds_hold.ensures

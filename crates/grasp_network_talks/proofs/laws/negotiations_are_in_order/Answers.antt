@@ -1,5 +1,0 @@
-use Rattle.grasp_network_talks.proofs.Lawful.{all_in_order}
-use Rattle.grasp_network_talks.proofs.laws.negotiations_are_in_order.Goals as goal
-
-pub returns : goal.returns
-returns c = all_in_order c.negotiations_are_talks.ensures

@@ -1,5 +1,0 @@
-use Rattle.grasp_network_talks.proofs.Lawful.{talks_safe}
-use Rattle.grasp_network_talks.proofs.laws.talks_are_safe.Goals as goal
-
-pub returns : goal.returns
-returns c = talks_safe c.negotiations_are_talks.ensures

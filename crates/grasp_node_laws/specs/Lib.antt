@@ -1,3 +1,0 @@
-pub mod Dials
-pub mod Order
-pub mod Sends

@@ -1,0 +1,47 @@
+use Rattle.std.proofs.Common.{◌≡◌, ◌∙◌, refl, ap, inl, subst, ℕ, [], List}
+use Rattle.grasp_model_node.specs.Node.{first_node}
+use Rattle.grasp_node_main.specs.Crew.{crew_of, crew_with}
+use Rattle.grasp_node_main.specs.Seats.{SeatsStand}
+use Rattle.grasp_node_main.specs.Tells.{LinksTold, links_told, told}
+use Rattle.grasp_node_main.specs.declared.plan.BeaconPlan.{BeaconPlan}
+use Rattle.grasp_node_main.specs.declared.plan.DaemonPlan.{DaemonPlan}
+use Rattle.grasp_node_main.specs.declared.seated_agent.SeatedAgent.{SeatedAgent}
+use Rattle.grasp_node_main.specs.declared.worker.Worker.{Worker}
+use Rattle.grasp_pool.specs.declared.roots.RootPrefix.{RootPrefix}
+use Rattle.grasp_node_main.proofs.Ending.{runs}
+use Rattle.grasp_node_main.proofs.Opened.{few_seats}
+use Rattle.grasp_node_main.proofs.run.run_node.Goals as goal
+
+-- the agents that were opened are the plan's
+of_plan : (plan : DaemonPlan) (held : List RootPrefix) (announced : List BeaconPlan) (read : List (List ℕ)) (seats : List SeatedAgent) → held ≡ plan.roots → announced ≡ plan.beacons → read ≡ plan.readers
+    → SeatsStand (crew_with held plan.wants announced read) [] 0 seats → SeatsStand (crew_of plan) [] 0 seats
+of_plan plan held announced read seats roots beacons readers stand =
+    let crew : crew_with held plan.wants announced read ≡ crew_of plan =
+    ap (λ x. crew_with x plan.wants announced read) roots
+    ∙ ap (λ x. crew_with plan.roots plan.wants x read) beacons
+    ∙ ap (λ x. crew_with plan.roots plan.wants plan.beacons x) readers in
+    subst (λ (ws : List Worker). SeatsStand ws [] 0 seats) crew stand
+
+pub run-requires-after_bounds : goal.run-requires-after_bounds
+run-requires-after_bounds g c κs within =
+    let plan = c.args.plan in
+    few_seats plan.roots plan.wants plan.beacons plan.readers c.in-Ok.daemon.seats.items c.requires.beacons c.requires.readers
+    (of_plan plan c.slice-held.result.now c.slice-announced.result.now c.slice-read.result.now c.in-Ok.daemon.seats.items c.slice-held.ensures c.slice-announced.ensures c.slice-read.ensures c.in-Ok.ensures.seats)
+
+pub returns-in-Ok-run : goal.returns-in-Ok-run
+returns-in-Ok-run g c =
+    let tell : _ → LinksTold = λ links. links_told (g.L.Links.is_open links) (g.L.Links.plans links) (g.L.Links.waits links) (g.L.Links.given links) (g.L.Links.handed links) (g.L.Links.faults links) in
+    let plan = c.args.plan in
+    let seats = of_plan plan c.slice-held.result.now c.slice-announced.result.now c.slice-read.result.now c.in-Ok.daemon.seats.items c.slice-held.ensures c.slice-announced.ensures c.slice-read.ensures c.in-Ok.ensures.seats in
+    let ran = c.in-Ok-run.ensures (first_node plan.node) (crew_of plan) c.in-Ok.ensures.core seats in
+    runs plan (told (g.C.Clock.readings c.args.clock.now) (tell c.args.links.now)) (told (g.C.Clock.readings c.run.new.clock) (tell c.run.new.links)) c.in-Ok-run.daemon c.unless_stopped.result
+    ran c.unless_stopped.ensures.same c.unless_stopped.ensures.going
+
+pub returns-in-Ok : goal.returns-in-Ok
+returns-in-Ok g c =
+    let plan = c.args.plan in
+    let seats = of_plan plan c.slice-held.result.now c.slice-announced.result.now c.slice-read.result.now c.in-Ok.daemon.seats.items c.slice-held.ensures c.slice-announced.ensures c.slice-read.ensures c.in-Ok.ensures.seats in
+    inl (c.in-Err-run.ensures (first_node plan.node) (crew_of plan) c.in-Ok.ensures.core seats)
+
+pub returns : goal.returns
+returns g c = inl refl

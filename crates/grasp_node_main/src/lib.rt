@@ -1,0 +1,43 @@
+//! A node and its agents, which call its core beside each other.
+//!
+//! A turn of the network loop reads the clock, asks the links once, gives what they gave to the core, and drains the core into
+//! the links. Each agent has a thread of its own, in which it makes one call in each of its turns. What all callers did is one
+//! history of the core, which the contracts speak of.
+#![tactic(auto)]
+
+mod beside;
+mod daemon;
+mod exchange;
+mod exit;
+mod gate;
+mod lines;
+mod manager;
+mod named_reader;
+mod opening;
+mod pace;
+mod passes;
+mod plan;
+mod planning;
+mod program;
+mod program_end;
+mod run;
+mod seated_agent;
+mod want_plan;
+mod words;
+mod worker;
+
+pub use daemon::Daemon;
+pub use exit::{Status, fault_line};
+pub use gate::{Gate, OpenGate};
+pub use lines::text_of;
+pub use manager::Manager;
+pub use named_reader::NamedReader;
+pub use plan::{BeaconPlan, DaemonPlan};
+pub use planning::{daemon_plan, link_plan};
+pub use program::{node_main, node_run};
+pub use program_end::{finish, print_text};
+pub use run::run_node;
+pub use seated_agent::SeatedAgent;
+pub use want_plan::WantPlan;
+pub use words::{Text, text_for};
+pub use worker::Worker;

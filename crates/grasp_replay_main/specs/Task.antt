@@ -1,0 +1,216 @@
+-- What the program is asked for, and what comes of it.
+use Rattle.std.specs.Prelude.{◌≡◌, ◌<◌, ◌⊎◌, if◌then◌else◌, ℕ, List, [], ◌∷◌, Option, None, Some, IfSome, codes, bytes_eq, length, option_map, ⊤}
+use Rattle.std.specs.Io.KnownBytes.{Appends}
+use Rattle.grasp_io.specs.Known.{AppendsFront}
+use Rattle.grasp_script.specs.Scripts.{text_lines, IsBadLine, IsNoScript}
+use Rattle.grasp_model_script.specs.ScriptRuns.{Replays, BeginsToReplay}
+use Rattle.grasp_model_script.specs.Stops.{TextSendsTooMuch}
+use Rattle.grasp_text.specs.Reading.{number_of}
+use Rattle.grasp_replay_main.specs.Gen.{Summarizes, Overruns}
+use Rattle.grasp_replay_main.specs.Pack.{Packs}
+use Rattle.grasp_replay_main.specs.Replay.{Stops}
+use Rattle.grasp_replay_main.specs.Show.{Shows}
+use Rattle.grasp_wire.specs.declared.fault.CutFault.TheVariants as cut
+use Rattle.grasp_replay_main.specs.declared.exit.Finding.TheVariants as finding
+use Rattle.grasp_replay_main.specs.declared.exit.Status.{Status}
+use Rattle.grasp_replay_main.specs.declared.exit.Status.TheVariants as status
+use Rattle.grasp_replay_main.specs.Limits.{input_limit, line_limit}
+use Rattle.grasp_replay_main.specs.declared.task.Task.{Task}
+use Rattle.grasp_replay_main.specs.declared.task.Task.TheVariants.{Show, Pack, Replay, Gen}
+use Rattle.grasp_replay_main.specs.declared.unfinished.Unfinished.{Unfinished}
+use Rattle.grasp_replay_main.specs.declared.unfinished.Unfinished.TheVariants as unfinished
+
+-- what one word asks for
+abbrev pub task_named : List ℕ → Option Task
+task_named word =
+    if bytes_eq word (codes "show") then Some Show else if bytes_eq word (codes "pack") then Some Pack else if bytes_eq word (codes "replay") then Some Replay else None
+
+-- what a word and a number ask for; the number is decimal, below 2 ^ 64
+abbrev pub task_numbered : List ℕ → List ℕ → Option Task
+task_numbered word number = if bytes_eq word (codes "gen") then option_map Gen (number_of 18446744073709551615 number) else None
+
+-- what the words ask for: one word does, or a word and a number
+abbrev pub task_of : List (List ℕ) → Option Task
+task_of [] = None
+task_of (word ∷ []) = task_named word
+task_of (word ∷ number ∷ []) = task_numbered word number
+task_of (word ∷ number ∷ other ∷ words) = None
+
+-- the task reads its input; `gen` has none
+abbrev pub ReadsInput : Task → Type 0
+ReadsInput Show = ⊤
+ReadsInput Pack = ⊤
+ReadsInput Replay = ⊤
+ReadsInput (Gen number) = ⊥
+
+-- what `show` makes of an input: all of it, or up to a finding
+abbrev pub ShowMakes : ℕ → List ℕ → List ℕ → Status → Type 0
+ShowMakes limit input output status.Ok = Shows limit input output None
+ShowMakes limit input output (status.Finding finding) = Shows limit input output (Some finding)
+ShowMakes limit input output status.Usage = ⊥
+ShowMakes limit input output (status.BadScript line) = ⊥
+ShowMakes limit input output status.ReadFault = ⊥
+ShowMakes limit input output status.WriteFault = ⊥
+ShowMakes limit input output status.OutOfMemory = ⊥
+ShowMakes limit input output status.TooLarge = ⊥
+
+-- what `pack` makes of an input: all of it, or up to a finding
+abbrev pub PackMakes : ℕ → List ℕ → List ℕ → Status → Type 0
+PackMakes limit input output status.Ok = Packs limit input output None
+PackMakes limit input output (status.Finding finding) = Packs limit input output (Some finding)
+PackMakes limit input output status.Usage = ⊥
+PackMakes limit input output (status.BadScript line) = ⊥
+PackMakes limit input output status.ReadFault = ⊥
+PackMakes limit input output status.WriteFault = ⊥
+PackMakes limit input output status.OutOfMemory = ⊥
+PackMakes limit input output status.TooLarge = ⊥
+
+-- what `replay` makes of an input: the text of its whole run, or of the run up to the line that sends too much
+abbrev pub ReplayMakes : List ℕ → List ℕ → Status → Type 0
+ReplayMakes input output status.Ok = Replays input output
+ReplayMakes input output (status.Finding finding) = ⊥
+ReplayMakes input output status.Usage = ⊥
+ReplayMakes input output (status.BadScript line) = ⊥
+ReplayMakes input output status.ReadFault = ⊥
+ReplayMakes input output status.WriteFault = ⊥
+ReplayMakes input output status.OutOfMemory = ⊥
+ReplayMakes input output status.TooLarge = Stops input output
+
+-- what `gen` makes of a number: the summary of the whole run, or nothing where the run sends too much
+abbrev pub GenMakes : ℕ → List ℕ → Status → Type 0
+GenMakes number output status.Ok = Summarizes number output
+GenMakes number output (status.Finding finding) = ⊥
+GenMakes number output status.Usage = ⊥
+GenMakes number output (status.BadScript line) = ⊥
+GenMakes number output status.ReadFault = ⊥
+GenMakes number output status.WriteFault = ⊥
+GenMakes number output status.OutOfMemory = ⊥
+GenMakes number output status.TooLarge = (output ≡ []) × Overruns number
+
+-- what the task makes of an input: the output, and the status with which the program ends once it is written
+abbrev pub Makes : Task → ℕ → List ℕ → List ℕ → Status → Type 0
+Makes Show limit input output ended = ShowMakes limit input output ended
+Makes Pack limit input output ended = PackMakes limit input output ended
+Makes Replay limit input output ended = ReplayMakes input output ended
+Makes (Gen number) limit input output ended = GenMakes number output ended
+
+-- where the task is cut off, a beginning of this may have been written: of what it makes of the input, or of what the run of a
+-- script reports as far as it goes
+abbrev pub MayBegin : Task → ℕ → List ℕ → List ℕ → Type 0
+MayBegin Show limit input output = (ended : Status) × ShowMakes limit input output ended
+MayBegin Pack limit input output = (ended : Status) × PackMakes limit input output ended
+MayBegin Replay limit input output = BeginsToReplay input output
+MayBegin (Gen number) limit input output = Summarizes number output
+
+-- the input is to be run as a script, and has more lines than one may have
+abbrev pub HasTooManyLines : Task → List ℕ → Type 0
+HasTooManyLines Show input = ⊥
+HasTooManyLines Pack input = ⊥
+HasTooManyLines Replay input = line_limit < length (text_lines input)
+HasTooManyLines (Gen number) input = ⊥
+
+-- the input is read, and has too many bytes
+abbrev pub HasTooManyBytes : Task → List ℕ → Type 0
+HasTooManyBytes Show input = input_limit < length input
+HasTooManyBytes Pack input = input_limit < length input
+HasTooManyBytes Replay input = input_limit < length input
+HasTooManyBytes (Gen number) input = ⊥
+
+-- the input has too many bytes, or too many lines
+abbrev pub IsTooLarge : Task → List ℕ → Type 0
+IsTooLarge task input = HasTooManyBytes task input ⊎ HasTooManyLines task input
+
+-- Inside: a script is run that sends more than may be sent: the input, or the one that is drawn
+abbrev pub RunsTooFar : Task → List ℕ → Type 0
+RunsTooFar Show input = ⊥
+RunsTooFar Pack input = ⊥
+RunsTooFar Replay input = TextSendsTooMuch input
+RunsTooFar (Gen number) input = Overruns number
+
+-- the input is to be run as a script, and is none: this line is bad
+abbrev pub IsBadScript : Task → List ℕ → ℕ → Type 0
+IsBadScript Show input line = ⊥
+IsBadScript Pack input line = ⊥
+IsBadScript Replay input line = IsBadLine input line × IsNoScript input
+IsBadScript (Gen number) input line = ⊥
+
+-- Inside: why the output that the task makes of the input isn't written whole
+abbrev pub IsUnfinished : Task → List ℕ → Unfinished → Type 0
+IsUnfinished task input unfinished.TooLarge = HasTooManyLines task input
+IsUnfinished task input (unfinished.BadScript line) = IsBadScript task input line × ¬ HasTooManyLines task input
+IsUnfinished task input unfinished.TooMuch = RunsTooFar task input × ¬ HasTooManyLines task input
+IsUnfinished task input unfinished.OutOfMemory = ⊤
+IsUnfinished task input unfinished.WriteFault = ¬ HasTooManyLines task input
+
+-- some input, which is what was left to read where that is told and the task reads it, isn't too large; what the task makes of
+-- it was written after what was written before, and nothing else, where that is told
+pub record Tells (task : Task) (limit : ℕ) (left before after : Option (List ℕ)) (ended : Status) : Type 0 where
+  pub input : List ℕ
+  pub told : ReadsInput task → IfSome left (λ all. input ≡ all)
+  pub small : ¬ IsTooLarge task input
+  pub output : List ℕ
+  pub makes : Makes task limit input output ended
+  pub written : Appends before after output
+
+-- the task was cut off on an input, which is what was left to read where that is known and the task reads it; of an output that the task
+-- may begin to write for it, a prefix of the bytes was written
+pub record BeginsToTell (task : Task) (limit : ℕ) (left before after : Option (List ℕ)) : Type 0 where
+  pub input : List ℕ
+  pub told : ReadsInput task → IfSome left (λ all. input ≡ all)
+  pub output : List ℕ
+  pub begins : MayBegin task limit input output
+  pub written : AppendsFront before after output
+
+-- what was left, where it is told, was read to its end
+abbrev pub IsReadToEnd : Option (List ℕ) → Option (List ℕ) → Type 0
+IsReadToEnd None after = ⊤
+IsReadToEnd (Some input) after = after ≡ Some []
+
+-- a finding isn't want of memory
+abbrev pub IsOfInput : Status → Type 0
+IsOfInput (status.Finding (finding.Cut cut.OutOfMemory)) = ⊥
+IsOfInput (status.Finding (finding.Cut fault)) = ⊤
+IsOfInput (status.Finding (finding.Truncated at)) = ⊤
+IsOfInput (status.Finding (finding.BadText line at)) = ⊤
+IsOfInput (status.Finding (finding.TooLong line)) = ⊤
+IsOfInput status.Ok = ⊤
+IsOfInput status.Usage = ⊤
+IsOfInput (status.BadScript line) = ⊤
+IsOfInput status.ReadFault = ⊤
+IsOfInput status.WriteFault = ⊤
+IsOfInput status.OutOfMemory = ⊤
+IsOfInput status.TooLarge = ⊤
+
+-- all was read, and all that the task makes of it was written
+abbrev pub IsDone : Status → Type 0
+IsDone status.Ok = ⊤
+IsDone (status.Finding finding) = ⊤
+IsDone status.Usage = ⊥
+IsDone (status.BadScript line) = ⊥
+IsDone status.ReadFault = ⊥
+IsDone status.WriteFault = ⊥
+IsDone status.OutOfMemory = ⊥
+IsDone status.TooLarge = ⊥
+
+-- How the task ends on an input within the program's limits while nothing outside fails: with what it makes of the
+-- input, which is cut off where a run sends too much, at the bad line of what is no script, or by want of memory.
+abbrev pub IsOutcome : Task → ℕ → List ℕ → Status → Type 0
+IsOutcome task limit input status.Ok = (output : List ℕ) × Makes task limit input output status.Ok
+IsOutcome task limit input (status.Finding finding) = (output : List ℕ) × Makes task limit input output (status.Finding finding)
+IsOutcome task limit input (status.BadScript line) = IsBadScript task input line
+IsOutcome task limit input status.OutOfMemory = ⊤
+IsOutcome task limit input status.Usage = ⊥
+IsOutcome task limit input status.ReadFault = ⊥
+IsOutcome task limit input status.WriteFault = ⊥
+IsOutcome task limit input status.TooLarge = (output : List ℕ) × Makes task limit input output status.TooLarge
+
+-- the task ended well, or ran out of memory
+abbrev pub IsOkOrMemory : Status → Type 0
+IsOkOrMemory status.Ok = ⊤
+IsOkOrMemory status.OutOfMemory = ⊤
+IsOkOrMemory (status.Finding finding) = ⊥
+IsOkOrMemory status.Usage = ⊥
+IsOkOrMemory (status.BadScript line) = ⊥
+IsOkOrMemory status.ReadFault = ⊥
+IsOkOrMemory status.WriteFault = ⊥
+IsOkOrMemory status.TooLarge = ⊥

@@ -1,5 +1,0 @@
-use Rattle.grasp_scenarios.proofs.OneRun.{runs_or_stops}
-use Rattle.grasp_scenarios.proofs.laws.runs_or_stops.Goals as goal
-
-pub returns : goal.returns
-returns c = runs_or_stops (record { runs = c.runs_agree.ensures; stops = c.stops_agree.ensures; scripts = c.texts_have_one_script.ensures })

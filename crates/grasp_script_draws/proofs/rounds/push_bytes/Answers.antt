@@ -1,0 +1,10 @@
+use Rattle.std.proofs.Common.{[], ◌∷◌, codes, decimal}
+use Rattle.grasp_text.proofs.Pushed.{some_pushed}
+use Rattle.grasp_script_draws.proofs.LinesWritten.{line_pushed}
+use Rattle.grasp_script_draws.proofs.rounds.push_bytes.Goals as goal
+
+pub returns : goal.returns
+returns c = line_pushed _ _ _ _ (codes "bytes") (decimal c.args.stream ∷ c.args.side.now ∷ decimal 9999 ∷ []) c.in_ok-push_str.ensures.bytes
+    (some_pushed _ _ _ (decimal c.args.stream ∷ []) (c.args.side.now ∷ decimal 9999 ∷ []) c.in_ok-push_number.ensures.text
+    (some_pushed _ _ _ (c.args.side.now ∷ []) (decimal 9999 ∷ []) c.in_ok-push_word.ensures.text c.in_ok-push_number-2.ensures.text))
+    c.in_ok-push_str-2.ensures.bytes

@@ -1,5 +1,0 @@
-use Rattle.grasp_session.proofs.Ends.{agree}
-use Rattle.grasp_session.proofs.laws.both_agree.Goals as goal
-
-pub returns : goal.returns
-returns c = agree

@@ -1,0 +1,12 @@
+//! Calls of items, of the types of messages, of links and of clocks, each with ample memory, that no worked row makes. The crates
+//! tested have no tests of their own, so that each is proved once.
+#![tactic(auto)]
+
+#[cfg(test)]
+mod items;
+#[cfg(test)]
+mod memory;
+#[cfg(test)]
+mod sockets;
+#[cfg(test)]
+mod types;

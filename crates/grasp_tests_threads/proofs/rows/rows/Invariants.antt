@@ -1,0 +1,4 @@
+use Rattle.grasp_tests_threads.proofs.rows.rows.Given as goal
+
+abbrev pub ghosts-differs : goal.ghosts-differs
+ghosts-differs g a = record { name = a.blank.name; parts = a.blank.parts }
