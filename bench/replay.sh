@@ -1,9 +1,9 @@
 #!/bin/sh
 # Times `grasp_replay gen` and `grasp_replay replay`.
 #
-#   bench/replay.sh
+#   bench/replay.sh [PROGRAM]      by default crates/grasp_replay/out/grasp_replay, which `rt ci` leaves there
 #
-# It needs the Rattle kit's `rt` and python3. The files that it makes are in a folder of /tmp. It prints seconds of processor
+# It needs python3. The files that it makes are in a folder of /tmp. It prints seconds of processor
 # time, the best of five runs each: for the 20,000 events of `gen 7`, and for `replay` of scripts of 50,000, 100,000 and
 # 200,000 lines, which are made by the rule of the drawn ones.
 set -eu
@@ -11,8 +11,11 @@ here=$(cd "$(dirname "$0")" && pwd)
 work=$(mktemp -d)
 trap 'rm -rf "$work"' EXIT
 
-(cd "$here/../crates/grasp_replay" && rt run -- --version)
-program=$here/../crates/grasp_replay/out/grasp_replay
+program=${1:-$(cd "$here/.." && pwd)/crates/grasp_replay/out/grasp_replay}
+if [ ! -x "$program" ]; then
+    echo "replay.sh: $program: it isn't there; run \`rt ci\` at the top of the repository, or name a program" >&2
+    exit 1
+fi
 
 # A script of so many rounds, of 25 lines each.
 script() {

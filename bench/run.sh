@@ -3,8 +3,8 @@
 #
 #   bench/run.sh [BYTES [PROGRAM]]      by default 16000000, at most 16777216
 #
-# PROGRAM is a grasp_replay that was built before; where none is given, `rt run` proves and builds one. It needs the Rattle
-# kit's `rt`, a C compiler, python3 and libcbor (Debian: libcbor-dev). The files that it makes are in a folder of /tmp. It
+# PROGRAM is by default crates/grasp_replay/out/grasp_replay, which `rt ci` leaves there. It needs a C compiler, python3 and
+# libcbor (Debian: libcbor-dev). The files that it makes are in a folder of /tmp. It
 # prints seconds of processor time in user mode, the best of five runs each: for `show` on a stream of so many bytes, and
 # for `pack` on lines of at most as many, the two programs and their ratio; and each of the words on about a half and a
 # quarter. Where valgrind is there, it then counts instructions: of `show` on 1,000,000 bytes, and of `pack` on the lines of
@@ -15,10 +15,10 @@ bytes=${1:-16000000}
 work=$(mktemp -d)
 trap 'rm -rf "$work"' EXIT
 
-program=${2:-}
-if [ -z "$program" ]; then
-    (cd "$here/../crates/grasp_replay" && rt run -- show </dev/null)
-    program=$here/../crates/grasp_replay/out/grasp_replay
+program=${2:-$(cd "$here/.." && pwd)/crates/grasp_replay/out/grasp_replay}
+if [ ! -x "$program" ]; then
+    echo "run.sh: $program: it isn't there; run \`rt ci\` at the top of the repository, or name a program" >&2
+    exit 1
 fi
 cc -O2 -o "$work/show_libcbor" "$here/show_libcbor.c" -lcbor
 cc -O2 -o "$work/pack_libcbor" "$here/pack_libcbor.c" -lcbor

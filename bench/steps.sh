@@ -36,7 +36,7 @@ for crate in "$here"/../crates/*/; do
 done
 cp "$here/../HANDLES" "$work/HANDLES"
 cp "$here/../crates.txt" "$work/crates.txt"
-echo 'grasp_measure: grasp_core grasp_cbor grasp_types grasp_wire grasp_io' >>"$work/crates.txt"
+echo 'grasp_measure: grasp_core grasp_model_node grasp_cbor grasp_types grasp_wire grasp_io' >>"$work/crates.txt"
 mkdir -p "$work/crates/grasp_measure/src"
 for file in "$here"/steps/*.rt.in; do
     cp "$file" "$work/crates/grasp_measure/src/$(basename "$file" .in)"

@@ -30,7 +30,7 @@ for crate in "$here"/../crates/*/; do
 done
 cp "$here/../HANDLES" "$work/HANDLES"
 cp "$here/../crates.txt" "$work/crates.txt"
-echo 'grasp_calling: grasp_shared grasp_core grasp_cbor grasp_types grasp_io' >>"$work/crates.txt"
+echo 'grasp_calling: grasp_shared grasp_core grasp_model_node grasp_cbor grasp_types grasp_io' >>"$work/crates.txt"
 mkdir -p "$work/crates/grasp_calling/src"
 for file in "$here"/threads/*.rt.in; do
     cp "$file" "$work/crates/grasp_calling/src/$(basename "$file" .in)"

@@ -7,7 +7,7 @@ For each crate one allocation of every test is refused: the first, the second, a
 on each time one that comes a half later, until no test gets so far. A test that ends with OutOfMemory or AllocError, or
 that compares an OutOfMemory with what it wanted, is as it must be. So is a write fault of the memory sink, whose growth was
 refused, and a call that was to be Ok. Every other failure is printed, to be read, and the exit status is 1: some tests of
-grasp_io, grasp_text and grasp_wire name what they got in words of their own. It needs the Rattle kit's `rt` and proves
+grasp_io name what they got in words of their own. It needs the Rattle kit's `rt` and proves
 nothing.
 """
 import pathlib

@@ -5,7 +5,7 @@ usage: refuse_program_memory.py [PROGRAM]      by default crates/grasp_replay/ou
 
 Each word of the program is run on a small input, first with ample memory and then once for each allocation of that run, which
 is refused; where a run has more than 500, the later ones are tried by steps of a tenth. A run is as it must be where it ends
-as the whole run does, with the same output; or with status 6, having written a beginning of that output. The line on standard
+as the whole run does, with the same output; or with status 6, having written a prefix of that output. The line on standard
 error is that of the status, or there is none, since the line wants memory too. Every other end is printed, as that by a signal,
 and the exit status is 1. It needs a C compiler for the piece that refuses, and a program that is linked with the C library as a
 shared one.

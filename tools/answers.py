@@ -3,13 +3,15 @@
 of its contract that say when such an answer comes and what stands after it.
 
 It is read from the sources: the items that a crate's lib.rt makes public, and the clauses behind their signatures. With --check
-it writes nothing, and ends with 1 where the document is another than the sources give.
+it writes nothing, names what differs, and ends with 1 where the document is another than the sources give.
 """
-import pathlib
 import re
 import sys
 
-TOP = pathlib.Path(__file__).resolve().parent.parent
+sys.dont_write_bytecode = True
+
+from specs import TOP, write_or_check
+
 PAGE = TOP / "docs" / "ANSWERS.md"
 ORDER = [line.split(":")[0].split()[0] for line in (TOP / "crates.txt").read_text().splitlines()
          if line and not line.startswith("#")]
@@ -288,7 +290,7 @@ def page():
             "Made by tools/answers.py from the sources: each public call of each library, with the answers that it has besides the",
             "plain one, and the names of the clauses of its contract that say when such an answer comes and what stands after it. A",
             "clause without a name is called 'its clause'. A clause of the plain answer alone isn't named. 'Free' is an answer of",
-            "which no clause says when it comes, as want of memory; 'nothing changes' is said of a call that is lent nothing which it",
+            "which no clause says when it comes, as running out of memory; 'nothing changes' is said of a call that is lent nothing which it",
             "may change. The methods of a trait are those that its implementations keep; one with clauses of its own is named as",
             "'Trait for Type'.", "",
             f"{count} calls, of which {with_others} have other answers."]
@@ -299,11 +301,8 @@ def page():
 
 
 def main():
-    text = page()
-    if sys.argv[1:] == ["--check"]:
-        return 0 if PAGE.exists() and PAGE.read_text() == text else 1
-    PAGE.write_text(text)
-    return 0
+    return write_or_check(PAGE, page(), "tools/answers.py",
+                          "Writes docs/ANSWERS.md: each public call of each library with the answers that it has besides the plain one.")
 
 
 if __name__ == "__main__":

@@ -1,59 +1,54 @@
 #!/usr/bin/env python3
-"""Writes docs/DEFINITIONS.md from the comments of the definitions in crates/*/specs.
+"""Writes docs/DEFINITIONS.md: an index of the public definitions in crates/*/specs, sorted by name.
 
-Each public definition is listed with the comment above it. A file whose first line begins
-with "-- Inside" speaks of what the code keeps, and is named without its definitions.
+Each row has the name, the file as a link, and the first sentence of the definition's comment. A definition that stands under a
+mark "Inside:" (tools/inside.py says what that is) has this word before its sentence.
+
+  tools/definitions.py           writes the page
+  tools/definitions.py --check   writes nothing; names what differs, and ends with 1, where the page is another than it would write
 """
-import pathlib
 import re
+import sys
 
-TOP = pathlib.Path(__file__).resolve().parent.parent
-ORDER = [line.split(":")[0].split()[0] for line in (TOP / "crates.txt").read_text().splitlines()
-         if line and not line.startswith("#")]
-HEAD = re.compile(r"(?:abbrev |unfoldable )?pub (?:record |data )?([^\s:({]+) *[:({]")
+sys.dont_write_bytecode = True
+
+from specs import TOP, spec_files, write_or_check
+
+PAGE = TOP / "docs" / "DEFINITIONS.md"
 
 
-def definitions(path):
-    """What a file is about, and each public name in it with its comment."""
-    lines = path.read_text().splitlines()
-    about, names, comment, block = [], [], [], False
-    while lines and lines[0].startswith("--"):
-        about.append(lines.pop(0)[2:].strip())
-    for line in lines:
-        text = line.strip()
-        if text.startswith("--"):
-            comment.append(text[2:].strip())
-            continue
-        # Definitions stand at the margin, or inside a block of mutual ones or of ones over the same type.
-        if line and not line.startswith(" "):
-            block = text in ("mutual", "abbrev mutual", "unfoldable mutual") or text.startswith("module _")
-        found = HEAD.match(text)
-        if found and comment and (block or not line.startswith(" ")):
-            names.append((found.group(1), " ".join(comment)))
-        comment = []
-    return " ".join(about).split(". ")[0].rstrip("."), names
+def first_sentence(comment):
+    """The comment up to the full stop that ends a sentence: one before a space and a capital letter, not one of an 'e.g.'."""
+    found = re.match(r"(.*?[^.\s])\.(?= [A-Z`\"'(])", comment)
+    return (found.group(1) if found else comment).strip().rstrip(".")
+
+
+def row(definition):
+    file = definition.file
+    text = first_sentence(definition.says())
+    if file.is_marked() and not definition.is_marked():
+        text = f"Inside: {text}".rstrip() if text else "Inside"
+    link = f"[{file.crate}/{file.path.relative_to(TOP / 'crates' / file.crate / 'specs')}](../{file.title()})"
+    text = text.replace("|", "\\|")
+    return f"| `{definition.name}` | {link} | {text} |".replace("|  |", "| |")
+
+
+def page():
+    found = [definition for file in spec_files() for definition in file.definitions if definition.is_public]
+    found.sort(key=lambda one: (one.name.casefold(), one.name, one.file.title()))
+    head = ["# Definitions", "",
+            "Made by tools/definitions.py: where each public definition of `crates/*/specs` stands, sorted by name, with the first",
+            "sentence of its comment; the file has the rest. Numbers in definitions are natural numbers without a bound, and lists are",
+            "plain lists. 'Inside' marks what only private calls cite.", "",
+            f"{len(found)} definitions.", "",
+            "| name | file in crates, below specs/ | what it is |", "|---|---|---|"]
+    return "\n".join(head + [row(one) for one in found]) + "\n"
 
 
 def main():
-    out = ["# Definitions", "",
-           "Made by tools/definitions.py from the comments in `crates/*/specs`: each public definition that has one, in plain",
-           "words. Numbers in definitions are natural numbers without a bound, and lists are plain lists. The definitions of a",
-           "file that speaks of what the code keeps aren't listed.", ""]
-    for crate in ORDER:
-        specs = TOP / "crates" / crate / "specs"
-        if not specs.is_dir():
-            continue
-        out += [f"## {crate}", ""]
-        for path in sorted(specs.glob("*.antt")):
-            if path.name == "Lib.antt":
-                continue
-            about, names = definitions(path)
-            out += [f"**{path.stem}** (crates/{crate}/specs/{path.name}): {about}.", ""]
-            if not about.startswith("Inside"):
-                out += [f"- `{name}`: {comment}" for name, comment in names]
-                if names:
-                    out.append("")
-    (TOP / "docs" / "DEFINITIONS.md").write_text("\n".join(out).rstrip() + "\n")
+    return write_or_check(PAGE, page(), "tools/definitions.py",
+                          "Writes docs/DEFINITIONS.md, an index of the public definitions in crates/*/specs.")
 
 
-main()
+if __name__ == "__main__":
+    sys.exit(main())

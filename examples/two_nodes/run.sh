@@ -1,12 +1,16 @@
 #!/bin/sh
 # Runs two nodes on the addresses 127.0.0.1 and 127.0.0.2 of this machine, of which one is delegated a prefix by the other.
 #
-#   examples/two_nodes/run.sh [PROGRAM]      by default crates/grasp_node/out/grasp_node, which `rt run` makes there
+#   examples/two_nodes/run.sh [PROGRAM]      by default crates/grasp_node/out/grasp_node, which `rt ci` leaves there
 #
 # It writes the lines of both nodes, and ends with 0 where the second got its prefix and the first no longer holds it.
 set -eu
 here=$(cd "$(dirname "$0")" && pwd)
-program=${1:-$here/../../crates/grasp_node/out/grasp_node}
+program=${1:-$(cd "$here/../.." && pwd)/crates/grasp_node/out/grasp_node}
+if [ ! -x "$program" ]; then
+    echo "run.sh: $program: it isn't there; run \`rt ci\` at the top of the repository, or name a program" >&2
+    exit 1
+fi
 work=$(mktemp -d)
 trap 'rm -rf "$work"' EXIT
 
