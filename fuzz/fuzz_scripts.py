@@ -37,23 +37,24 @@ def header(rng):
     lines = [f"nodes {nodes}"]
     if rng.randrange(3) == 0:
         lines.append(f"size {rng.choice([2048, 2049, 4096, 8192])}")
-    told, givers = [], []
+    told, givers, roots = [], [], []
     for block in rng.sample(range(16), rng.randrange(0, 6)):
         length = rng.choice([40, 44, 48, 56, 60, 63, 64])
         givers.append(rng.randint(1, nodes))
         told.append(f"root {givers[-1]} 20010db8{block:x}{'0' * 23}/{length}")
+        roots.append((givers[-1], 0x20010db8 << 96 | block << 92, length))
     for _ in range(rng.randrange(0, 2 * nodes) if nodes > 1 else 0):
         members = rng.sample(range(1, nodes + 1), rng.randint(2, nodes))
         told.append("link " + " ".join(map(str, members)))
     rng.shuffle(told)
-    return nodes, givers, lines + told + ["start"]
+    return nodes, givers, roots, lines + told + ["start"]
 
 
 class Maker:
     """Makes the lines of a script, with a guess at how many streams, datagrams and sessions there are."""
 
-    def __init__(self, rng, nodes, givers):
-        self.rng, self.nodes, self.givers = rng, nodes, givers
+    def __init__(self, rng, nodes, givers, roots):
+        self.rng, self.nodes, self.givers, self.roots = rng, nodes, givers, roots
         self.streams, self.datagrams = 0, 0
 
     def node(self):
@@ -122,9 +123,35 @@ class Maker:
             return f"drain {self.node()} {rng.choice([0, 1, 2, 256, 4294967295])}"
         if kind == 27:
             return f"state {self.node()}"
-        length = rng.randint(40, 66)
         self.streams += 1
+        if kind == 28:
+            return self.back(self.node())
+        length = rng.randint(40, 66)
         return f"want {self.node()} {length} {rng.randint(length, 68)} {self.node()}"
+
+    def back(self, node):
+        """A node gives a prefix back; often it doesn't hold it."""
+        rng = self.rng
+        length = rng.randint(40, 66)
+        block = rng.choice([0, rng.randrange(2 ** (length - 32)), rng.randrange(16) << (length - 36)])
+        return f"return {node} {0x20010db8 << 96 | block << (128 - length):032x}/{length} {self.node()}"
+
+    def handing(self):
+        """A node gives a part of a root, or all of it, to another one, which may be asked for a part of it and give it back."""
+        rng = self.rng
+        node, address, length = rng.choice(self.roots) if self.roots else (self.node(), 0x20010db8 << 96, 40)
+        longer = rng.choice([length, min(length + 1, 128), min(length + 8, 128), rng.randint(length, 128)])
+        prefix = f"{address | rng.choice([0, 0, rng.randrange(2 ** (longer - length))]) << (128 - longer):032x}/{longer}"
+        lines, ends = [], [node, self.node()]
+        for _ in range(rng.choice([1, 1, 2, 3])):
+            giving, taking = ends
+            self.streams += 1
+            lines += [f"return {giving} {prefix} {taking}"] + [self.hold(f"agent {giving}")] * rng.choice([1, 1, 2])
+            lines += self.each("arrive {}") + self.each("bytes {} far 9999") + [f"agent {taking}"] * rng.choice([0, 4, 6, 8])
+            lines += rng.choice([[], [], self.each("cut {} near"), self.each("cut {} far"), [f"clock {giving} 60000"]])
+            lines += self.each("bytes {} near 9999") + [f"agent {giving}"] * rng.choice([0, 4, 8])
+            ends.reverse()
+        return [line for line in lines if rng.randrange(30)]
 
     def round(self):
         """A node asks another one for a prefix, and they bargain; some of the lines are left out, and others come between."""
@@ -194,13 +221,13 @@ class Maker:
 
 
 def script(rng):
-    nodes, givers, head = header(rng)
-    maker = Maker(rng, nodes, givers)
+    nodes, givers, roots, head = header(rng)
+    maker = Maker(rng, nodes, givers, roots)
     lines = maker.agents() if rng.randrange(4) else []
     for _ in range(rng.randrange(1, 12)):
         choice = rng.randrange(8)
         if choice < 2:
-            lines += maker.round()
+            lines += maker.round() if rng.randrange(3) else maker.handing()
         elif choice < 4:
             lines += maker.talk()
         elif choice < 5:

@@ -143,6 +143,9 @@ def node_mark(network, report):
     if report.kind == "want":
         length, longest, peer = report.words[1:]
         return Mark(report, "want", report.node, 0, wrapped(f"want {length} {longest} from {peer} = {answer}"))
+    if report.kind == "return":
+        prefix, peer = report.words[1:]
+        return Mark(report, "return", report.node, 0, wrapped(f"return {short(prefix)} to {peer} = {answer}"))
     return Mark(report, "state", report.node, 0, wrapped(f"state: {answer}"))
 
 
@@ -202,7 +205,7 @@ SIDE = 44           # where readings, and what has no lifeline, stand at the lef
 STYLE = """text{font:11px monospace;fill:#1a1a1a;paint-order:stroke;stroke:#fff;stroke-width:2px}
 .head{font-weight:bold;font-size:13px}.title{font:bold 16px sans-serif}
 .number,.faint text,.under{fill:#707070}.life{stroke:#9a9a9a}.box{fill:#fff;stroke:#5a5a5a}.faint .box{stroke:#b0b0b0}
-.state .box,.want .box{fill:#eef4ea}.call .box{fill:#f2f5fb}.drain .box{fill:#f6f6f6}
+.state .box,.want .box,.return .box{fill:#eef4ea}.call .box{fill:#f2f5fb}.drain .box{fill:#f6f6f6}
 .shaft{stroke:#1a1a1a;stroke-width:1.3;fill:none}.datagram .shaft,.datagram .tip{stroke:#8a4b00}.datagram .tip{fill:#8a4b00}
 .arrival .shaft{stroke-dasharray:6 4}.bytes .shaft,.bytes .tip{stroke:#0b4f9c}.bytes .tip{fill:#0b4f9c}
 .faint .shaft{stroke-dasharray:2 3}.cross{stroke:#b00020;stroke-width:2.5}.tick{stroke:#9a9a9a;stroke-dasharray:1 4}"""

@@ -20,7 +20,8 @@ OBJECTIVE = f"obj {TEXT} {FLAGS} {BYTE} {MAYBE}"
 PROTO = "(?:tcp|udp)"
 LOCATOR = (f"(?:v6 [0-9a-f]{{32}} {PROTO} {NUMBER}|v4 [0-9a-f]{{8}} {PROTO} {NUMBER}"
            f"|fqdn {TEXT} {PROTO} {NUMBER}|uri {TEXT} (?:{PROTO}|-) (?:{NUMBER}|-))")
-PREFIXES = f"(?: [0-9a-f]{{32}}/{BYTE})*"
+PREFIX = f"[0-9a-f]{{32}}/{BYTE}"
+PREFIXES = f"(?: {PREFIX})*"
 BY = "(?:mine|theirs)"
 ENDED = (f"ended (?:agreed {BY} {OBJECTIVE}|declined {BY}(?: {TEXT})?|synchronized {OBJECTIVE}"
          f"|timedout {NUMBER} {NUMBER}|broken|outofmemory|invalid {BY})")
@@ -56,6 +57,7 @@ CALLS = {
 EVENTS = {
     "clock": (f"{NODE} {NUMBER}", NUMBER),
     "want": (f"{NODE} {BYTE} {BYTE} {NODE}", f"ok|busy {BYTE} {BYTE}|full"),
+    "return": (f"{NODE} {PREFIX} {NODE}", f"ok|busy {PREFIX}|notfree|full"),
     "datagram": (NUMBER, "taken|nothing"),
     "arrive": (NUMBER, "taken|turned|nothing"),
     "bytes": (f"{NUMBER} (?:near|far) {NUMBER}", "taken|nothing"),
@@ -125,7 +127,7 @@ def read_report(at, text):
         rest = event[1:]
         if not re.fullmatch(form, " ".join(rest)):
             raise Refused(f"bad event in line {at}")
-        if kind in ("clock", "want", "drain", "state"):
+        if kind in ("clock", "want", "return", "drain", "state"):
             node = int(rest[0])
     else:
         front = 3 if kind == "api" else 2
@@ -146,7 +148,7 @@ def read_report(at, text):
 def named_nodes(report):
     """The numbers of the nodes that a report names."""
     named = [report.node]
-    if report.kind == "want" or report.kind in ("api", "agent") and report.words[0] in ("request", "synchronize", "expire"):
+    if report.kind in ("want", "return") or report.kind in ("api", "agent") and report.words[0] in ("request", "synchronize", "expire"):
         named.append(int(report.words[-1]))
     for word in report.answer:
         found = NODE_ADDRESS.fullmatch(word)

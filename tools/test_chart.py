@@ -358,7 +358,7 @@ class Pictures(unittest.TestCase):
     def test_examples(self):
         """Each example is drawn with its script's header, line by line, and no arrow or delivery is left untold."""
         scripts = sorted((HERE.parent / "examples").glob("*.script"))
-        self.assertEqual(len(scripts), 7)
+        self.assertEqual(len(scripts), 8)
         for script in scripts:
             head, lines = script.read_text().split("start\n")
             reports = script.with_suffix(".reports").read_bytes()

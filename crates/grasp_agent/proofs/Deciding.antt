@@ -15,6 +15,7 @@ use Rattle.grasp_agent.specs.Decisions.{upward, tries, rounded, candidates, give
 use Rattle.grasp_agent.specs.Deciding.{IsFirstFree}
 use Rattle.grasp_agent.specs.Laws.{GiversOffer}
 use Rattle.grasp_agent.specs.declared.decision.GiverDecision.TheVariants.{Offer}
+use Rattle.grasp_agent.proofs.KeepDecisions.{asked_not_returned}
 use Rattle.grasp_agent.proofs.Reading.{asked_range}
 
 -- ---- the first that is given, by its parts
@@ -172,7 +173,7 @@ candidates_range n loops first least most m has = elim (Contains-append_cases (r
 given : (h : Holding) (v : DataItem) (n loops : ℕ) (first : Bool) (p : Prefix) → asked_in (Some v) ≡ Some n → nat_le loops 1 ≡ false
     → first_given h (candidates n loops first) ≡ Some p → giver_decision h (Some v) loops first ≡ Offer p
 unfolding giver_decision
-given h v n loops first p asked more found = rw (asked, more, found) refl
+given h v n loops first p asked more found = rw (asked_not_returned (Some v) n asked, asked, more, found) refl
 
 pub more_loops : (loops : ℕ) → 2 ≤ loops → nat_le loops 1 ≡ false
 more_loops loops more = search (rules, nat_tests)

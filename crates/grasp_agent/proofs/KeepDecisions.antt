@@ -1,14 +1,16 @@
 -- What a decision rests on: a prefix that is offered was given, and one that is accepted is valid and can be gained.
-use Rattle.std.proofs.Common.{◌≡◌, ℕ, zero, suc, ◌+◌, ◌-◌, ◌%◌, ◌^◌, ◌≤◌, List, [], ◌∷◌, ◌++◌, length, slice_get, Bool, true, false, cond, ◌&&◌, nat_lt, nat_le, nat_eq, Option, Some, None, refl, sym, subst, arith, IfSome, ltb-true}
+use Rattle.std.proofs.Common.{◌≡◌, ℕ, zero, suc, ◌+◌, ◌-◌, ◌%◌, ◌^◌, ◌≤◌, List, [], ◌∷◌, ◌++◌, length, slice_get, Bool, true, false, cond, ◌&&◌, nat_lt, nat_le, nat_eq, Option, Some, None, inl, inr, refl, sym, ap, subst, arith, IfSome, ltb-true}
 use Rattle.std.proofs.lemmas.Bool.{leb-true, eqb-true}
+use Rattle.std.proofs.lemmas.Bool.Decides.{eqb_tells}
+use Rattle.std.proofs.lemmas.Option.{none-some}
 use Rattle.grasp_cbor.specs.DataItem.{DataItem, array, items_in}
 use Rattle.grasp_types.specs.Prefix.{AddressBlock as Prefix, IsPrefix, size_of}
 use Rattle.grasp_types.proofs.Multiples.{multiple_of_mod}
 use Rattle.grasp_pool.specs.Holdings.{Holding}
 use Rattle.grasp_pool.specs.Pools.{IsPool}
 use Rattle.grasp_pool.specs.Functions.{take_reply, can_gain}
-use Rattle.grasp_agent.specs.Values.{asked_in, offered_in, length_in, number_in, length_at, address_at, beside, prefix_in}
-use Rattle.grasp_agent.specs.Decisions.{upward, tries, rounded, candidates, given_or, first_given, giver_decision, requester_decision}
+use Rattle.grasp_agent.specs.Values.{asked_in, offered_in, returned_in, is_true_in, length_in, number_in, length_at, address_at, beside, prefix_in}
+use Rattle.grasp_agent.specs.Decisions.{upward, tries, rounded, candidates, given_or, first_given, receiver_decision, giver_decision, requester_decision}
 use Rattle.grasp_agent.specs.declared.decision.GiverDecision.{GiverDecision}
 use Rattle.grasp_agent.specs.declared.decision.GiverDecision.TheVariants as giver
 use Rattle.grasp_agent.specs.declared.decision.RequesterDecision.{RequesterDecision}
@@ -79,6 +81,15 @@ offered_ok (Some (array ts)) =
     choice_ok (nat_eq (length (items_in ts)) 2) _ (prefix_ok (length_at (items_in ts)) (address_at (items_in ts)) (length_ok (number_in (slice_get (items_in ts) 0))))
 offered_ok (Some t) = tt
 
+-- a prefix that is given back is valid
+pub returned_ok : (v : Option DataItem) → IfSome (returned_in v) IsValidBlock
+unfolding returned_in
+returned_ok None = tt
+returned_ok (Some (array ts)) =
+    choice_ok (nat_eq (length (items_in ts)) 3 && is_true_in (slice_get (items_in ts) 2)) _
+    (prefix_ok (length_at (items_in ts)) (address_at (items_in ts)) (length_ok (number_in (slice_get (items_in ts) 0))))
+returned_ok (Some t) = tt
+
 -- ---- one that requests
 
 -- what is accepted is valid and can be gained, and what is asked again is what is wanted
@@ -122,9 +133,10 @@ ask_asked h wanted longest v loops = choose (offered_in v) refl (offered_ok v)
 
 -- ---- a giver
 
--- what is offered was given
+-- what is offered was given, and what is accepted is valid and can be gained
 abbrev pub GivenBy : Holding → GiverDecision → Type 0
 GivenBy h (giver.Offer p) = IsGiven h p
+GivenBy h (giver.Accept p) = IsPrefix p.address p.length × (can_gain h p ≡ true)
 GivenBy h (giver.Decline reason) = Unit {0}
 
 -- each is the length of a prefix
@@ -169,36 +181,67 @@ unfolding first_given
 first_is_given h [] pool ok = tt
 first_is_given h (n ∷ ns) pool ok = either_given h (take_reply h n) (first_given h ns) (taken_given h n pool ok.0.0 ok.0.1 (take_reply h n) refl) (first_is_given h ns pool ok.1)
 
--- no length is asked for
-pub give_none : (h : Holding) (v : Option DataItem) (loops : ℕ) (first : Bool) → asked_in v ≡ None → giver_decision h v loops first ≡ giver.Decline BadValue
+-- a value of one or two parts has no third one
+two_at_most : (k : ℕ) (x y : Option ℕ) (b : Bool) (z : Option Prefix) (n : ℕ) → cond (nat_eq k 1) x (cond (nat_eq k 2) y None) ≡ Some n
+    → cond (nat_eq k 3 && b) z None ≡ None
+two_at_most k x y b z n e = elim (eqb_tells k 3) [
+  | inl same ↦ absurd (none-some n (subst (λ (m : ℕ). cond (nat_eq m 1) x (cond (nat_eq m 2) y None) ≡ Some n) same.1 e))
+  | inr other ↦ ap (λ c. cond (c && b) z None) other.0
+]
+
+-- a value that asks for a length gives nothing back
+pub asked_not_returned : (v : Option DataItem) (n : ℕ) → asked_in v ≡ Some n → returned_in v ≡ None
+unfolding asked_in returned_in
+asked_not_returned None n e = refl
+asked_not_returned (Some (array ts)) n e = two_at_most (length (items_in ts)) _ _ _ _ n e
+asked_not_returned (Some t) n e = refl
+
+-- a prefix is given back
+pub give_received : (h : Holding) (v : Option DataItem) (loops : ℕ) (first : Bool) (p : Prefix) → returned_in v ≡ Some p
+    → giver_decision h v loops first ≡ receiver_decision h p
 unfolding giver_decision
-give_none h v loops first e = rw e refl
+give_received h v loops first p e = rw e refl
+
+-- no length is asked for
+pub give_none : (h : Holding) (v : Option DataItem) (loops : ℕ) (first : Bool) → returned_in v ≡ None → asked_in v ≡ None → giver_decision h v loops first ≡ giver.Decline BadValue
+unfolding giver_decision
+give_none h v loops first none e = rw (none, e) refl
 
 -- nothing is free
 pub give_free : (h : Holding) (v : Option DataItem) (loops : ℕ) (first : Bool) (n : ℕ) → asked_in v ≡ Some n → first_given h (candidates n loops first) ≡ None
     → giver_decision h v loops first ≡ cond (nat_le loops 1) (giver.Decline NoLoops) (giver.Decline NoPrefix)
 unfolding giver_decision
-give_free h v loops first n e f = rw (e, f) refl
+give_free h v loops first n e f = rw (asked_not_returned v n e, e, f) refl
 
 -- a prefix is free
 pub give_some : (h : Holding) (v : Option DataItem) (loops : ℕ) (first : Bool) (n : ℕ) (p : Prefix) → asked_in v ≡ Some n → first_given h (candidates n loops first) ≡ Some p
     → giver_decision h v loops first ≡ cond (nat_le loops 1) (giver.Decline NoLoops) (giver.Offer p)
 unfolding giver_decision
-give_some h v loops first n p e f = rw (e, f) refl
+give_some h v loops first n p e f = rw (asked_not_returned v n e, e, f) refl
 
 -- either of two decisions
 choice_given : (h : Holding) (b : Bool) (d e : GiverDecision) → GivenBy h d → GivenBy h e → GivenBy h (cond b d e)
 choice_given h true d e x y = x
 choice_given h false d e x y = y
 
--- what a giver offers was given
+-- what is given back is accepted where it can be gained
+receive_given : (h : Holding) (p : Prefix) → IsPrefix p.address p.length → GivenBy h (receiver_decision h p)
+receive_given h p valid = choose (can_gain h p) refl
+  where
+    choose : (b : Bool) → can_gain h p ≡ b → GivenBy h (cond b (giver.Accept p) (giver.Decline NotTaken))
+    choose true e = (valid, e)
+    choose false e = tt
+
+-- what a giver offers was given, and what it accepts can be gained
 pub give_given : (h : Holding) (v : Option DataItem) (loops : ℕ) (first : Bool) → IsPool h → GivenBy h (giver_decision h v loops first)
-give_given h v loops first pool = choose (asked_in v) refl (asked_ok v)
+give_given h v loops first pool = choose (returned_in v) refl (returned_ok v) (asked_in v) refl (asked_ok v)
   where
     found : (n : ℕ) → asked_in v ≡ Some n → (o : Option Prefix) → first_given h (candidates n loops first) ≡ o → IfSome o (λ p. IsGiven h p) → GivenBy h (giver_decision h v loops first)
     found n e None f k = subst (GivenBy h) (sym (give_free h v loops first n e f)) (choice_given h (nat_le loops 1) (giver.Decline NoLoops) (giver.Decline NoPrefix) tt tt)
     found n e (Some p) f k = subst (GivenBy h) (sym (give_some h v loops first n p e f)) (choice_given h (nat_le loops 1) (giver.Decline NoLoops) (giver.Offer p) tt k)
 
-    choose : (o : Option ℕ) → asked_in v ≡ o → IfSome o IsLength → GivenBy h (giver_decision h v loops first)
-    choose None e k = subst (GivenBy h) (sym (give_none h v loops first e)) tt
-    choose (Some n) e k = found n e (first_given h (candidates n loops first)) refl (first_is_given h (candidates n loops first) pool (candidates_lengths n loops first k.0 k.1))
+    choose : (r : Option Prefix) → returned_in v ≡ r → IfSome r IsValidBlock → (o : Option ℕ) → asked_in v ≡ o → IfSome o IsLength
+        → GivenBy h (giver_decision h v loops first)
+    choose (Some p) back valid o e k = subst (GivenBy h) (sym (give_received h v loops first p back)) (receive_given h p valid)
+    choose None back valid None e k = subst (GivenBy h) (sym (give_none h v loops first back e)) tt
+    choose None back valid (Some n) e k = found n e (first_given h (candidates n loops first)) refl (first_is_given h (candidates n loops first) pool (candidates_lengths n loops first k.0 k.1))

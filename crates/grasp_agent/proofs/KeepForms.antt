@@ -1,5 +1,5 @@
 -- The fields that a method leaves make up the state that its contract names.
-use Rattle.std.proofs.Common.{◌≡◌, ℕ, List, slice_get, slice_index_or, slice_set, false, Some, None, Contains, refl, sym, ◌∙◌, ap}
+use Rattle.std.proofs.Common.{◌≡◌, ℕ, List, slice_get, slice_index_or, slice_set, false, Some, None, Contains, sym, ◌∙◌, ap}
 use Rattle.std.proofs.lemmas.Option.{get_or_from_slice_get}
 use Rattle.grasp_types.specs.Prefix.{AddressBlock as Prefix}
 use Rattle.grasp_types.specs.declared.objective.Objective.{Objective}
@@ -14,8 +14,7 @@ use Rattle.grasp_agent.specs.declared.act.Act.{Act}
 use Rattle.grasp_agent.specs.declared.act.Act.TheVariants as act
 use Rattle.grasp_agent.specs.declared.decision.GiverDecision.{GiverDecision}
 use Rattle.grasp_agent.specs.declared.giving.Giving.{Giving}
-use Rattle.grasp_agent.proofs.Offers.{offer_there}
-use Rattle.grasp_agent.proofs.Keeping.{act_stands, without_is, acting}
+use Rattle.grasp_agent.proofs.Keeping.{act_stands, offer_reserved, without_is, acting}
 
 -- what is read at a place
 pub read_is : (xs : List Giving) (i : ℕ) (g x : Giving) → slice_get xs i ≡ Some g → x ≡ slice_index_or xs i x → x ≡ g
@@ -23,7 +22,7 @@ read_is xs i g x at e = e ∙ get_or_from_slice_get xs i g x at
 
 -- what an act offers is reserved
 pub act_reserved : (s : AgentState) (place : ℕ) (h : Handle) (p : Prefix) → s.act ≡ Some (act.Offer place h p) → IsKept s → Contains s.pool.reserved p
-act_reserved s place h p e k = (k.reserved p).1 (offer_there s.giving place (record { handle = h; offer = Some p; first = false }) p (act_stands s (act.Offer place h p) e k) refl)
+act_reserved s place h p e k = offer_reserved s place (record { handle = h; offer = Some p; first = false }) (act_stands s (act.Offer place h p) e k) k
 
 -- where `x` was read at the place of an offer that wasn't made
 pub dropped_is : (s : AgentState) (place : ℕ) (h : Handle) (p : Prefix) (pool : Holding) (x v : Giving) → s.act ≡ Some (act.Offer place h p) → IsKept s

@@ -6,3 +6,4 @@ pub mod Keeping
 pub mod OfferPools
 pub mod Offers
 pub mod Reading
+pub mod Returning

@@ -107,9 +107,14 @@ offer_in old new front back p into none are = record {
 -- ---- the sessions before and after a place
 
 -- an offer before two lists
-and_append : (o : Option Prefix) (ps qs : List Prefix) → offer_and o (ps ++ qs) ≡ offer_and o ps ++ qs
+pub and_append : (o : Option Prefix) (ps qs : List Prefix) → offer_and o (ps ++ qs) ≡ offer_and o ps ++ qs
 and_append None ps qs = refl
 and_append (Some p) ps qs = refl
+
+-- what is offered is so behind one more offer
+pub and_more : (o : Option Prefix) (ps : List Prefix) (p : Prefix) → Contains ps p → Contains (offer_and o ps) p
+and_more None ps p has = has
+and_more (Some q) ps p has = cons_more q p ps has
 
 -- the offers of two lists of sessions
 pub offers_append : (xs ys : List Giving) → offers (xs ++ ys) ≡ offers xs ++ offers ys

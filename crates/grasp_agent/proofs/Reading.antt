@@ -15,7 +15,7 @@ use Rattle.grasp_types.specs.Objective.{IsValue}
 use Rattle.grasp_types.specs.Prefix.{AddressBlock as Prefix, IsPrefix, size_of}
 use Rattle.grasp_types.proofs.BigEndian.{be_bytes_16}
 use Rattle.grasp_types.proofs.Multiples.{multiple_of_mod, mod_of_multiple}
-use Rattle.grasp_agent.specs.Values.{length_value, prefix_value, array_parts, number_of, bytes_of, length_in, length_at, address_in, address_at, beside, asked_in, prefix_in, offered_in}
+use Rattle.grasp_agent.specs.Values.{length_value, prefix_value, return_value, array_parts, number_of, bytes_of, length_in, length_at, address_in, address_at, beside, asked_in, prefix_in, offered_in, returned_in}
 use Rattle.grasp_agent.specs.Laws.{AsksFor, LengthsAreRead, PrefixesAreRead}
 
 -- ---- the parts of an array
@@ -213,12 +213,20 @@ prefix_read v p value h =
     let w = two_parts a.0 p.length p.address a.2.two (encodable_parts v a.0 value a.1) m.bits m.start in
     (record { least = r.0; most = r.1; within = w.1; aligned = multiple_of_mod (size_of p.length) p.address m.aligned }, a.1 ∙ ap array_of w.0)
 
-pub prefix_again : (p : Prefix) → IsPrefix p.address p.length → offered_in (Some (prefix_value p)) ≡ Some p
-unfolding offered_in
-prefix_again p v =
+-- the prefix that was written is read
+read_again : (p : Prefix) → IsPrefix p.address p.length → prefix_in (length_in (Some p.length)) (address_in (Some (to_be_bytes w128 p.address))) ≡ Some p
+read_again p v =
     ap (λ o. prefix_in o (address_in (Some (to_be_bytes w128 p.address)))) (length_again p.length v.least v.most)
     ∙ ap (λ q. prefix_in (Some p.length) q) (address_again p.address v.within)
     ∙ made_again p.length p.address v.within (mod_of_multiple (size_of p.length) p.address (pow_pos (128 - p.length)) v.aligned)
+
+pub prefix_again : (p : Prefix) → IsPrefix p.address p.length → offered_in (Some (prefix_value p)) ≡ Some p
+unfolding offered_in
+prefix_again p v = read_again p v
+
+pub return_again : (p : Prefix) → IsPrefix p.address p.length → returned_in (Some (return_value p)) ≡ Some p
+unfolding returned_in
+return_again p v = read_again p v
 
 prefix_offered : (v : DataItem) (p : Prefix) → IsPrefix p.address p.length × (v ≡ prefix_value p) → offered_in (Some v) ≡ Some p
 prefix_offered v p h = ap (λ t. offered_in (Some t)) h.1 ∙ prefix_again p h.0

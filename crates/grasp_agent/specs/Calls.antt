@@ -4,9 +4,10 @@ use Rattle.grasp_types.specs.declared.call.Call.{Call}
 use Rattle.grasp_types.specs.declared.call.Call.TheVariants as call
 use Rattle.grasp_types.specs.declared.message.Verdict.TheVariants as verdict
 use Rattle.grasp_types.specs.declared.session.Handle.{Handle}
-use Rattle.grasp_agent.specs.Values.{length_value, prefix_value}
+use Rattle.grasp_agent.specs.Values.{length_value, prefix_value, return_value}
 use Rattle.grasp_agent.specs.States.{AgentState, is_open, duty_of}
 use Rattle.grasp_agent.specs.declared.act.Act.{Act}
+use Rattle.grasp_agent.specs.declared.back.Return.{Return}
 use Rattle.grasp_agent.specs.declared.act.Act.TheVariants.{Offer, Counter, Accept, Decline}
 use Rattle.grasp_agent.specs.declared.decision.Reason.{Reason}
 use Rattle.grasp_agent.specs.declared.decision.Reason.TheVariants.{BadValue, NoLoops, NoPrefix, TooSmall, NotTaken}
@@ -43,24 +44,37 @@ act_call (Decline handle reason) = call.EndNegotiate handle (verdict.Decline (So
 abbrev pub want_call : Want → Call
 want_call w = call.RequestNegotiate objective_name (length_value w.length) 6 60000 false w.peer
 
+-- the request of a return, which is itself the offer: 1 loop, so that no step may follow
+abbrev pub return_call : Return → Call
+return_call r = call.RequestNegotiate objective_name (return_value r.prefix) 1 60000 false r.peer
+
 -- a duty is to listen, or to ask how a session stands
 abbrev pub duty_call : Duty → Call
 duty_call duty.Listen = call.ListenNegotiate objective_name
 duty_call (duty.Want handle) = call.Poll handle
+duty_call (duty.Return handle) = call.Poll handle
 duty_call (duty.Give place handle) = call.Poll handle
 
--- the request of a want that wasn't requested, and else the next duty
-abbrev pub asking_call : Option Want → Duty → Call
-asking_call None d = duty_call d
-asking_call (Some w) d = by_session w.session where
+-- the request of a return that wasn't requested, and else the next duty
+abbrev pub returning_call : Option Return → Duty → Call
+returning_call None d = duty_call d
+returning_call (Some r) d = by_session r.session where
   by_session : Option Handle → Call
-  by_session None = want_call w
+  by_session None = return_call r
   by_session (Some h) = duty_call d
 
--- the act that isn't done comes before both
-abbrev pub serving_call : Option Act → Option Want → Duty → Call
-serving_call None want d = asking_call want d
-serving_call (Some act) want d = act_call act
+-- the request of a want that wasn't requested comes before both
+abbrev pub asking_call : Option Want → Option Return → Duty → Call
+asking_call None back d = returning_call back d
+asking_call (Some w) back d = by_session w.session where
+  by_session : Option Handle → Call
+  by_session None = want_call w
+  by_session (Some h) = returning_call back d
+
+-- the act that isn't done comes before all
+abbrev pub serving_call : Option Act → Option Want → Option Return → Duty → Call
+serving_call None want back d = asking_call want back d
+serving_call (Some act) want back d = act_call act
 
 -- the opening calls
 abbrev pub opening_call : Stage → Call
@@ -71,4 +85,4 @@ opening_call Serving = call.ListenNegotiate objective_name
 
 -- the call that is made next: the opening calls come first
 unfoldable pub next_call : AgentState → Call
-next_call s = if is_open s.stage then serving_call s.act s.want (duty_of s) else opening_call s.stage
+next_call s = if is_open s.stage then serving_call s.act s.want s.back (duty_of s) else opening_call s.stage

@@ -6,7 +6,7 @@ use Rattle.grasp_pool.specs.Canonical.{IsLowestFree, HasNoFree}
 use Rattle.grasp_pool.specs.Holdings.{Holding, IsNew}
 use Rattle.grasp_pool.specs.Pools.{IsPool, room_of}
 use Rattle.grasp_agent.specs.Decisions.{candidates, giver_decision, requester_decision}
-use Rattle.grasp_agent.specs.Values.{asked_in, offered_in}
+use Rattle.grasp_agent.specs.Values.{asked_in, offered_in, returned_in}
 use Rattle.grasp_agent.specs.declared.decision.GiverDecision.{GiverDecision}
 use Rattle.grasp_agent.specs.declared.decision.GiverDecision.TheVariants as giver
 use Rattle.grasp_agent.specs.declared.decision.Reason.TheVariants.{BadValue, NoLoops, NoPrefix, TooSmall, NotTaken}
@@ -23,16 +23,21 @@ pub record IsFirstFree (h : Holding) (ns : List ℕ) (p : Prefix) : Type 0 where
 abbrev pub NoneIsFree : Holding → List ℕ → Type 0
 NoneIsFree h ns = (m : ℕ) → Contains ns m → HasNoFree h.free m
 
--- when a giver decides so. It offers the least free prefix of the first length that is free, where it is asked for a length, loops
+-- the prefix overlaps nothing that the pool has, and there is room for it
+abbrev pub FitsPool : Holding → Prefix → Type 0
+FitsPool h p = IsNew h p × (0 < room_of h)
+
+-- when a giver decides so. It accepts a prefix that is given back, where it fits the pool. It offers the least free prefix of the first length that is free, where it is asked for a length, loops
 -- and room are left and one is free; and it declines for the first of its reasons
 abbrev pub GiverDecides : Holding → Option DataItem → ℕ → Bool → GiverDecision → Type 0
 GiverDecides h v loops first (giver.Offer p) = (n : ℕ) × (asked_in v ≡ Some n) × (2 ≤ loops) × (128 ≤ room_of h) × IsFirstFree h (candidates n loops first) p
-GiverDecides h v loops first (giver.Decline BadValue) = asked_in v ≡ None
+GiverDecides h v loops first (giver.Accept p) = (returned_in v ≡ Some p) × FitsPool h p
+GiverDecides h v loops first (giver.Decline BadValue) = (asked_in v ≡ None) × (returned_in v ≡ None)
 GiverDecides h v loops first (giver.Decline NoLoops) = (n : ℕ) × (asked_in v ≡ Some n) × (loops ≤ 1)
 GiverDecides h v loops first (giver.Decline NoPrefix) =
     (n : ℕ) × (asked_in v ≡ Some n) × (2 ≤ loops) × ((room_of h < 128) ⊎ NoneIsFree h (candidates n loops first))
 GiverDecides h v loops first (giver.Decline TooSmall) = ⊥
-GiverDecides h v loops first (giver.Decline NotTaken) = ⊥
+GiverDecides h v loops first (giver.Decline NotTaken) = (p : Prefix) × (returned_in v ≡ Some p) × (¬ FitsPool h p)
 
 -- a giver decides so exactly then
 abbrev pub GiversDecide : Type 0
@@ -42,10 +47,6 @@ GiversDecide = (h : Holding) (v : Option DataItem) (loops : ℕ) (first : Bool) 
 -- the prefix is shorter than wanted, and loops are left to ask again
 abbrev pub MayCounter : ℕ → ℕ → Prefix → Type 0
 MayCounter wanted loops p = (p.length < wanted) × (2 ≤ loops)
-
--- the prefix overlaps nothing that the pool has, and there is room for it
-abbrev pub FitsPool : Holding → Prefix → Type 0
-FitsPool h p = IsNew h p × (0 < room_of h)
 
 -- when one decides so that wants a length, and none above the longest. It accepts the prefix that is offered, where it is no
 -- longer than the longest, isn't one to ask again for, and fits the pool; and it declines for the first of its reasons

@@ -5,7 +5,7 @@ use Rattle.grasp_cbor.specs.DataItem.{DataItem}
 use Rattle.grasp_types.specs.Prefix.{AddressBlock as Prefix}
 use Rattle.grasp_pool.specs.Holdings.{Holding}
 use Rattle.grasp_pool.specs.Functions.{take_reply, after_take, can_gain}
-use Rattle.grasp_agent.specs.Values.{asked_in, offered_in}
+use Rattle.grasp_agent.specs.Values.{asked_in, offered_in, returned_in}
 use Rattle.grasp_agent.specs.declared.decision.Reason.TheVariants.{BadValue, NoLoops, NoPrefix, TooSmall, NotTaken}
 use Rattle.grasp_agent.specs.declared.decision.GiverDecision.{GiverDecision}
 use Rattle.grasp_agent.specs.declared.decision.GiverDecision.TheVariants as giver
@@ -44,9 +44,13 @@ abbrev pub after_first : Holding → Option Prefix → Holding
 after_first h None = h
 after_first h (Some p) = after_take h p.length (Some p)
 
+-- one to whom this prefix is given back accepts it where it can be gained
+abbrev pub receiver_decision : Holding → Prefix → GiverDecision
+receiver_decision h p = if can_gain h p then giver.Accept p else giver.Decline NotTaken
+
 -- a giver, on the value and the loop count of the peer's offer; `first` where it has offered nothing in this session
 unfoldable pub giver_decision : Holding → Option DataItem → ℕ → Bool → GiverDecision
-giver_decision h value loops first = by_length (asked_in value) where
+giver_decision h value loops first = by_return (returned_in value) where
   by_prefix : Option Prefix → GiverDecision
   by_prefix None = giver.Decline NoPrefix
   by_prefix (Some p) = giver.Offer p
@@ -55,9 +59,14 @@ giver_decision h value loops first = by_length (asked_in value) where
   by_length None = giver.Decline BadValue
   by_length (Some n) = if nat_le loops 1 then giver.Decline NoLoops else by_prefix (first_given h (candidates n loops first))
 
+  by_return : Option Prefix → GiverDecision
+  by_return None = by_length (asked_in value)
+  by_return (Some p) = receiver_decision h p
+
 -- the pool after it: an offered prefix is reserved
 abbrev pub after_deciding : Holding → GiverDecision → Holding
 after_deciding h (giver.Offer p) = after_first h (Some p)
+after_deciding h (giver.Accept p) = h
 after_deciding h (giver.Decline reason) = h
 
 -- one that wants a prefix of this length, and none that is longer than the longest, on the value and the loop count of the peer's offer

@@ -19,12 +19,13 @@ use Rattle.grasp_pool.specs.Pools.{IsPool, room_of}
 use Rattle.grasp_agent.specs.Deciding.{IsFirstFree}
 use Rattle.grasp_agent.specs.Decisions.{candidates, giver_decision}
 use Rattle.grasp_agent.specs.Kept.{IsKept}
-use Rattle.grasp_agent.specs.Replies.{AgentEvent, wanted, replied, answer_in, refused_in, is_again, progress_in, after_reply, agent_after}
+use Rattle.grasp_agent.specs.Replies.{AgentEvent, wanted, returned, replied, answer_in, refused_in, is_again, progress_in, after_reply, agent_after}
 use Rattle.grasp_agent.specs.States.{AgentState, duties, duty_of}
 use Rattle.grasp_agent.specs.Values.{asked_in, offered_in, length_value, prefix_value}
 use Rattle.grasp_agent.specs.declared.act.Act.TheVariants as act
 use Rattle.grasp_agent.specs.declared.decision.GiverDecision.TheVariants.{Offer}
-use Rattle.grasp_agent.specs.declared.duty.Duty.TheVariants.{Give}
+use Rattle.grasp_agent.specs.declared.back.Return.{Return}
+use Rattle.grasp_agent.specs.declared.duty.Duty.TheVariants as duty
 use Rattle.grasp_agent.specs.declared.giving.Giving.{Giving}
 
 -- a value that asks for this length: [length], or [length, the 16 bytes of any address]
@@ -48,6 +49,7 @@ GiversOffer = (h : Holding) (v : DataItem) (n loops m : ℕ) (first : Bool) → 
 -- the lengths of what is wanted are those of prefixes, and in order
 abbrev pub IsPossible : AgentEvent → Type 0
 IsPossible (wanted n longest peer) = (1 ≤ n) × (n ≤ longest) × (longest ≤ 128)
+IsPossible (returned p peer) = IsPrefix p.address p.length
 IsPossible (replied r) = Unit {0}
 
 -- whatever happens to an agent that is opened with a pool in which nothing is reserved, what is reserved is exactly what it offers
@@ -71,21 +73,25 @@ MayEnd (Some progress.NotYet) = ⊥
 MayEnd (Some (progress.Turn o)) = Unit {0}
 MayEnd (Some (progress.Ended outcome)) = IsPeersEnd outcome
 
--- the reply tells of the giving session that offers p
+-- the next duty is of the session in which p is offered: of a giving session, or of the return's
+pub data IsOffersDuty (s : AgentState) (p : Prefix) : Type 0 where
+  of_entry : (place : ℕ) (g : Giving) → duty_of s ≡ duty.Give place g.handle → slice_get s.giving place ≡ Some g → g.offer ≡ Some p → IsOffersDuty s p
+  of_return : (h : Handle) (r : Return) → duty_of s ≡ duty.Return h → s.back ≡ Some r → r.session ≡ Some h → r.prefix ≡ p → IsOffersDuty s p
+
+-- the reply tells of the session that offers p
 pub record IsTold (s : AgentState) (r : Reply) (p : Prefix) : Type 0 where
-  pub place : ℕ
-  pub giving : Giving
   pub idle : s.act ≡ None
-  pub duty : duty_of s ≡ Give place giving.handle
-  pub entry : slice_get s.giving place ≡ Some giving
-  pub offer : giving.offer ≡ Some p
+  pub offers : IsOffersDuty s p
   pub told : MayEnd (progress_in (answer_in r))
+
+-- p was to be offered: it is that of an act, or of a return that wasn't requested
+pub data IsToBeOffered (s : AgentState) (p : Prefix) : Type 0 where
+  by_act : (place : ℕ) (h : Handle) → s.act ≡ Some (act.Offer place h p) → IsToBeOffered s p
+  by_return : (r : Return) → s.back ≡ Some r → r.session ≡ None → r.prefix ≡ p → IsToBeOffered s p
 
 -- p was to be offered, and the node refused it, so that it was never sent
 pub record IsUnsent (s : AgentState) (r : Reply) (p : Prefix) : Type 0 where
-  pub place : ℕ
-  pub handle : Handle
-  pub act : s.act ≡ Some (act.Offer place handle p)
+  pub offer : IsToBeOffered s p
   pub refused : IsSome (refused_in r)
   pub last : is_again r ≡ false
 

@@ -1,5 +1,5 @@
 -- What a want and a reply make of an agent of PrefixManager.
-use Rattle.std.specs.Prelude.{ℕ, ◌+◌, nat_lt, Bool, true, false, if◌then◌else◌, List, [], ◌∷◌, ◌++◌, length, slice_get, slice_set, take, drop, Option, Some, None, Result, Ok, Err, fold}
+use Rattle.std.specs.Prelude.{ℕ, ◌+◌, nat_lt, Bool, true, false, if◌then◌else◌, List, [], ◌∷◌, ◌++◌, length, slice_get, slice_set, take, drop, Option, Some, None, is_none, Result, Ok, Err, fold}
 use Rattle.grasp_types.specs.Prefix.{AddressBlock as Prefix}
 use Rattle.grasp_types.specs.declared.address.Locator.{Locator}
 use Rattle.grasp_types.specs.declared.objective.Objective.{Objective}
@@ -17,12 +17,15 @@ use Rattle.grasp_types.specs.declared.session.Progress.{Progress}
 use Rattle.grasp_types.specs.declared.session.Progress.TheVariants as progress
 use Rattle.grasp_pool.specs.Holdings.{Holding}
 use Rattle.grasp_pool.specs.Pools.{room_of}
-use Rattle.grasp_pool.specs.Functions.{after_back, after_confirm, after_doubt, after_gaining}
+use Rattle.grasp_pool.specs.Functions.{around, after_take_at, after_back, after_confirm, after_doubt, after_settle, after_gaining}
 use Rattle.grasp_agent.specs.Values.{offered_in}
 use Rattle.grasp_agent.specs.Decisions.{giver_decision, after_deciding, requester_decision}
-use Rattle.grasp_agent.specs.States.{AgentState, first_agent, is_open, is_asking, duties, duty_of}
+use Rattle.grasp_agent.specs.States.{AgentState, first_agent, is_open, is_asking, is_returning, duties, duty_of}
 use Rattle.grasp_agent.specs.declared.act.Act.{Act}
 use Rattle.grasp_agent.specs.declared.act.Act.TheVariants as act
+use Rattle.grasp_agent.specs.declared.back.Return.{Return}
+use Rattle.grasp_agent.specs.declared.back.ReturnFault.{ReturnFault}
+use Rattle.grasp_agent.specs.declared.back.ReturnFault.TheVariants as fault
 use Rattle.grasp_agent.specs.declared.decision.GiverDecision.{GiverDecision}
 use Rattle.grasp_agent.specs.declared.decision.GiverDecision.TheVariants as giver
 use Rattle.grasp_agent.specs.declared.decision.RequesterDecision.{RequesterDecision}
@@ -54,6 +57,30 @@ new_want wanted longest peer = record { length = wanted; longest = longest; peer
 abbrev pub after_want : AgentState → ℕ → ℕ → Locator → Result (Unit {0}) WantFault → AgentState
 after_want s wanted longest peer (Ok done) = record s { want = Some (new_want wanted longest peer) }
 after_want s wanted longest peer (Err fault) = s
+
+-- ---- returns
+
+-- one return at a time, of a prefix that is all free, and room for the pieces of what is split
+abbrev pub return_reply : AgentState → Prefix → Result (Unit {0}) ReturnFault
+return_reply s p = by_return s.back where
+  by_return : Option Return → Result (Unit {0}) ReturnFault
+  by_return None = if is_none (around s.pool.free p) then Err fault.NotFree else (if nat_lt (room_of s.pool) 128 then Err fault.Full else Ok tt)
+  by_return (Some r) = Err (fault.Busy r.prefix)
+
+-- a new return isn't requested yet
+abbrev pub new_return : Prefix → Locator → Return
+new_return p peer = record { prefix = p; peer = peer; session = None }
+
+-- its prefix is reserved
+abbrev pub after_return : AgentState → Prefix → Locator → Result (Unit {0}) ReturnFault → AgentState
+after_return s p peer (Ok done) = record s { pool = after_take_at s.pool p true; back = Some (new_return p peer) }
+after_return s p peer (Err fault) = s
+
+-- ---- settlings
+
+-- a doubtful prefix is free again
+abbrev pub after_settling : AgentState → Prefix → AgentState
+after_settling s p = record s { pool = after_settle s.pool p }
 
 -- ---- what a reply tells
 
@@ -189,6 +216,25 @@ after_asking s r = by_refusal (refused_in r) where
   by_refusal (Some refused) = finished s (end.Refused refused)
   by_refusal None = after_starting s s.want (started_in (answer_in r))
 
+-- ---- the request of a return
+
+-- the session of the return began
+abbrev pub after_sending : AgentState → Option Return → Option Handle → AgentState
+after_sending s None session = s
+after_sending s (Some r) None = s
+after_sending s (Some r) (Some h) = record s { back = Some (record r { session = Some h }) }
+
+-- a return that was never offered goes back
+abbrev pub after_unsent : AgentState → Option Return → AgentState
+after_unsent s None = s
+after_unsent s (Some r) = record s { back = None; pool = after_back s.pool r.prefix }
+
+abbrev pub after_returning : AgentState → Reply → AgentState
+after_returning s r = by_refusal (refused_in r) where
+  by_refusal : Option ApiRefused → AgentState
+  by_refusal (Some refused) = after_unsent s s.back
+  by_refusal None = after_sending s s.back (started_in (answer_in r))
+
 -- ---- duties
 
 -- the prefix that was agreed on is held
@@ -228,11 +274,13 @@ giving_back h (Some p) = after_back h p
 -- a decision as an act in the giving session at this place
 abbrev pub give_act : ℕ → Handle → GiverDecision → Act
 give_act place h (giver.Offer p) = act.Offer place h p
+give_act place h (giver.Accept p) = act.Accept h p
 give_act place h (giver.Decline reason) = act.Decline h reason
 
 -- the giving session after its agent has decided
 abbrev pub deciding : Giving → GiverDecision → Giving
 deciding g (giver.Offer p) = record { handle = g.handle; offer = Some p; first = false }
+deciding g (giver.Accept p) = offering g None
 deciding g (giver.Decline reason) = offering g None
 
 -- the turn is the giver's: its last offer goes back, and it decides anew
@@ -274,9 +322,18 @@ after_give_progress s place (Some g) (Some progress.NotYet) = s
 after_give_progress s place (Some g) (Some (progress.Turn o)) = after_giver_turn s place g o
 after_give_progress s place (Some g) (Some (progress.Ended e)) = after_giver_end s place g e
 
+-- the return's session ended. Its turn never comes, since its one loop allows no step
+abbrev pub after_back_progress : AgentState → Option Return → Option Progress → AgentState
+after_back_progress s None p = s
+after_back_progress s (Some r) None = s
+after_back_progress s (Some r) (Some progress.NotYet) = s
+after_back_progress s (Some r) (Some (progress.Turn o)) = s
+after_back_progress s (Some r) (Some (progress.Ended e)) = record s { pool = settled s.pool r.prefix e; back = None }
+
 abbrev pub after_duty : AgentState → Duty → Reply → AgentState
 after_duty s duty.Listen r = after_incoming s (incoming_in (answer_in r))
 after_duty s (duty.Want h) r = after_want_progress s s.want h (progress_in (answer_in r))
+after_duty s (duty.Return h) r = after_back_progress s s.back (progress_in (answer_in r))
 after_duty s (duty.Give place h) r = after_give_progress s place (slice_get s.giving place) (progress_in (answer_in r))
 
 -- the next duty comes, and after the last one the first
@@ -287,7 +344,7 @@ advanced s = record s { cursor = if nat_lt (s.cursor + 1) (duties s) then s.curs
 
 abbrev pub after_serving : AgentState → Option Act → Reply → AgentState
 after_serving s (Some a) r = after_act s a r
-after_serving s None r = if is_asking s.want then after_asking s r else advanced (after_duty s (duty_of s) r)
+after_serving s None r = if is_asking s.want then after_asking s r else (if is_returning s.back then after_returning s r else advanced (after_duty s (duty_of s) r))
 
 -- after the reply to the call that was next
 unfoldable pub after_reply : AgentState → Reply → AgentState
@@ -295,13 +352,15 @@ after_reply s r = if is_again r then s else (if is_open s.stage then after_servi
 
 -- ---- all that happens to an agent
 
--- a want that was taken, or the reply to the call that was next
+-- a want or a return that was asked for, or the reply to the call that was next
 pub data AgentEvent : Type 0 where
   wanted : ℕ → ℕ → Locator → AgentEvent
+  returned : Prefix → Locator → AgentEvent
   replied : Reply → AgentEvent
 
 abbrev pub after_event : AgentState → AgentEvent → AgentState
 after_event s (wanted n longest peer) = after_want s n longest peer (want_reply s)
+after_event s (returned p peer) = after_return s p peer (return_reply s p)
 after_event s (replied r) = after_reply s r
 
 -- the agent that was opened with this pool after these events, oldest first

@@ -1,7 +1,8 @@
--- The value of PrefixManager: the length of a prefix, and the prefix's address where one is offered (RFC 8992, section 5.1).
-use Rattle.std.specs.Prelude.{ℕ, ◌^◌, ◌%◌, ◌==◌, ◌&&◌, nat_le, nat_lt, if◌then◌else◌, List, [], ◌∷◌, length, slice_get, Option, Some, None}
+-- The value of PrefixManager: the length of a prefix, and the prefix's address where one is offered (RFC 8992, section 5.1). That true behind
+-- both gives the prefix back is this project's own
+use Rattle.std.specs.Prelude.{ℕ, Bool, false, ◌^◌, ◌%◌, ◌==◌, ◌&&◌, nat_le, nat_lt, if◌then◌else◌, List, [], ◌∷◌, length, slice_get, Option, Some, None}
 use Rattle.std.specs.Int.{to_be_bytes, from_be_bytes, w128}
-use Rattle.grasp_cbor.specs.DataItem.{DataItem, unsigned, byte_string, array, array_of, items_in}
+use Rattle.grasp_cbor.specs.DataItem.{DataItem, unsigned, byte_string, array, simple_value, array_of, items_in}
 use Rattle.grasp_types.specs.Prefix.{AddressBlock as Prefix, size_of}
 
 -- a value that asks for a prefix of this length
@@ -11,6 +12,10 @@ length_value n = array_of (unsigned n ∷ [])
 -- a value that offers this prefix
 abbrev pub prefix_value : Prefix → DataItem
 prefix_value p = array_of (unsigned p.length ∷ byte_string (to_be_bytes w128 p.address) ∷ [])
+
+-- a value that gives this prefix back: the third part is true
+abbrev pub return_value : Prefix → DataItem
+return_value p = array_of (unsigned p.length ∷ byte_string (to_be_bytes w128 p.address) ∷ simple_value 21 ∷ [])
 
 -- the parts of the array that an item is
 abbrev pub array_parts : DataItem → Option (List DataItem)
@@ -82,3 +87,19 @@ offered_in value = by_parts (parts_in value) where
   by_parts : Option (List DataItem) → Option Prefix
   by_parts None = None
   by_parts (Some parts) = if length parts == 2 then prefix_in (length_at parts) (address_at parts) else None
+
+-- the item is the simple value true
+abbrev pub is_true_item : DataItem → Bool
+is_true_item (simple_value n) = n == 21
+is_true_item _ = false
+
+abbrev pub is_true_in : Option DataItem → Bool
+is_true_in None = false
+is_true_in (Some t) = is_true_item t
+
+-- the prefix that a value gives back: it is [length, 16 bytes, true]
+unfoldable pub returned_in : Option DataItem → Option Prefix
+returned_in value = by_parts (parts_in value) where
+  by_parts : Option (List DataItem) → Option Prefix
+  by_parts None = None
+  by_parts (Some parts) = if length parts == 3 && is_true_in (slice_get parts 2) then prefix_in (length_at parts) (address_at parts) else None

@@ -3,6 +3,7 @@
 ghost use Rattle.std.specs.Prelude.{◌≡◌, IfOk};
 ghost use Rattle.grasp_agent.specs.Calls.{act_call};
 ghost use Rattle.grasp_agent.specs.Replies.{want_act, give_act};
+ghost use Rattle.grasp_agent.specs.States.{accepted_by, offered_by};
 
 use crate::decision::{GiverDecision, Reason, RequesterDecision};
 use crate::value::{length_value, prefix_value};
@@ -58,6 +59,7 @@ impl Act {
                 handle,
                 prefix,
             },
+            GiverDecision::Accept(prefix) => Act::Accept { handle, prefix },
             GiverDecision::Decline(reason) => Act::Decline { handle, reason },
         }
     }
@@ -88,5 +90,25 @@ impl Act {
                 verdict: Verdict::Decline(Some(Chars::of(alloc, reason.text())?)),
             }),
         }
+    }
+}
+
+/// The prefix of an act of acceptance.
+pub(crate) fn accepted_by(act: &Option<Act>) -> Option<Prefix>
+    ensures { result ≡ accepted_by act.now }
+{
+    match act {
+        Some(Act::Accept { prefix, .. }) => Some(*prefix),
+        _ => None,
+    }
+}
+
+/// The offer of an act.
+pub(crate) fn offered_by(act: &Option<Act>) -> Option<Prefix>
+    ensures { result ≡ offered_by act.now }
+{
+    match act {
+        Some(Act::Offer { prefix, .. }) => Some(*prefix),
+        _ => None,
     }
 }

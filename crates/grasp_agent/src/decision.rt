@@ -40,6 +40,8 @@ impl Reason {
 pub enum GiverDecision {
     /// It offers this prefix.
     Offer(Prefix),
+    /// It accepts this prefix, which is given back.
+    Accept(Prefix),
     /// It declines.
     Decline(Reason),
 }

@@ -14,6 +14,8 @@ pub enum Duty {
     Listen,
     /// To ask how the session of its want stands.
     Want(Handle),
+    /// To ask how the session of its return stands.
+    Return(Handle),
     /// To ask how the giving session at this place stands.
     Give { place: u64, handle: Handle },
 }
@@ -27,7 +29,7 @@ impl Duty {
             Duty::Listen => Ok(Call::ListenNegotiate {
                 name: objective_name(alloc)?,
             }),
-            Duty::Want(handle) => Ok(Call::Poll { handle }),
+            Duty::Want(handle) | Duty::Return(handle) => Ok(Call::Poll { handle }),
             Duty::Give { place: _, handle } => Ok(Call::Poll { handle }),
         }
     }

@@ -1,10 +1,10 @@
-//! What a giver of prefixes decides (RFC 8992, section 4.2).
+//! What a giver of prefixes decides, also where a prefix is given back to it (RFC 8992, section 4.2).
 
 ghost use Rattle.std.specs.Prelude.{◌≡◌, ◌+◌, ◌≤◌};
-ghost use Rattle.grasp_agent.specs.Decisions.{upward, rounded, candidates, first_given, giver_decision, after_deciding, after_first};
+ghost use Rattle.grasp_agent.specs.Decisions.{upward, rounded, candidates, first_given, receiver_decision, giver_decision, after_deciding, after_first};
 
 use crate::decision::{GiverDecision, Reason};
-use crate::value::asked_length;
+use crate::value::{asked_length, returned_prefix};
 use grasp_pool::Pool;
 use grasp_types::{Prefix, Value};
 
@@ -21,6 +21,9 @@ pub(crate) fn give(pool: &mut Pool, value: &Option<Value>, loops: u8, first: boo
     ensures decides { result ≡ giver_decision pool.old value.now loops first }
     ensures after { pool.new ≡ after_deciding pool.old result }
 {
+    if let Some(prefix) = returned_prefix(value) {
+        return receive(pool, prefix);
+    }
     let Some(length) = asked_length(value) else {
         return GiverDecision::Decline(Reason::BadValue);
     };
@@ -30,6 +33,17 @@ pub(crate) fn give(pool: &mut Pool, value: &Option<Value>, loops: u8, first: boo
     match take_first(pool, length, loops, first) {
         Some(prefix) => GiverDecision::Offer(prefix),
         None => GiverDecision::Decline(Reason::NoPrefix),
+    }
+}
+
+/// Decides on a prefix that is given back.
+fn receive(pool: &Pool, prefix: Prefix) -> GiverDecision
+    ensures { result ≡ receiver_decision pool.now prefix }
+{
+    if pool.can_gain(prefix) {
+        GiverDecision::Accept(prefix)
+    } else {
+        GiverDecision::Decline(Reason::NotTaken)
     }
 }
 

@@ -38,7 +38,7 @@ impl Giving {
                 offer: Some(*prefix),
                 first: false,
             },
-            GiverDecision::Decline(_) => self.without_offer(),
+            GiverDecision::Accept(_) | GiverDecision::Decline(_) => self.without_offer(),
         }
     }
 }

@@ -3,6 +3,7 @@
 
 mod act;
 mod agent;
+mod back;
 mod beacon;
 mod decision;
 mod duty;
@@ -19,6 +20,7 @@ mod value;
 mod want;
 
 pub use agent::Agent;
+pub use back::ReturnFault;
 pub use beacon::Beacon;
 pub use decision::{GiverDecision, Reason, RequesterDecision};
 pub use duty::Duty;

@@ -3,14 +3,15 @@
 ghost use Rattle.std.specs.Prelude.{◌≡◌, ◌↔◌, ◌≤◌, true, Some, None, IfOk, IfSome, IsSome, IsTrue, MatchResult, Contains, slice_get};
 ghost use Rattle.grasp_pool.specs.Answers.{IsOpened, IsRootFault};
 ghost use Rattle.grasp_pool.specs.Functions.{pool_of};
-ghost use Rattle.grasp_agent.specs.Calls.{next_call, opening_call, asking_call};
+ghost use Rattle.grasp_agent.specs.Calls.{next_call, opening_call, asking_call, returning_call};
 ghost use Rattle.grasp_agent.specs.Decisions.{giver_decision, after_deciding};
-ghost use Rattle.grasp_agent.specs.Kept.{IsKept};
-ghost use Rattle.grasp_agent.specs.Replies.{want_reply, after_want, after_reply, after_opening, after_incoming, after_act, after_dropping, after_doing, after_asking, after_duty, after_want_progress, after_give_progress, after_giver_turn, after_giver_end, finished, giving_back, settled, settling, advanced, incoming_in, answer_in};
-ghost use Rattle.grasp_agent.specs.States.{first_agent, is_open, duties, duty_of, giving_duty, want_session};
+ghost use Rattle.grasp_agent.specs.Kept.{IsKept, returned};
+ghost use Rattle.grasp_agent.specs.Replies.{want_reply, after_want, return_reply, after_return, after_settling, after_reply, after_opening, after_incoming, after_act, after_dropping, after_doing, after_asking, after_returning, after_unsent, after_duty, after_want_progress, after_back_progress, after_give_progress, after_giver_turn, after_giver_end, finished, giving_back, settled, settling, advanced, incoming_in, answer_in};
+ghost use Rattle.grasp_agent.specs.States.{first_agent, is_open, accepted_by, offered_by, duties, duty_of, giving_duty, back_duty, want_duty, want_session, back_session, unsent_of};
 
-use crate::act::Act;
+use crate::act::{Act, accepted_by, offered_by};
 use crate::agent::Agent;
+use crate::back::{Return, ReturnFault, back_of, is_returning, unsent_of};
 use crate::decision::GiverDecision;
 use crate::duty::{Duty, objective_name};
 use crate::giver::give;
@@ -30,8 +31,8 @@ use std::marker::Model;
 /// An agent gives in at most so many sessions at once.
 const MOST_GIVING: usize = 64;
 
-/// The agent that manages the prefixes of a node: it gives prefixes to the agents of other nodes, and asks for one where
-/// it is told to want one.
+/// The agent that manages the prefixes of a node: it gives prefixes to the agents of other nodes, asks for one where it is
+/// told to want one, and gives one back where it is told to.
 ///
 /// `open` takes all the memory that it will need, but for what a call holds.
 #[derive(Drop)]
@@ -41,6 +42,7 @@ pub struct PrefixAgent {
     asa: u32,
     stage: Stage,
     want: Option<Want>,
+    back: Option<Return>,
     giving: Vec<Giving>,
     act: Option<Act>,
     cursor: u64,
@@ -77,6 +79,7 @@ impl PrefixAgent {
             asa: 0,
             stage: Stage::Registering,
             want: None,
+            back: None,
             giving,
             act: None,
             cursor: 0,
@@ -111,6 +114,66 @@ impl PrefixAgent {
             session: None,
         });
         Ok(())
+    }
+
+    /// Gives a prefix back to this peer. It is reserved until the session of the return ends, or its request is refused.
+    ///
+    /// `Busy` exactly where a return isn't finished, then `NotFree` exactly where an address of the prefix isn't free, then
+    /// `Full` exactly where the pool has room for fewer than 128 prefixes. It takes no memory.
+    pub fn hand_back(&mut self, prefix: Prefix, peer: Locator) -> Result<(), ReturnFault>
+        ensures reply { result ≡ return_reply self.old prefix }
+        ensures after { self.new ≡ after_return self.old prefix peer result }
+        ensures kept { IsKept self.new }
+    {
+        // What is read of a prefix tells that it is one.
+        let _address = prefix.address();
+        if let Some(back) = &self.back {
+            return Err(ReturnFault::Busy {
+                prefix: back.prefix,
+            });
+        }
+        if !self.pool.is_free(prefix) {
+            return Err(ReturnFault::NotFree);
+        }
+        if !self.pool.take_at(prefix) {
+            return Err(ReturnFault::Full);
+        }
+        self.back = Some(Return {
+            prefix,
+            peer,
+            session: None,
+        });
+        Ok(())
+    }
+
+    /// Makes a doubtful prefix free, where it is known that its offer was never taken.
+    pub fn settle(&mut self, prefix: Prefix)
+        requires { Contains self.old.pool.doubtful prefix }
+        ensures after { self.new ≡ after_settling self.old prefix }
+        ensures kept { IsKept self.new }
+    {
+        self.pool.settle(prefix);
+    }
+
+    /// The prefix of an act of acceptance that isn't done.
+    pub fn accepting(&self) -> Option<Prefix>
+        ensures { result ≡ accepted_by self.now.act }
+    {
+        accepted_by(&self.act)
+    }
+
+    /// The offer of an act that isn't done.
+    pub fn offering(&self) -> Option<Prefix>
+        ensures { result ≡ offered_by self.now.act }
+    {
+        offered_by(&self.act)
+    }
+
+    /// The prefix of a return that wasn't requested.
+    pub fn unsent(&self) -> Option<Prefix>
+        ensures { result ≡ unsent_of self.now.back }
+    {
+        unsent_of(&self.back)
     }
 
     /// Whether a want isn't finished.
@@ -154,13 +217,25 @@ impl PrefixAgent {
         }
     }
 
-    /// The request of a want that wasn't requested, and else the duty that is next.
+    /// The request of a want that wasn't requested, and else what comes behind it.
     fn asking_call(&self) -> Result<Call, OutOfMemory>
-        ensures { IfOk result (λ call. call ≡ asking_call self.now.want (duty_of self.now)) }
+        ensures { IfOk result (λ call. call ≡ asking_call self.now.want self.now.back (duty_of self.now)) }
     {
         if let Some(want) = &self.want {
             if want.session.is_none() {
                 return want.call(self.alloc);
+            }
+        }
+        self.returning_call()
+    }
+
+    /// The request of a return that wasn't requested, and else the duty that is next.
+    fn returning_call(&self) -> Result<Call, OutOfMemory>
+        ensures { IfOk result (λ call. call ≡ returning_call self.now.back (duty_of self.now)) }
+    {
+        if let Some(back) = &self.back {
+            if back.session.is_none() {
+                return back.call(self.alloc);
             }
         }
         self.duty().call(self.alloc)
@@ -173,10 +248,28 @@ impl PrefixAgent {
         if self.cursor == 0 {
             return Duty::Listen;
         }
+        self.want_duty(self.cursor - 1)
+    }
+
+    /// The duty at this place behind listening.
+    fn want_duty(&self, place: u64) -> Duty
+        ensures { result ≡ want_duty (want_session self.now.want) (back_session self.now.back) self.now.giving place }
+    {
         match session_of(&self.want) {
-            None => self.giving_duty(self.cursor - 1),
-            Some(handle) if self.cursor == 1 => Duty::Want(handle),
-            Some(_) => self.giving_duty(self.cursor - 2),
+            None => self.back_duty(place),
+            Some(handle) if place == 0 => Duty::Want(handle),
+            Some(_) => self.back_duty(place - 1),
+        }
+    }
+
+    /// The duty at this place behind the want's.
+    fn back_duty(&self, place: u64) -> Duty
+        ensures { result ≡ back_duty (back_session self.now.back) self.now.giving place }
+    {
+        match back_of(&self.back) {
+            None => self.giving_duty(place),
+            Some(handle) if place == 0 => Duty::Return(handle),
+            Some(_) => self.giving_duty(place - 1),
         }
     }
 
@@ -197,11 +290,14 @@ impl PrefixAgent {
     fn duties(&self) -> u64
         ensures { result ≡ duties self.now }
     {
-        let before = match session_of(&self.want) {
-            None => 1,
-            Some(_) => 2,
-        };
-        before + self.giving.len() as u64
+        let mut count = 1 + self.giving.len() as u64;
+        if session_of(&self.want).is_some() {
+            count += 1;
+        }
+        if back_of(&self.back).is_some() {
+            count += 1;
+        }
+        count
     }
 
     /// Takes the reply to the call that was next.
@@ -220,6 +316,9 @@ impl PrefixAgent {
         }
         if is_asking(&self.want) {
             return self.take_request_reply(reply);
+        }
+        if is_returning(&self.back) {
+            return self.take_return_reply(reply);
         }
         let duty = self.duty();
         self.take_duty_reply(duty, reply);
@@ -327,6 +426,44 @@ impl PrefixAgent {
         }
     }
 
+    /// Takes the reply to the request of a return.
+    fn take_return_reply(&mut self, reply: &Reply)
+        requires serves { is_open self.old.stage ≡ true }
+        requires none { self.old.act ≡ None }
+        ensures { self.new ≡ after_returning self.old reply.now }
+    {
+        if refused(reply).is_some() {
+            self.return_unsent();
+        } else if let Some(handle) = started(reply) {
+            if let Some(back) = &mut self.back {
+                back.session = Some(handle);
+            }
+        }
+    }
+
+    /// A return that was never offered goes back.
+    fn return_unsent(&mut self)
+        requires serves { is_open self.old.stage ≡ true }
+        requires none { self.old.act ≡ None }
+        ensures { self.new ≡ after_unsent self.old self.old.back }
+    {
+        let Some(prefix) = self.returned() else {
+            return;
+        };
+        self.back = None;
+        self.pool.give_back(prefix);
+    }
+
+    /// The prefix that is given back.
+    fn returned(&self) -> Option<Prefix>
+        ensures { result ≡ returned self.now.back }
+    {
+        match &self.back {
+            Some(back) => Some(back.prefix),
+            None => None,
+        }
+    }
+
     /// The want is finished.
     fn finish_want(&mut self, end: WantEnd)
         requires none { self.old.act ≡ None }
@@ -348,6 +485,11 @@ impl PrefixAgent {
             Duty::Want(handle) => {
                 if let Some(progress) = progress(reply) {
                     self.take_want_progress(handle, progress);
+                }
+            }
+            Duty::Return(_) => {
+                if let Some(progress) = progress(reply) {
+                    self.take_return_progress(progress);
                 }
             }
             Duty::Give { place, handle: _ } => {
@@ -378,6 +520,21 @@ impl PrefixAgent {
         }
     }
 
+    /// The session of the return stands so. Its turn never comes.
+    fn take_return_progress(&mut self, progress: &Progress)
+        requires serves { is_open self.old.stage ≡ true }
+        requires none { self.old.act ≡ None }
+        ensures { self.new ≡ after_back_progress self.old self.old.back (Some progress.now) }
+    {
+        let Some(prefix) = self.returned() else {
+            return;
+        };
+        if let Progress::Ended(outcome) = progress {
+            self.back = None;
+            settle_offer(&mut self.pool, prefix, outcome);
+        }
+    }
+
     /// The giving session at this place stands so.
     fn take_giving_progress(&mut self, place: u64, progress: &Progress)
         requires serves { is_open self.old.stage ≡ true }
@@ -390,7 +547,7 @@ impl PrefixAgent {
         match progress {
             Progress::NotYet => (),
             Progress::Turn(objective) => self.decide(place, giving, objective),
-            Progress::Ended(outcome) => self.settle(place, giving, outcome),
+            Progress::Ended(outcome) => self.end_giving(place, giving, outcome),
         }
     }
 
@@ -408,7 +565,7 @@ impl PrefixAgent {
     }
 
     /// A giving session ended: its offer is confirmed, goes back or is in doubt, and the session leaves.
-    fn settle(&mut self, place: u64, giving: Giving, outcome: &Outcome)
+    fn end_giving(&mut self, place: u64, giving: Giving, outcome: &Outcome)
         requires serves { is_open self.old.stage ≡ true }
         requires none { self.old.act ≡ None }
         requires place { slice_get self.old.giving place ≡ Some giving }

@@ -1,11 +1,11 @@
 //! Values of PrefixManager (RFC 8992, section 5.1).
 
-ghost use Rattle.std.specs.Prelude.{◌≡◌, ◌≤◌, Some, IfOk, IfSome, option_map};
+ghost use Rattle.std.specs.Prelude.{◌≡◌, ◌≤◌, Some, IfOk, IfSome, option_map, slice_get};
 ghost use Rattle.grasp_cbor.specs.DataItem.{data_items, items_depth, array_of};
 ghost use Rattle.grasp_cbor.specs.Item.{items_of};
-ghost use Rattle.grasp_agent.specs.Values.{length_value, prefix_value, length_at, address_at, address_in, prefix_in, parts_in, asked_in, offered_in};
+ghost use Rattle.grasp_agent.specs.Values.{length_value, prefix_value, return_value, is_true_in, returned_in, length_at, address_at, address_in, prefix_in, parts_in, asked_in, offered_in};
 
-use grasp_cbor::{Item, Items, Octets, OutOfMemory};
+use grasp_cbor::{Item, Items, Octets, OutOfMemory, SimpleValue};
 use grasp_types::{Prefix, Value, ipv6_of_bytes};
 use std::alloc::Global;
 
@@ -26,6 +26,24 @@ pub(crate) fn prefix_value(alloc: Global, prefix: Prefix) -> Result<Value, OutOf
     parts.push(Item::Uint(u64::from(prefix.length())))?;
     let address = Octets::of(alloc, &prefix.address().to_be_bytes())?;
     parts.push(Item::Bytes(address))?;
+    Ok(value_of(parts))
+}
+
+/// The simple value true (RFC 8949, section 3.3).
+const TRUE: u8 = 21;
+
+/// The value that gives this prefix back.
+pub(crate) fn return_value(alloc: Global, prefix: Prefix) -> Result<Value, OutOfMemory>
+    ensures { IfOk result (λ value. value ≡ return_value prefix) }
+{
+    let mut parts = Items::new(alloc);
+    parts.push(Item::Uint(u64::from(prefix.length())))?;
+    let address = Octets::of(alloc, &prefix.address().to_be_bytes())?;
+    parts.push(Item::Bytes(address))?;
+    let Some(yes) = SimpleValue::of(TRUE) else {
+        unreachable!()
+    };
+    parts.push(Item::Simple(yes))?;
     Ok(value_of(parts))
 }
 
@@ -84,6 +102,31 @@ pub(crate) fn offered_prefix(value: &Option<Value>) -> Option<Prefix>
     }
     let length = length_at(parts)?;
     prefix_at(length, address_at(parts)?)
+}
+
+/// The prefix that a value gives back: it is [length, 16 bytes, true].
+#[tactic(auto, unfolding(crate::specs::Values::returned_in))]
+pub(crate) fn returned_prefix(value: &Option<Value>) -> Option<Prefix>
+    ensures { result ≡ returned_in value.now }
+{
+    let Some(parts) = parts_of(value) else {
+        return None;
+    };
+    if parts.len() != 3 || !is_true_at(parts) {
+        return None;
+    }
+    let length = length_at(parts)?;
+    prefix_at(length, address_at(parts)?)
+}
+
+/// Whether true stands third.
+fn is_true_at(parts: &Items) -> bool
+    ensures { result ≡ is_true_in (slice_get (items_of parts.now) 2) }
+{
+    match parts.at(2) {
+        Some(Item::Simple(value)) => value.number() == TRUE,
+        _ => false,
+    }
 }
 
 /// The length of a prefix that stands first.

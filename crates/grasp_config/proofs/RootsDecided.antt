@@ -1,15 +1,16 @@
 -- A pool opens with roots, or it doesn't.
-use Rattle.std.proofs.Common.{ℕ, zero, suc, ◌+◌, ◌-◌, ◌%◌, ◌<◌, ◌≤◌, ◌^◌, ◌⊎◌, inl, inr, List, length, slice_index_or, subst, arith, add-one}
+use Rattle.std.proofs.Common.{ℕ, zero, suc, ◌+◌, ◌-◌, ◌%◌, ◌<◌, ◌≤◌, ◌^◌, ◌⊎◌, inl, inr, List, length, slice_index_or, sym, ap, ◌∙◌, subst, arith, add-one}
 use Rattle.std.proofs.lemmas.Bool.{cases_eq, cases_lt}
+use Rattle.std.proofs.lemmas.List.{get_or_default}
 use Rattle.std.proofs.lemmas.Nat.{pow_pos}
-use Rattle.grasp_types.specs.Prefix.{AddressBlock as Prefix, size_of, Overlap}
+use Rattle.grasp_types.specs.Prefix.{AddressBlock as Prefix, size_of, span_of, Overlap}
 use Rattle.grasp_types.proofs.Multiples.{multiple_of_mod, mod_of_multiple}
 use Rattle.grasp_pool.specs.Spans.{IsValid, size}
 use Rattle.grasp_pool.specs.Roots.{block_of, AllValid, RootsApart, AllApart}
 use Rattle.grasp_pool.specs.declared.roots.RootPrefix.{RootPrefix}
 use Rattle.grasp_pool.proofs.Dyadic.{size_pos}
 use Rattle.grasp_pool.proofs.Meeting.{meets}
-use Rattle.grasp_pool.proofs.Opening.{valid_more, root_apart, apart_more}
+use Rattle.grasp_pool.proofs.Opening.{valid_more}
 use Rattle.grasp_config.specs.Config.{AreRoots}
 use Rattle.grasp_config.proofs.GoodRoots.{no_root}
 
@@ -55,6 +56,20 @@ valid_decided roots (suc n) = elim (valid_decided roots n) [
       | inr bad ↦ inr (λ all. bad (all n no_root (omega arith) within))
     ]
   ]
+]
+
+-- one more root is apart from p
+root_apart : (roots : List RootPrefix) (p : Prefix) (i : ℕ) (z : RootPrefix) → RootsApart roots p i → i < length roots → ¬ Overlap (block_of (slice_index_or roots i z)) p → RootsApart roots p (i + 1)
+root_apart roots p i z below h miss k d lt within = elim (cases_eq k i) [
+  | inl e ↦ λ a x y. miss (a, (subst (λ r. span_of (block_of r) a) (sym (get_or_default roots k z d within) ∙ ap (λ j. slice_index_or roots j z) e) x, y))
+  | inr ne ↦ below k d (grind arith) within
+]
+
+-- one more root is apart from those before it
+apart_more : (roots : List RootPrefix) (j : ℕ) (z : RootPrefix) → AllApart roots j → j < length roots → RootsApart roots (block_of (slice_index_or roots j z)) j → AllApart roots (j + 1)
+apart_more roots j z before h here k d lt within = elim (cases_eq k j) [
+  | inl e ↦ subst (λ n. RootsApart roots (block_of (slice_index_or roots n d)) n) (sym e) (subst (λ r. RootsApart roots (block_of r) j) (get_or_default roots j z d h) here)
+  | inr ne ↦ before k d (grind arith) within
 ]
 
 apart_decided : (roots : List RootPrefix) (p : Prefix) (n : ℕ) → Decided (RootsApart roots p n)

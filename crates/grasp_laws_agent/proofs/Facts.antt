@@ -15,4 +15,4 @@ takes_back h (Some p) pool has = back_means h p pool has
 
 -- nothing moves where nothing changes
 pub itself : (a : AgentState) → NothingMoves a a
-itself a = record { pool = refl; giving = refl; want = (refl, refl); act = refl }
+itself a = record { pool = refl; giving = refl; want = (refl, refl); back = refl; act = refl }

@@ -8,10 +8,11 @@ use Rattle.grasp_types.specs.declared.session.Progress.{Progress}
 use Rattle.grasp_types.specs.declared.session.Progress.TheVariants as progress
 use Rattle.grasp_pool.proofs.Lists.{lt_tells}
 use Rattle.grasp_laws_agent.specs.Moves.{NextPlace, HasDone, CursorsTurn, OpeningGoes, OpeningsGoOn, OpeningsEnd}
-use Rattle.grasp_agent.specs.Replies.{answer_in, is_again, is_answered, is_done, asa_in, incoming_in, started_in, progress_in, after_incoming, after_registering, after_opening, after_act, after_doing, after_dropping, after_starting, after_asking, after_want_progress, after_give_progress, after_duty, after_serving, advanced, after_reply}
-use Rattle.grasp_agent.specs.States.{AgentState, is_open, is_asking, duties, duty_of}
+use Rattle.grasp_agent.specs.Replies.{answer_in, is_again, is_answered, is_done, asa_in, incoming_in, started_in, progress_in, after_incoming, after_registering, after_opening, after_act, after_doing, after_dropping, after_starting, after_asking, after_sending, after_unsent, after_returning, after_want_progress, after_back_progress, after_give_progress, after_duty, after_serving, advanced, after_reply}
+use Rattle.grasp_agent.specs.States.{AgentState, is_open, is_asking, is_returning, duties, duty_of}
 use Rattle.grasp_agent.specs.declared.act.Act.{Act}
 use Rattle.grasp_agent.specs.declared.act.Act.TheVariants as act
+use Rattle.grasp_agent.specs.declared.back.Return.{Return}
 use Rattle.grasp_agent.specs.declared.duty.Duty.{Duty}
 use Rattle.grasp_agent.specs.declared.duty.Duty.TheVariants as duty
 use Rattle.grasp_agent.specs.declared.giving.Giving.{Giving}
@@ -66,6 +67,24 @@ asking_stays s (reply.Refused x) = record { asa = refl; stage = refl; cursor = r
 asking_stays s (reply.Api a) = starting_stays s s.want (started_in (Some a))
 asking_stays s _ = starting_stays s s.want None
 
+sending_stays : (s : AgentState) (b : Option Return) (o : Option Handle) → Stays s (after_sending s b o)
+sending_stays s None o = stays s
+sending_stays s (Some b) None = stays s
+sending_stays s (Some b) (Some h) = record { asa = refl; stage = refl; cursor = refl }
+
+unsent_stays : (s : AgentState) (b : Option Return) → Stays s (after_unsent s b)
+unsent_stays s None = stays s
+unsent_stays s (Some b) = record { asa = refl; stage = refl; cursor = refl }
+
+returning_stays : (s : AgentState) (r : Reply) → Stays s (after_returning s r)
+returning_stays s (reply.Refused x) = unsent_stays s s.back
+returning_stays s (reply.Api a) = sending_stays s s.back (started_in (Some a))
+returning_stays s _ = sending_stays s s.back None
+
+back_stays : (s : AgentState) (b : Option Return) (p : Option Progress) → Stays s (after_back_progress s b p)
+back_stays s (Some b) (Some (progress.Ended e)) = record { asa = refl; stage = refl; cursor = refl }
+back_stays s _ _ = stays s
+
 want_stays : (s : AgentState) (w : Option Want) (h : Handle) (p : Option Progress) → Stays s (after_want_progress s w h p)
 want_stays s (Some w) h (Some (progress.Turn o)) = record { asa = refl; stage = refl; cursor = refl }
 want_stays s (Some w) h (Some (progress.Ended e)) = record { asa = refl; stage = refl; cursor = refl }
@@ -79,6 +98,7 @@ giving_stays s place _ _ = stays s
 duty_stays : (s : AgentState) (d : Duty) (r : Reply) → Stays s (after_duty s d r)
 duty_stays s duty.Listen r = incoming_stays s (incoming_in (answer_in r))
 duty_stays s (duty.Want h) r = want_stays s s.want h (progress_in (answer_in r))
+duty_stays s (duty.Return h) r = back_stays s s.back (progress_in (answer_in r))
 duty_stays s (duty.Give place h) r = giving_stays s place (slice_get s.giving place) (progress_in (answer_in r))
 
 -- ---- the cursor
@@ -116,11 +136,13 @@ duty_done s r done =
 serving_cursor : (s : AgentState) (a : Option Act) (r : Reply) → s.act ≡ a → is_open s.stage ≡ true → is_again r ≡ false → ¬ HasDone s r
     → (after_serving s a r).cursor ≡ s.cursor
 serving_cursor s (Some a) r e serves again none = (act_stays s a r).cursor
-serving_cursor s None r e serves again none = by (is_asking s.want) refl
+serving_cursor s None r e serves again none = by (is_asking s.want) refl (is_returning s.back) refl
   where
-    by : (b : Bool) → is_asking s.want ≡ b → (cond b (after_asking s r) (advanced (after_duty s (duty_of s) r))).cursor ≡ s.cursor
-    by true asks = (asking_stays s r).cursor
-    by false asked = absurd (none (record { serves = serves; idle = e; asked = asked; duty = refl }, again))
+    by : (b : Bool) → is_asking s.want ≡ b → (c : Bool) → is_returning s.back ≡ c
+        → (cond b (after_asking s r) (cond c (after_returning s r) (advanced (after_duty s (duty_of s) r)))).cursor ≡ s.cursor
+    by true asks c f = (asking_stays s r).cursor
+    by false asked true returns = (returning_stays s r).cursor
+    by false asked false sent = absurd (none (record { serves = serves; idle = e; asked = asked; sent = sent; duty = refl }, again))
 
 cursor_stays : (s : AgentState) (r : Reply) → ¬ HasDone s r → (after_reply s r).cursor ≡ s.cursor
 unfolding after_reply
@@ -159,12 +181,13 @@ again_goes s stage.Serving r again is = (is, refl)
 -- an agent that serves goes on
 serving_stays : (s : AgentState) (a : Option Act) (r : Reply) → ((after_serving s a r).stage ≡ s.stage) × ((after_serving s a r).asa ≡ s.asa)
 serving_stays s (Some a) r = let k : Stays s (after_act s a r) = act_stays s a r in (k.stage, k.asa)
-serving_stays s None r = by (is_asking s.want)
+serving_stays s None r = by (is_asking s.want) (is_returning s.back)
   where
-    by : (b : Bool) → ((cond b (after_asking s r) (advanced (after_duty s (duty_of s) r))).stage ≡ s.stage)
-        × ((cond b (after_asking s r) (advanced (after_duty s (duty_of s) r))).asa ≡ s.asa)
-    by true = let k : Stays s (after_asking s r) = asking_stays s r in (k.stage, k.asa)
-    by false = let k : Stays s (after_duty s (duty_of s) r) = duty_stays s (duty_of s) r in (k.stage, k.asa)
+    by : (b c : Bool) → ((cond b (after_asking s r) (cond c (after_returning s r) (advanced (after_duty s (duty_of s) r)))).stage ≡ s.stage)
+        × ((cond b (after_asking s r) (cond c (after_returning s r) (advanced (after_duty s (duty_of s) r)))).asa ≡ s.asa)
+    by true c = let k : Stays s (after_asking s r) = asking_stays s r in (k.stage, k.asa)
+    by false true = let k : Stays s (after_returning s r) = returning_stays s r in (k.stage, k.asa)
+    by false false = let k : Stays s (after_duty s (duty_of s) r) = duty_stays s (duty_of s) r in (k.stage, k.asa)
 
 serving_goes : (s : AgentState) (st : Stage) (r : Reply) → is_open st ≡ true → s.stage ≡ st → OpeningGoes s r (after_serving s s.act r) st
 serving_goes s stage.Serving r serves is = let k = serving_stays s s.act r in (k.0 ∙ is, k.1)

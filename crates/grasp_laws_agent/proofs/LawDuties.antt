@@ -1,16 +1,20 @@
 -- An agent always has a next duty, whatever happens.
-use Rattle.std.proofs.Common.{◌≡◌, ◌⊎◌, inl, inr, ℕ, ◌+◌, ◌<◌, ◌≤◌, Bool, true, false, cond, nat_lt, List, [], ◌∷◌, ◌++◌, length, slice_get, Option, Some, None, Ok, Err, fold, refl, subst, arith, length-append, length-set}
+use Rattle.std.proofs.Common.{◌≡◌, ◌⊎◌, inl, inr, ℕ, ◌+◌, ◌<◌, ◌≤◌, Bool, true, false, cond, nat_lt, List, [], ◌∷◌, ◌++◌, length, slice_get, Option, Some, None, Ok, Err, is_none, fold, refl, subst, arith, length-append, length-set}
+use Rattle.grasp_types.specs.Prefix.{AddressBlock as Prefix}
 use Rattle.grasp_types.specs.declared.address.Locator.{Locator}
 use Rattle.grasp_types.specs.declared.reply.Reply.{Reply}
 use Rattle.grasp_types.specs.declared.reply.Reply.TheVariants as reply
 use Rattle.grasp_types.specs.declared.session.Handle.{Handle}
+use Rattle.grasp_pool.specs.Functions.{around}
 use Rattle.grasp_pool.specs.Pools.{room_of}
 use Rattle.grasp_pool.proofs.Lists.{lt_tells}
 use Rattle.grasp_agent.specs.Laws.{ThereIsADuty}
-use Rattle.grasp_agent.specs.Replies.{AgentEvent, wanted, replied, after_event, after_want, want_reply, is_again, answer_in, asa_in, incoming_in, started_in, after_incoming, after_registering, after_opening, offering, without_offer, after_dropping, after_doing, after_act, after_starting, finished, after_asking, after_serving, advanced, after_duty, after_reply}
-use Rattle.grasp_agent.specs.States.{AgentState, first_agent, is_open, is_asking, want_session, duties_before, duties, duty_of}
+use Rattle.grasp_agent.specs.Replies.{AgentEvent, wanted, returned, replied, after_event, after_want, want_reply, after_return, return_reply, is_again, answer_in, asa_in, incoming_in, started_in, after_incoming, after_registering, after_opening, offering, without_offer, after_dropping, after_doing, after_act, after_starting, finished, after_asking, after_sending, after_unsent, after_returning, after_serving, advanced, after_duty, after_reply}
+use Rattle.grasp_agent.specs.States.{AgentState, first_agent, is_open, is_asking, is_returning, want_session, back_session, one_of, duties_before, duties, duty_of}
 use Rattle.grasp_agent.specs.declared.act.Act.{Act}
 use Rattle.grasp_agent.specs.declared.act.Act.TheVariants as act
+use Rattle.grasp_agent.specs.declared.back.Return.{Return}
+use Rattle.grasp_agent.specs.declared.back.ReturnFault.TheVariants as fault
 use Rattle.grasp_agent.specs.declared.giving.Giving.{Giving}
 use Rattle.grasp_agent.specs.declared.stage.Stage.{Stage}
 use Rattle.grasp_agent.specs.declared.stage.Stage.TheVariants as stage
@@ -26,13 +30,10 @@ choice_duty : (b : Bool) (x y : AgentState) → HasDuty x → HasDuty y → HasD
 choice_duty true x y h k = h
 choice_duty false x y h k = k
 
-some_duty : (o : Option Handle) → 1 ≤ duties_before o
-some_duty None = omega arith
-some_duty (Some h) = omega arith
-
-few_duties : (o : Option Handle) → duties_before o ≤ 2
-few_duties None = omega arith
-few_duties (Some h) = omega arith
+-- a session is at most one duty
+at_most_one : (o : Option Handle) → one_of o ≤ 1
+at_most_one None = omega arith
+at_most_one (Some h) = omega arith
 
 -- ---- sessions
 
@@ -88,17 +89,42 @@ asking_none (Some w) e = by w w.session e
     by v (Some h) f = absurd (cc)
 
 finished_duty : (s : AgentState) (e : WantEnd) → want_session s.want ≡ None → HasDuty s → HasDuty (finished s e)
-finished_duty s e none has = subst (λ o. s.cursor < duties_before o + length s.giving) none has
+finished_duty s e none has = subst (λ o. s.cursor < duties_before o (back_session s.back) + length s.giving) none has
 
 starting_duty : (s : AgentState) (w : Option Want) (o : Option Handle) → HasDuty s → HasDuty (after_starting s w o)
 starting_duty s None o has = has
 starting_duty s (Some w) None has = has
-starting_duty s (Some w) (Some h) has = let n : duties_before (want_session s.want) ≤ 2 = few_duties (want_session s.want) in omega arith
+starting_duty s (Some w) (Some h) has = let n : one_of (want_session s.want) ≤ 1 = at_most_one (want_session s.want) in omega arith
 
 asking_duty : (s : AgentState) (r : Reply) → want_session s.want ≡ None → HasDuty s → HasDuty (after_asking s r)
 asking_duty s (reply.Refused x) none has = finished_duty s (end.Refused x) none has
 asking_duty s (reply.Api a) none has = starting_duty s s.want (started_in (Some a)) has
 asking_duty s _ none has = starting_duty s s.want None has
+
+-- ---- the request of a return
+
+-- a return that wasn't requested has no session
+returning_none : (b : Option Return) → is_returning b ≡ true → back_session b ≡ None
+returning_none None e = refl
+returning_none (Some b) e = by b b.session e
+  where
+    by : (v : Return) (o : Option Handle) → is_returning (Some (record v { session = o })) ≡ true → o ≡ None
+    by v None f = refl
+    by v (Some h) f = absurd (cc)
+
+unsent_duty : (s : AgentState) (b : Option Return) → back_session s.back ≡ None → HasDuty s → HasDuty (after_unsent s b)
+unsent_duty s None none has = has
+unsent_duty s (Some b) none has = subst (λ o. s.cursor < duties_before (want_session s.want) o + length s.giving) none has
+
+sending_duty : (s : AgentState) (b : Option Return) (o : Option Handle) → HasDuty s → HasDuty (after_sending s b o)
+sending_duty s None o has = has
+sending_duty s (Some b) None has = has
+sending_duty s (Some b) (Some h) has = let n : one_of (back_session s.back) ≤ 1 = at_most_one (back_session s.back) in omega arith
+
+returning_duty : (s : AgentState) (r : Reply) → back_session s.back ≡ None → HasDuty s → HasDuty (after_returning s r)
+returning_duty s (reply.Refused x) none has = unsent_duty s s.back none has
+returning_duty s (reply.Api a) none has = sending_duty s s.back (started_in (Some a)) has
+returning_duty s _ none has = sending_duty s s.back None has
 
 -- ---- replies
 
@@ -109,15 +135,17 @@ advanced_duty s = by (nat_lt (s.cursor + 1) (duties s)) (lt_tells (s.cursor + 1)
     by : (b : Bool) → ((b ≡ true) × (s.cursor + 1 < duties s)) ⊎ ((b ≡ false) × (duties s ≤ s.cursor + 1)) → HasDuty (record s { cursor = cond b (s.cursor + 1) 0 })
     by true (inl h) = h.1
     by true (inr h) = absurd (cc)
-    by false h = let n : 1 ≤ duties_before (want_session s.want) = some_duty (want_session s.want) in omega arith
+    by false h = omega arith
 
 serving_duty : (s : AgentState) (a : Option Act) (r : Reply) → HasDuty s → HasDuty (after_serving s a r)
 serving_duty s (Some a) r has = act_duty s a r has
-serving_duty s None r has = by (is_asking s.want) refl
+serving_duty s None r has = by (is_asking s.want) refl (is_returning s.back) refl
   where
-    by : (b : Bool) → is_asking s.want ≡ b → HasDuty (cond b (after_asking s r) (advanced (after_duty s (duty_of s) r)))
-    by true e = asking_duty s r (asking_none s.want e) has
-    by false e = advanced_duty (after_duty s (duty_of s) r)
+    by : (b : Bool) → is_asking s.want ≡ b → (c : Bool) → is_returning s.back ≡ c
+        → HasDuty (cond b (after_asking s r) (cond c (after_returning s r) (advanced (after_duty s (duty_of s) r))))
+    by true e c f = asking_duty s r (asking_none s.want e) has
+    by false e true f = returning_duty s r (returning_none s.back f) has
+    by false e false f = advanced_duty (after_duty s (duty_of s) r)
 
 reply_duty : (s : AgentState) (r : Reply) → HasDuty s → HasDuty (after_reply s r)
 unfolding after_reply
@@ -125,7 +153,7 @@ reply_duty s r has =
     choice_duty (is_again r) s (cond (is_open s.stage) (after_serving s s.act r) (after_opening s r)) has
     (choice_duty (is_open s.stage) (after_serving s s.act r) (after_opening s r) (serving_duty s s.act r has) (opening_duty s s.stage r has))
 
--- ---- wants
+-- ---- wants and returns
 
 want_duty : (s : AgentState) (w : Option Want) (n longest : ℕ) (peer : Locator) → HasDuty (record s { want = w }) → HasDuty (after_want (record s { want = w }) n longest peer (want_reply (record s { want = w })))
 want_duty s None n longest peer has = by (nat_lt 0 (room_of s.pool))
@@ -135,8 +163,19 @@ want_duty s None n longest peer has = by (nat_lt 0 (room_of s.pool))
     by false = has
 want_duty s (Some w) n longest peer has = has
 
+returned_duty : (s : AgentState) (b : Option Return) (p : Prefix) (peer : Locator) → HasDuty (record s { back = b })
+    → HasDuty (after_return (record s { back = b }) p peer (return_reply (record s { back = b }) p))
+returned_duty s None p peer has = by (is_none (around s.pool.free p)) (nat_lt (room_of s.pool) 128)
+  where
+    by : (a b : Bool) → HasDuty (after_return (record s { back = None }) p peer (cond a (Err fault.NotFree) (cond b (Err fault.Full) (Ok tt))))
+    by true b = has
+    by false true = has
+    by false false = has
+returned_duty s (Some b) p peer has = has
+
 event_duty : (s : AgentState) (e : AgentEvent) → HasDuty s → HasDuty (after_event s e)
 event_duty s (wanted n longest peer) has = want_duty s s.want n longest peer has
+event_duty s (returned p peer) has = returned_duty s s.back p peer has
 event_duty s (replied r) has = reply_duty s r has
 
 events_duty : (s : AgentState) (es : List AgentEvent) → HasDuty s → HasDuty (fold after_event s es)

@@ -26,12 +26,13 @@ use Rattle.grasp_agent.specs.declared.decision.GiverDecision.TheVariants as give
 use Rattle.grasp_agent.specs.declared.giving.Giving.{Giving}
 use Rattle.grasp_agent.proofs.KeepDecisions.{GivenBy, give_given}
 use Rattle.grasp_agent.proofs.Keeping.{act_stands, offer_reserved}
-use Rattle.grasp_laws_agent.proofs.LawEffects.{IsGiver, PoolEffect, unchanged, dropped, gained, turned, ended, pool_effect}
+use Rattle.grasp_agent.proofs.Returning.{return_reserved}
+use Rattle.grasp_laws_agent.proofs.LawEffects.{IsGiver, PoolEffect, unchanged, dropped, gained, unsent, heard, turned, ended, pool_effect}
 
 -- a decision frees nothing
 given_free : (h : Holding) (d : GiverDecision) → GivenBy h d → (a : ℕ) → IsFree (after_deciding h d) a → IsFree h a
 given_free h (giver.Offer p) given a free = ((given.reserves.free a).0 free).0
-given_free h (giver.Decline reason) given a free = free
+given_free h _ given a free = free
 
 -- a decision of a giver frees nothing
 give_free : (h : Holding) (v : Option DataItem) (loops : ℕ) (first : Bool) → IsPool h → (a : ℕ) → IsFree (after_deciding h (giver_decision h v loops first)) a → IsFree h a
@@ -101,6 +102,12 @@ module _ (s : AgentState) (r : Reply) (a : ℕ) (kept : IsKept s) where
   comes h (unchanged e) free = inl (subst (λ x. IsFree x a) e free)
   comes h (dropped place handle q is refused last e) free = dropping place handle q is (subst (λ x. IsFree x a) e free)
   comes h (gained handle q is done e) free = gaining_free handle q is done (subst (λ x. IsFree x a) e free)
+  comes h (unsent b is none refused last e) free =
+      let has : Contains s.pool.reserved b.prefix = return_reserved s b is kept
+      in of_offer b.prefix has (((back_means s.pool b.prefix kept.pool has).free a).0 (subst (λ x. IsFree x a) e free))
+  comes h (heard handle b o is told e) free =
+      let has : Contains s.pool.reserved b.prefix = return_reserved s b is.back kept
+      in of_offer b.prefix has (settled_free s.pool b.prefix kept.pool has o a (subst (λ x. IsFree x a) e free))
   comes h (turned place g o is told e) free = turning place g o is g.offer refl (subst (λ x. IsFree x a) e free)
   comes h (ended place g o is told e) free = ending place g o is g.offer refl (subst (λ x. IsFree x a) e free)
 

@@ -1,5 +1,5 @@
 -- When a giver decides what.
-use Rattle.std.proofs.Common.{◌≡◌, ◌⊎◌, inl, inr, ℕ, ◌==◌, ◌<◌, ◌≤◌, Bool, true, false, cond, List, [], ◌∷◌, ◌++◌, Contains, Option, Some, None, IfSome, refl, sym, ap, subst, ◌∙◌, arith}
+use Rattle.std.proofs.Common.{◌≡◌, ◌↔◌, ◌⊎◌, inl, inr, ℕ, ◌==◌, ◌<◌, ◌≤◌, Bool, true, false, cond, List, [], ◌∷◌, ◌++◌, Contains, Option, Some, None, IfSome, IsTrue, refl, sym, ap, subst, ◌∙◌, arith}
 use Rattle.std.proofs.lemmas.Bool.{le-leb}
 use Rattle.std.proofs.lemmas.Bool.Decides.{eqb_tells}
 use Rattle.grasp_cbor.specs.DataItem.{DataItem}
@@ -7,16 +7,17 @@ use Rattle.grasp_types.specs.Prefix.{AddressBlock as Prefix}
 use Rattle.grasp_pool.specs.Canonical.{IsLowestFree, HasNoFree}
 use Rattle.grasp_pool.specs.Holdings.{Holding}
 use Rattle.grasp_pool.specs.Pools.{IsPool, room_of}
-use Rattle.grasp_pool.specs.Functions.{take_reply, lowest_free}
+use Rattle.grasp_pool.specs.Functions.{take_reply, lowest_free, can_gain}
+use Rattle.grasp_pool.proofs.Gaining.{can_gain_tells}
 use Rattle.grasp_pool.proofs.Lists.{lt_tells}
-use Rattle.grasp_agent.specs.Deciding.{IsFirstFree, GiverDecides, GiversDecide}
-use Rattle.grasp_agent.specs.Decisions.{candidates, given_or, first_given, giver_decision}
-use Rattle.grasp_agent.specs.Values.{asked_in}
+use Rattle.grasp_agent.specs.Deciding.{IsFirstFree, FitsPool, GiverDecides, GiversDecide}
+use Rattle.grasp_agent.specs.Decisions.{candidates, given_or, first_given, receiver_decision, giver_decision}
+use Rattle.grasp_agent.specs.Values.{asked_in, returned_in}
 use Rattle.grasp_agent.specs.declared.decision.GiverDecision.{GiverDecision}
 use Rattle.grasp_agent.specs.declared.decision.GiverDecision.TheVariants as giver
 use Rattle.grasp_agent.specs.declared.decision.Reason.TheVariants.{BadValue, NoLoops, NoPrefix, TooSmall, NotTaken}
 use Rattle.grasp_agent.proofs.Deciding.{more_loops, none_in, cons_first, cons_more, cons_cases, IsGiven, first_is_free, candidates_range}
-use Rattle.grasp_agent.proofs.KeepDecisions.{IsLength, asked_ok, give_none, give_free, give_some}
+use Rattle.grasp_agent.proofs.KeepDecisions.{IsLength, asked_ok, give_received, give_none, give_free, give_some}
 
 -- ---- one first free prefix
 
@@ -127,9 +128,17 @@ module _ (h : Holding) (v : Option DataItem) (loops : ℕ) (first : Bool) (pool 
       → giver_decision h v loops first ≡ giver.Offer p
   with_prefix n p asked more e = give_some h v loops first n p asked e ∙ ap (λ b. cond b (giver.Decline NoLoops) (giver.Offer p)) (more_loops loops more)
 
+  -- what is given back is accepted where it fits the pool
+  received : (p : Prefix) → returned_in v ≡ Some p → GiverDecides h v loops first (receiver_decision h p)
+  received p back = choose (can_gain h p) (can_gain_tells h p)
+    where
+      choose : (b : Bool) → IsTrue b ↔ FitsPool h p → GiverDecides h v loops first (cond b (giver.Accept p) (giver.Decline NotTaken))
+      choose true fits = (back, fits.0 refl)
+      choose false fits = (p, back, λ k. let e : false ≡ true = fits.1 k in absurd (cc))
+
   -- what it decides
   decides : GiverDecides h v loops first (giver_decision h v loops first)
-  decides = by (asked_in v) refl
+  decides = back (returned_in v) refl
     where
       given : (n : ℕ) → asked_in v ≡ Some n → 2 ≤ loops → 128 ≤ room_of h → (o : Option Prefix) → first_given h (candidates n loops first) ≡ o
           → IsGiven h (candidates n loops first) o → GiverDecides h v loops first (giver_decision h v loops first)
@@ -142,12 +151,16 @@ module _ (h : Holding) (v : Option DataItem) (loops : ℕ) (first : Bool) (pool 
         | inr x ↦ given n asked more x.1 (first_given h (candidates n loops first)) refl (gives n asked x.1)
       ]
 
-      by : (o : Option ℕ) → asked_in v ≡ o → GiverDecides h v loops first (giver_decision h v loops first)
-      by None e = subst (GiverDecides h v loops first) (sym (give_none h v loops first e)) e
-      by (Some n) e = elim (lt_tells loops 2) [
+      by : returned_in v ≡ None → (o : Option ℕ) → asked_in v ≡ o → GiverDecides h v loops first (giver_decision h v loops first)
+      by none None e = subst (GiverDecides h v loops first) (sym (give_none h v loops first none e)) (e, none)
+      by none (Some n) e = elim (lt_tells loops 2) [
         | inl x ↦ let few : loops ≤ 1 = omega (arith, x.1) in subst (GiverDecides h v loops first) (sym (without_loops n e few)) (n, e, few)
         | inr x ↦ looped n e x.1
       ]
+
+      back : (o : Option Prefix) → returned_in v ≡ o → GiverDecides h v loops first (giver_decision h v loops first)
+      back None e = by e (asked_in v) refl
+      back (Some p) e = subst (GiverDecides h v loops first) (sym (give_received h v loops first p e)) (received p e)
 
   -- a giver makes a decision when the decision's condition holds
   decided : (d : GiverDecision) → GiverDecides h v loops first d → giver_decision h v loops first ≡ d
@@ -156,7 +169,9 @@ module _ (h : Holding) (v : Option DataItem) (loops : ℕ) (first : Bool) (pool 
       by : (o : Option Prefix) → IsGiven h (candidates n loops first) o → o ≡ Some p
       by None none = absurd (some_free h p.length p f.least (none p.length f.tried))
       by (Some q) is = ap Some (one_first h (candidates n loops first) q p is f)
-  decided (giver.Decline BadValue) none = give_none h v loops first none
+  decided (giver.Accept p) (back, fits) =
+      give_received h v loops first p back ∙ ap (λ b. cond b (giver.Accept p) (giver.Decline NotTaken)) ((can_gain_tells h p).1 fits)
+  decided (giver.Decline BadValue) (none, nor) = give_none h v loops first nor none
   decided (giver.Decline NoLoops) (n, asked, few) = without_loops n asked few
   decided (giver.Decline NoPrefix) (n, asked, more, inl room) = without_prefix n asked more (no_room h (candidates n loops first) room)
   decided (giver.Decline NoPrefix) (n, asked, more, inr none) = elim (lt_tells (room_of h) 128) [
@@ -168,7 +183,12 @@ module _ (h : Holding) (v : Option DataItem) (loops : ℕ) (first : Bool) (pool 
       by None is = refl
       by (Some p) is = absurd (some_free h p.length p is.least (none p.length is.tried))
   decided (giver.Decline TooSmall) k = absurd k
-  decided (giver.Decline NotTaken) k = absurd k
+  decided (giver.Decline NotTaken) (p, back, none) =
+      give_received h v loops first p back ∙ ap (λ b. cond b (giver.Accept p) (giver.Decline NotTaken)) (by (can_gain h p) (can_gain_tells h p))
+    where
+      by : (b : Bool) → IsTrue b ↔ FitsPool h p → b ≡ false
+      by true fits = absurd (none (fits.0 refl))
+      by false fits = refl
 
 -- a giver makes a decision exactly when the decision's condition holds
 pub givers_decide : GiversDecide

@@ -1,6 +1,7 @@
 -- What is true of every agent stays so, whatever happens.
-use Rattle.std.proofs.Common.{◌≡◌, ℕ, ◌+◌, ◌-◌, ◌==◌, Bool, true, false, cond, nat_lt, All, List, [], ◌∷◌, slice_get, Option, Some, None, Ok, Err, IfSome, Contains, fold, refl, sym, ap, subst, arith}
+use Rattle.std.proofs.Common.{◌≡◌, ℕ, ◌+◌, Bool, true, false, cond, nat_lt, All, List, [], ◌∷◌, slice_get, Option, Some, None, Ok, Err, IfSome, Contains, is_none, fold, refl, sym, ap, subst, arith}
 use Rattle.std.proofs.lemmas.List.Elements.{All-nil, All-head, All-tail}
+use Rattle.grasp_types.specs.Prefix.{AddressBlock as Prefix, IsPrefix}
 use Rattle.grasp_types.specs.declared.address.Locator.{Locator}
 use Rattle.grasp_types.specs.declared.reply.Reply.{Reply}
 use Rattle.grasp_types.specs.declared.reply.Reply.TheVariants as reply
@@ -8,14 +9,17 @@ use Rattle.grasp_types.specs.declared.session.Handle.{Handle}
 use Rattle.grasp_types.specs.declared.session.Progress.{Progress}
 use Rattle.grasp_types.specs.declared.session.Progress.TheVariants as progress
 use Rattle.grasp_pool.specs.Holdings.{Holding}
+use Rattle.grasp_pool.specs.Functions.{around, after_take_at}
 use Rattle.grasp_pool.specs.Pools.{IsPool, room_of}
 use Rattle.grasp_agent.specs.Decisions.{requester_decision}
-use Rattle.grasp_agent.specs.Kept.{ActStands, IsFresh, IsInRange, IsKept}
+use Rattle.grasp_agent.specs.Kept.{returned as given_back, ActStands, IsFresh, IsInRange, IsKept}
 use Rattle.grasp_agent.specs.Laws.{IsPossible, AgentsAreKept}
-use Rattle.grasp_agent.specs.Replies.{AgentEvent, wanted, replied, after_event, after_want, want_reply, new_want, answer_in, asa_in, incoming_in, started_in, progress_in, after_registering, after_opening, after_act, after_starting, after_asking, after_want_progress, want_end, after_give_progress, after_duty, after_serving, advanced, after_reply}
-use Rattle.grasp_agent.specs.States.{AgentState, first_agent, is_open, want_session, want_length, duties, giving_duty, duty_at, duty_of}
+use Rattle.grasp_agent.specs.Replies.{AgentEvent, wanted, returned, replied, after_event, after_want, want_reply, new_want, after_return, return_reply, answer_in, asa_in, incoming_in, started_in, progress_in, after_registering, after_opening, after_act, after_starting, after_asking, after_sending, after_unsent, after_returning, after_want_progress, want_end, after_back_progress, after_give_progress, after_duty, after_serving, advanced, after_reply}
+use Rattle.grasp_agent.specs.States.{AgentState, first_agent, is_open, want_session, want_length, duties, duty_of}
 use Rattle.grasp_agent.specs.declared.act.Act.{Act}
 use Rattle.grasp_agent.specs.declared.act.Act.TheVariants as act
+use Rattle.grasp_agent.specs.declared.back.Return.{Return}
+use Rattle.grasp_agent.specs.declared.back.ReturnFault.TheVariants as return
 use Rattle.grasp_agent.specs.declared.duty.Duty.{Duty}
 use Rattle.grasp_agent.specs.declared.duty.Duty.TheVariants as duty
 use Rattle.grasp_agent.specs.declared.giving.Giving.{Giving}
@@ -26,7 +30,9 @@ use Rattle.grasp_agent.specs.declared.want.WantEnd.{WantEnd}
 use Rattle.grasp_agent.specs.declared.want.WantEnd.TheVariants as end
 use Rattle.grasp_agent.specs.declared.want.WantFault.TheVariants as fault
 use Rattle.grasp_agent.proofs.KeepDecisions.{ask_asked}
-use Rattle.grasp_agent.proofs.Keeping.{opened, stands_again, kept_incoming, kept_dropping, kept_doing, kept_asked, kept_giver_turn, kept_giver_end}
+use Rattle.grasp_laws_agent.proofs.LawNext.{its_duty}
+use Rattle.grasp_agent.proofs.Keeping.{opened, new_kept, kept_incoming, kept_dropping, kept_doing, kept_asked, kept_giver_turn, kept_giver_end}
+use Rattle.grasp_agent.proofs.Returning.{kept_returning, kept_handed, kept_unsent, kept_heard}
 
 -- an agent that has made shut call
 kept_first : (h : Holding) → IsPool h → h.reserved ≡ [] → IsKept (first_agent h)
@@ -37,7 +43,7 @@ kept_first h pool none = record {
   once = λ i j d lt within. absurd (omega arith);
   first = All-nil (λ g. IsFresh g);
   want = tt;
-  idle = λ shut. (refl, refl, refl);
+  idle = λ shut. (refl, refl, refl, refl);
   act = tt;
 }
 
@@ -117,29 +123,29 @@ asking_kept s (reply.Refused x) idle serves k = kept_want s None (Some (end.Refu
 asking_kept s (reply.Api a) idle serves k = starting_kept s s.want (started_in (Some a)) idle serves k.want k
 asking_kept s _ idle serves k = starting_kept s s.want None idle serves k.want k
 
+-- ---- the request of a return
+
+sending_kept : (s : AgentState) (b : Option Return) (o : Option Handle) → s.back ≡ b → s.act ≡ None → is_open s.stage ≡ true → IsKept s
+    → IsKept (after_sending s b o)
+sending_kept s None o is idle serves k = k
+sending_kept s (Some b) None is idle serves k = k
+sending_kept s (Some b) (Some h) is idle serves k = kept_handed s b h is idle serves k
+
+unsent_kept : (s : AgentState) (b : Option Return) → s.back ≡ b → s.act ≡ None → is_open s.stage ≡ true → IsKept s → IsKept (after_unsent s b)
+unsent_kept s None is idle serves k = k
+unsent_kept s (Some b) is idle serves k = kept_unsent s b.prefix (ap given_back is) k idle serves
+
+returning_kept : (s : AgentState) (r : Reply) → s.act ≡ None → is_open s.stage ≡ true → IsKept s → IsKept (after_returning s r)
+returning_kept s (reply.Refused x) idle serves k = unsent_kept s s.back refl idle serves k
+returning_kept s (reply.Api a) idle serves k = sending_kept s s.back (started_in (Some a)) refl idle serves k
+returning_kept s _ idle serves k = sending_kept s s.back None refl idle serves k
+
 -- ---- duties
 
--- the duty at a giving session isn't a want's
-never_want : (giving : List Giving) (k : ℕ) (h : Handle) → giving_duty giving k ≡ duty.Want h → ⊥
-never_want giving k h e = by (slice_get giving k) refl
-  where
-    by : (o : Option Giving) → slice_get giving k ≡ o → ⊥
-    by None f = let e' = rw f at e in absurd (cc)
-    by (Some g) f = let e' = rw f at e in absurd (cc)
-
--- the duty of a want is in its session
-pub want_duty : (session : Option Handle) (giving : List Giving) (k : ℕ) (h : Handle) → duty_at session giving k ≡ duty.Want h → session ≡ Some h
-want_duty None giving k h = by (k == 0)
-  where
-    by : (b : Bool) → cond b duty.Listen (giving_duty giving (k - 1)) ≡ duty.Want h → None ≡ Some h
-    by true e = absurd (cc)
-    by false e = absurd (never_want giving (k - 1) h e)
-want_duty (Some w) giving k h = by (k == 0) (k == 1)
-  where
-    by : (b c : Bool) → cond b duty.Listen (cond c (duty.Want w) (giving_duty giving (k - 2))) ≡ duty.Want h → Some w ≡ Some h
-    by true c e = absurd (cc)
-    by false true e = cc
-    by false false e = absurd (never_want giving (k - 2) h e)
+back_kept : (s : AgentState) (b : Option Return) (p : Option Progress) → s.back ≡ b → s.act ≡ None → is_open s.stage ≡ true → IsKept s
+    → IsKept (after_back_progress s b p)
+back_kept s (Some b) (Some (progress.Ended e)) is idle serves k = kept_heard s b.prefix (ap given_back is) k e idle serves
+back_kept s _ _ is idle serves k = k
 
 want_kept : (s : AgentState) (w : Option Want) (h : Handle) (p : Option Progress) → w ≡ s.want → s.act ≡ None → is_open s.stage ≡ true
     → want_session s.want ≡ Some h
@@ -160,18 +166,20 @@ giving_kept s place _ _ at idle serves k = k
 duty_kept : (s : AgentState) (r : Reply) (d : Duty) → duty_of s ≡ d → s.act ≡ None → is_open s.stage ≡ true → IsKept s → IsKept (after_duty s d r)
 duty_kept s r duty.Listen e idle serves k = kept_incoming s (incoming_in (answer_in r)) serves k
 duty_kept s r (duty.Want h) e idle serves k =
-    want_kept s s.want h (progress_in (answer_in r)) refl idle serves (want_duty (want_session s.want) s.giving s.cursor h e) k
+    want_kept s s.want h (progress_in (answer_in r)) refl idle serves (its_duty s (duty.Want h) e) k
+duty_kept s r (duty.Return h) e idle serves k = back_kept s s.back (progress_in (answer_in r)) refl idle serves k
 duty_kept s r (duty.Give place h) e idle serves k = giving_kept s place (slice_get s.giving place) (progress_in (answer_in r)) refl idle serves k
 
 advanced_kept : (s : AgentState) → IsKept s → IsKept (advanced s)
 advanced_kept s k = kept_moved s s.asa (cond (nat_lt (s.cursor + 1) (duties s)) (s.cursor + 1) 0) s.stage (λ e. e) k
 
--- ---- replies and wants
+-- ---- replies, wants and returns
 
 serving_kept : (s : AgentState) (a : Option Act) (r : Reply) → s.act ≡ a → is_open s.stage ≡ true → IsKept s → IsKept (after_serving s a r)
 serving_kept s (Some a) r e serves k = act_kept s a r e k
 serving_kept s None r e serves k =
-    choice_kept _ _ _ (asking_kept s r e serves k) (advanced_kept (after_duty s (duty_of s) r) (duty_kept s r (duty_of s) refl e serves k))
+    choice_kept _ _ _ (asking_kept s r e serves k)
+    (choice_kept _ _ _ (returning_kept s r e serves k) (advanced_kept (after_duty s (duty_of s) r) (duty_kept s r (duty_of s) refl e serves k)))
 
 -- a reply keeps what is true of every agent
 pub kept_reply : (s : AgentState) (r : Reply) → IsKept s → IsKept (after_reply s r)
@@ -182,23 +190,6 @@ kept_reply s r k = choice_kept _ _ _ k (by (is_open s.stage) refl)
     by true e = serving_kept s s.act r refl e k
     by false e = opening_kept s s.stage r k
 
--- where nothing is wanted, a new want leaves the act that isn't done
-pub new_kept : (s : AgentState) (w : Want) → w.session ≡ None → IsInRange w → IsKept (record s { want = None }) → IsKept (record s { want = Some w })
-new_kept s w none range k = record {
-  pool = k.pool;
-  few = k.few;
-  reserved = k.reserved;
-  once = k.once;
-  first = k.first;
-  want = range;
-  idle = λ shut. ((k.idle shut).0, none, (k.idle shut).2);
-  act = by s.act k.act;
-}
-  where
-    by : (o : Option Act) → IfSome o (λ a. ActStands (record s { want = None }) a) → IfSome o (λ a. ActStands (record s { want = Some w }) a)
-    by None stands = tt
-    by (Some a) stands = stands_again (record s { want = None }) (record s { want = Some w }) refl (sym none) (λ h e. absurd (cc)) (λ place g at. at) a stands
-
 kept_wanted : (s : AgentState) (w : Option Want) (n longest : ℕ) (peer : Locator) → IsInRange (new_want n longest peer) → IsKept (record s { want = w })
     → IsKept (after_want (record s { want = w }) n longest peer (want_reply (record s { want = w })))
 kept_wanted s None n longest peer range k = by (nat_lt 0 (room_of s.pool))
@@ -208,8 +199,20 @@ kept_wanted s None n longest peer range k = by (nat_lt 0 (room_of s.pool))
     by false = k
 kept_wanted s (Some w) n longest peer range k = k
 
-kept_event : (s : AgentState) (e : AgentEvent) → IsPossible e → IsKept s → IsKept (after_event s e)
+kept_returned : (s : AgentState) (b : Option Return) (p : Prefix) (peer : Locator) → IsPrefix p.address p.length → IsKept (record s { back = b })
+    → IsKept (after_return (record s { back = b }) p peer (return_reply (record s { back = b }) p))
+kept_returned s None p peer valid k = by (around s.pool.free p) refl (nat_lt (room_of s.pool) 128) refl
+  where
+    by : (o : Option Prefix) → around s.pool.free p ≡ o → (b : Bool) → nat_lt (room_of s.pool) 128 ≡ b
+        → IsKept (after_return (record s { back = None }) p peer (cond (is_none o) (Err return.NotFree) (cond b (Err return.Full) (Ok tt))))
+    by None e b f = k
+    by (Some w) e true f = k
+    by (Some w) e false f = kept_returning (record s { back = None }) p peer (after_take_at s.pool p true) refl valid (rw (f, e) refl) refl k
+kept_returned s (Some b) p peer valid k = k
+
+pub kept_event : (s : AgentState) (e : AgentEvent) → IsPossible e → IsKept s → IsKept (after_event s e)
 kept_event s (wanted n longest peer) range k = kept_wanted s s.want n longest peer range k
+kept_event s (returned p peer) valid k = kept_returned s s.back p peer valid k
 kept_event s (replied r) range k = kept_reply s r k
 
 kept_events : (s : AgentState) (es : List AgentEvent) → All (λ e. IsPossible e) es → IsKept s → IsKept (fold after_event s es)

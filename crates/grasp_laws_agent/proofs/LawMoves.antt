@@ -16,12 +16,12 @@ use Rattle.grasp_pool.specs.Pools.{IsPool}
 use Rattle.grasp_pool.specs.Functions.{after_gain, after_gaining}
 use Rattle.grasp_pool.proofs.Gaining.{can_gain_tells}
 use Rattle.grasp_pool.proofs.Lists.{lt_tells}
-use Rattle.grasp_pool.proofs.Meanings.{gain_means, back_means, confirm_means, doubt_means}
+use Rattle.grasp_pool.proofs.Meanings.{gain_means, back_means}
 use Rattle.grasp_agent.specs.Decisions.{giver_decision, requester_decision, after_deciding}
 use Rattle.grasp_agent.specs.Kept.{ActStands, IsKept}
-use Rattle.grasp_laws_agent.specs.Moves.{comes_in, starts, is_refused, considers, finishes, is_made, is_dropped, gives, leaves, IsNext, IsRequesting, Happens, Effect, EndsAs, Gives, Settled, SettlesOffer, MovesAreMade}
-use Rattle.grasp_agent.specs.Replies.{answer_in, is_again, incoming_in, started_in, progress_in, is_answered, after_incoming, after_opening, after_act, after_doing, after_dropping, after_starting, finished, after_asking, held_end, want_end, want_act, after_want_progress, giving_back, settled, settling, after_give_progress, after_giver_end, after_giver_turn, after_duty, after_serving, advanced, after_reply}
-use Rattle.grasp_agent.specs.States.{AgentState, is_open, is_asking, want_session, duty_of}
+use Rattle.grasp_laws_agent.specs.Moves.{comes_in, starts, is_refused, considers, finishes, hands, is_unsent, hears, is_made, is_dropped, gives, leaves, IsNext, IsRequesting, IsReturning, Happens, Effect, EndsAs, Gives, SettlesOffer, MovesAreMade}
+use Rattle.grasp_agent.specs.Replies.{answer_in, is_again, incoming_in, started_in, progress_in, is_answered, after_incoming, after_opening, after_act, after_doing, after_dropping, after_starting, finished, after_asking, after_returning, held_end, want_end, want_act, after_want_progress, after_back_progress, giving_back, settling, after_give_progress, after_giver_end, after_giver_turn, after_duty, after_serving, advanced, after_reply}
+use Rattle.grasp_agent.specs.States.{AgentState, is_open, is_asking, is_returning, want_session, duty_of}
 use Rattle.grasp_agent.specs.Values.{offered_in}
 use Rattle.grasp_agent.specs.declared.act.Act.{Act}
 use Rattle.grasp_agent.specs.declared.act.Act.TheVariants as act
@@ -35,13 +35,12 @@ use Rattle.grasp_agent.specs.declared.want.Want.{Want}
 use Rattle.grasp_agent.specs.declared.want.WantEnd.TheVariants as end
 use Rattle.grasp_agent.proofs.KeepDecisions.{GivenBy, give_given}
 use Rattle.grasp_agent.proofs.KeepForms.{act_reserved}
-use Rattle.grasp_agent.proofs.Keeping.{act_stands, around, offer_reserved, without_is}
+use Rattle.grasp_agent.proofs.Keeping.{act_stands, between, offer_reserved, without_is}
 use Rattle.grasp_laws_agent.proofs.Facts.{takes_back}
 use Rattle.grasp_laws_agent.proofs.LawGiver.{givers_decide}
-use Rattle.grasp_laws_agent.proofs.LawKept.{want_duty}
+use Rattle.grasp_laws_agent.proofs.LawNext.{its_duty}
 use Rattle.grasp_laws_agent.proofs.LawRequester.{requesters_decide}
-use Rattle.grasp_agent.proofs.OfferPools.{backed_giving_back}
-use Rattle.grasp_agent.proofs.Offers.{before, behind}
+use Rattle.grasp_laws_agent.proofs.Returning.{returned_started, hands_so, unsent_so, settles, hears_so}
 
 -- ---- which part of the table a reply meets
 
@@ -65,14 +64,23 @@ at_opening s r again shut =
     ap (λ b. cond b s (cond (is_open s.stage) (after_serving s s.act r) (after_opening s r))) again
     ∙ ap (λ b. cond b (after_serving s s.act r) (after_opening s r)) shut
 
+-- after the reply to a call that is no want's request, where b says that a return is to be requested
+abbrev after_asked : AgentState → Reply → Bool → AgentState
+after_asked s r b = cond b (after_returning s r) (advanced (after_duty s (duty_of s) r))
+
 pub at_duty : (s : AgentState) (r : Reply) (d : Duty) → is_again r ≡ false → IsNext s d → after_reply s r ≡ advanced (after_duty s d r)
 at_duty s r d again n =
-    at_serving s r None again n.serves n.idle ∙ ap (λ b. cond b (after_asking s r) (advanced (after_duty s (duty_of s) r))) n.asked
-    ∙ ap (λ x. advanced (after_duty s x r)) n.duty
+    at_serving s r None again n.serves n.idle ∙ ap (λ b. cond b (after_asking s r) (after_asked s r (is_returning s.back))) n.asked
+    ∙ ap (after_asked s r) n.sent ∙ ap (λ x. advanced (after_duty s x r)) n.duty
 
 pub at_request : (s : AgentState) (r : Reply) → is_again r ≡ false → IsRequesting s → after_reply s r ≡ after_asking s r
 at_request s r again n =
-    at_serving s r None again n.serves n.idle ∙ ap (λ b. cond b (after_asking s r) (advanced (after_duty s (duty_of s) r))) n.asks
+    at_serving s r None again n.serves n.idle ∙ ap (λ b. cond b (after_asking s r) (after_asked s r (is_returning s.back))) n.asks
+
+pub at_return : (s : AgentState) (r : Reply) → is_again r ≡ false → IsReturning s → after_reply s r ≡ after_returning s r
+at_return s r again n =
+    at_serving s r None again n.serves n.idle ∙ ap (λ b. cond b (after_asking s r) (after_asked s r (is_returning s.back))) n.asked
+    ∙ ap (after_asked s r) n.returns
 
 -- an agent that has an act serves
 act_serves : (s : AgentState) (a : Act) → s.act ≡ Some a → IsKept s → is_open s.stage ≡ true
@@ -80,7 +88,7 @@ act_serves s a e k = by (is_open s.stage) refl
   where
     by : (b : Bool) → is_open s.stage ≡ b → is_open s.stage ≡ true
     by true f = f
-    by false f = let none : s.act ≡ None = (k.idle f).2 in absurd (cc)
+    by false f = let none : s.act ≡ None = (k.idle f).3 in absurd (cc)
 
 -- ---- a session comes in
 
@@ -109,11 +117,11 @@ module _ (s : AgentState) (r : Reply) (h : Handle) where
       ∙ ap (λ b. cond b (after_incoming (record s { stage = stage.Serving }) (incoming_in (answer_in r)))
       (record s { stage = stage.Opening })) (answered r told)
       ∙ joined (record s { stage = stage.Serving }) (incoming_in (answer_in r)) told few
-      in subst (Effect s (comes_in h)) (sym (e ∙ f)) (refl, (refl, refl), refl, refl)
+      in subst (Effect s (comes_in h)) (sym (e ∙ f)) (refl, (refl, refl), refl, refl, refl)
   coming (inr next, told, few) =
       let e : after_reply s r ≡ advanced (with_session s)
       = at_duty s r duty.Listen (told_again incoming_in r h refl told) next ∙ ap advanced (joined s (incoming_in (answer_in r)) told few)
-      in subst (Effect s (comes_in h)) (sym e) (refl, (refl, refl), refl, refl)
+      in subst (Effect s (comes_in h)) (sym e) (refl, (refl, refl), refl, refl, refl)
 
   -- ---- the request of a want
 
@@ -129,18 +137,18 @@ module _ (s : AgentState) (r : Reply) (h : Handle) where
       by (Some w) e asks =
           let f : after_reply s r ≡ record s { want = Some (record w { session = Some h }) }
           = at_request s r (told_again started_in r h refl told) n ∙ asked_started r told ∙ ap (λ x. after_starting s x (Some h)) e
-          in subst (Effect s (starts h)) (sym f) (refl, refl, refl, refl, (w, e, refl))
+          in subst (Effect s (starts h)) (sym f) (refl, refl, refl, refl, refl, (w, e, refl))
 
 refusing : (s : AgentState) (r : Reply) (x : ApiRefused) → Happens s r (is_refused x) → Effect s (is_refused x) (after_reply s r)
 refusing s r x (n, is, last) =
     let e : after_reply s r ≡ finished s (end.Refused x) = at_request s r last n ∙ ap (after_asking s) is
-    in subst (Effect s (is_refused x)) (sym e) (refl, refl, refl, refl, refl)
+    in subst (Effect s (is_refused x)) (sym e) (refl, refl, refl, refl, refl, refl)
 
 -- ---- the session of a want
 
 -- the want of the next duty
 next_want : (s : AgentState) (h : Handle) → IsNext s (duty.Want h) → (w : Want) × (s.want ≡ Some w)
-next_want s h n = by s.want refl (want_duty (want_session s.want) s.giving s.cursor h n.duty)
+next_want s h n = by s.want refl (its_duty s (duty.Want h) n.duty)
   where
     by : (w : Option Want) → s.want ≡ w → want_session s.want ≡ Some h → (x : Want) × (s.want ≡ Some x)
     by None e at = let none : want_session s.want ≡ None = ap want_session e in absurd (cc)
@@ -157,6 +165,7 @@ considering s r h o (n, told) =
       refl,
       refl,
       (refl, refl),
+      refl,
       record {
         want = w;
         decision = requester_decision s.pool w.length w.longest o.value o.loops;
@@ -188,7 +197,7 @@ finishing s r h o (n, told) =
     in let e : after_reply s r ≡ advanced (finished s (want_end o))
     = at_duty s r (duty.Want h) (told_again progress_in r (progress.Ended o) refl told) n ∙ ap (λ p. advanced (after_want_progress s s.want h p)) told
     ∙ ap (λ x. advanced (after_want_progress s x h (Some (progress.Ended o)))) has
-    in subst (Effect s (finishes h o)) (sym e) (refl, refl, refl, refl, (want_end o, ends_as o, refl))
+    in subst (Effect s (finishes h o)) (sym e) (refl, refl, refl, refl, refl, (want_end o, ends_as o, refl))
 
 -- ---- acts
 
@@ -203,8 +212,8 @@ making s r a k (is, done) =
         let stands : ActStands s (act.Accept h p) = act_stands s (act.Accept h p) f k
         in let new = (can_gain_tells s.pool p).0 stands.2
         in let gained : after_gaining s.pool p ≡ after_gain s.pool p = ap (λ b. cond b (after_gain s.pool p) s.pool) stands.2
-        in (refl, (refl, refl), refl, subst (λ x. Gains s.pool x p) (sym gained) (gain_means s.pool p k.pool stands.1 new.0))
-    by _ f = (refl, (refl, refl), refl, refl)
+        in (refl, (refl, refl), refl, refl, subst (λ x. Gains s.pool x p) (sym gained) (gain_means s.pool p k.pool stands.1 new.0))
+    by _ f = (refl, (refl, refl), refl, refl, refl)
 
 dropping : (s : AgentState) (r : Reply) (a : Act) → IsKept s → Happens s r (is_dropped a) → Effect s (is_dropped a) (after_reply s r)
 dropping s r a k (is, refused, last) =
@@ -218,28 +227,29 @@ dropping s r a k (is, refused, last) =
         in (
           (refl, refl),
           refl,
+          refl,
           (back_means s.pool p k.pool (act_reserved s place h p f k), without_is s.giving place (record { handle = h; offer = Some p; first = false }) stands),
         )
-    by _ f = ((refl, refl), refl, (refl, refl))
+    by _ f = ((refl, refl), refl, refl, (refl, refl))
 
 -- ---- giving sessions
 
 -- what is decided is given
 gives_so : (h : Holding) (d : GiverDecision) → GivenBy h d → Gives d h (after_deciding h d)
 gives_so h (giver.Offer p) given = given.reserves
-gives_so h (giver.Decline reason) given = refl
+gives_so h _ given = refl
 
 giving : (s : AgentState) (r : Reply) (place : ℕ) (g : Giving) (o : Objective) → IsKept s → Happens s r (gives place g o)
     → Effect s (gives place g o) (after_reply s r)
 giving s r place g o k (n, at, told) =
-    let pool : IsPool (giving_back s.pool g.offer)
-    = (backed_giving_back s.pool (before s.giving place) (behind s.giving place) g.offer (around s place g at k)).pool
+    let pool : IsPool (giving_back s.pool g.offer) = (between s place g at k).pool
     in let e : after_reply s r ≡ advanced (after_giver_turn s place g o)
     = at_duty s r (duty.Give place g.handle) (told_again progress_in r (progress.Turn o) refl told) n
     ∙ ap (λ p. advanced (after_give_progress s place (slice_get s.giving place) p)) told
     ∙ ap (λ x. advanced (after_give_progress s place x (Some (progress.Turn o)))) at
     in subst (Effect s (gives place g o)) (sym e) (
       (refl, refl),
+      refl,
       record {
         between = giving_back s.pool g.offer;
         decision = giver_decision (giving_back s.pool g.offer) o.value o.loops g.first;
@@ -254,11 +264,6 @@ giving s r place g o k (n, at, told) =
     )
 
 -- an offer whose session ended
-settles : (h : Holding) (p : Prefix) (e : Outcome) → IsPool h → Contains h.reserved p → Settled e p h (settled h p e)
-settles h p (outcome.Agreed Theirs o) pool has = confirm_means h p pool has
-settles h p (outcome.Declined Theirs reason) pool has = back_means h p pool has
-settles h p _ pool has = doubt_means h p pool has
-
 settles_offer : (h : Holding) (o : Option Prefix) (e : Outcome) → IsPool h → IfSome o (λ p. Contains h.reserved p) → SettlesOffer o e h (settling h o e)
 settles_offer h None e pool has = refl
 settles_offer h (Some p) e pool has = settles h p e pool has
@@ -270,7 +275,24 @@ leaving s r place g o k (n, at, told) =
     = at_duty s r (duty.Give place g.handle) (told_again progress_in r (progress.Ended o) refl told) n
     ∙ ap (λ p. advanced (after_give_progress s place (slice_get s.giving place) p)) told
     ∙ ap (λ x. advanced (after_give_progress s place x (Some (progress.Ended o)))) at
-    in subst (Effect s (leaves place g o)) (sym e) ((refl, refl), refl, settles_offer s.pool g.offer o k.pool (offer_reserved s place g at k), refl)
+    in subst (Effect s (leaves place g o)) (sym e) ((refl, refl), refl, refl, settles_offer s.pool g.offer o k.pool (offer_reserved s place g at k), refl)
+
+-- ---- the return
+
+handing : (s : AgentState) (r : Reply) (h : Handle) → Happens s r (hands h) → Effect s (hands h) (after_reply s r)
+handing s r h (n, told) =
+    subst (Effect s (hands h)) (sym (at_return s r (told_again started_in r h refl told) n ∙ returned_started s r h told))
+    (hands_so s s.back h refl n.returns)
+
+unsending : (s : AgentState) (r : Reply) (x : ApiRefused) → IsKept s → Happens s r (is_unsent x) → Effect s (is_unsent x) (after_reply s r)
+unsending s r x k (n, is, last) =
+    subst (Effect s (is_unsent x)) (sym (at_return s r last n ∙ ap (after_returning s) is)) (unsent_so s s.back x refl n.returns k)
+
+hearing : (s : AgentState) (r : Reply) (h : Handle) (e : Outcome) → IsKept s → Happens s r (hears h e) → Effect s (hears h e) (after_reply s r)
+hearing s r h e k (n, told) =
+    subst (Effect s (hears h e))
+    (sym (at_duty s r (duty.Return h) (told_again progress_in r (progress.Ended e) refl told) n ∙ ap (λ p. advanced (after_back_progress s s.back p)) told))
+    (hears_so s s.back h e refl (its_duty s (duty.Return h) n.duty) k)
 
 -- ---- all moves
 
@@ -280,6 +302,9 @@ moves_are_made s r (starts h) k happens = starting s r h happens
 moves_are_made s r (is_refused x) k happens = refusing s r x happens
 moves_are_made s r (considers h o) k happens = considering s r h o happens
 moves_are_made s r (finishes h e) k happens = finishing s r h e happens
+moves_are_made s r (hands h) k happens = handing s r h happens
+moves_are_made s r (is_unsent x) k happens = unsending s r x k happens
+moves_are_made s r (hears h e) k happens = hearing s r h e k happens
 moves_are_made s r (is_made a) k happens = making s r a k happens
 moves_are_made s r (is_dropped a) k happens = dropping s r a k happens
 moves_are_made s r (gives place g o) k happens = giving s r place g o k happens

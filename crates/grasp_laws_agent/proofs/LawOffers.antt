@@ -14,15 +14,17 @@ use Rattle.grasp_pool.proofs.Equal.{add_members, without_members}
 use Rattle.grasp_pool.proofs.Maximal.{cases_prefix}
 use Rattle.grasp_agent.specs.Decisions.{giver_decision, after_deciding}
 use Rattle.grasp_agent.specs.Kept.{ActStands, IsKept}
-use Rattle.grasp_agent.specs.Laws.{MayEnd, IsTold, IsUnsent, OffersStayListed, DoubtsStay}
+use Rattle.grasp_agent.specs.Laws.{MayEnd, of_entry, of_return, IsTold, by_act, by_return, IsUnsent, OffersStayListed, DoubtsStay}
 use Rattle.grasp_agent.specs.Replies.{is_again, refused_in, answer_in, progress_in, giving_back, settled, settling}
 use Rattle.grasp_agent.specs.States.{AgentState}
 use Rattle.grasp_agent.specs.declared.act.Act.TheVariants as act
 use Rattle.grasp_agent.specs.declared.decision.GiverDecision.{GiverDecision}
 use Rattle.grasp_agent.specs.declared.decision.GiverDecision.TheVariants as giver
+use Rattle.grasp_agent.specs.declared.back.Return.{Return}
 use Rattle.grasp_agent.specs.declared.giving.Giving.{Giving}
 use Rattle.grasp_agent.proofs.Keeping.{act_stands, offer_reserved}
-use Rattle.grasp_laws_agent.proofs.LawEffects.{IsGiver, PoolEffect, unchanged, dropped, gained, turned, ended, pool_effect}
+use Rattle.grasp_agent.proofs.Returning.{return_reserved}
+use Rattle.grasp_laws_agent.proofs.LawEffects.{IsGiver, IsReturner, PoolEffect, unchanged, dropped, gained, unsent, heard, turned, ended, pool_effect}
 
 -- ---- doubtful prefixes
 
@@ -35,7 +37,7 @@ gaining_doubtful h q = by (can_gain h q)
 
 given_doubtful : (h : Holding) (d : GiverDecision) → (after_deciding h d).doubtful ≡ h.doubtful
 given_doubtful h (giver.Offer p) = refl
-given_doubtful h (giver.Decline reason) = refl
+given_doubtful h _ = refl
 
 back_doubtful : (h : Holding) (o : Option Prefix) → (giving_back h o).doubtful ≡ h.doubtful
 back_doubtful h None = refl
@@ -56,6 +58,8 @@ doubts_after s r p h (dropped place handle q is refused last e) has = subst (λ 
 doubts_after s r p h (gained handle q is done e) has = subst (λ x. Contains x p) (sym (ap (λ x. x.doubtful) e ∙ gaining_doubtful s.pool q)) has
 doubts_after s r p h (turned place g o is told e) has =
     subst (λ x. Contains x p) (sym (ap (λ x. x.doubtful) e ∙ given_doubtful (giving_back s.pool g.offer) (giver_decision (giving_back s.pool g.offer) o.value o.loops g.first) ∙ back_doubtful s.pool g.offer)) has
+doubts_after s r p h (unsent b is none refused last e) has = subst (λ x. Contains x.doubtful p) (sym e) has
+doubts_after s r p h (heard handle b o is told e) has = subst (λ x. Contains x.doubtful p) (sym e) (settled_doubtful s.pool b.prefix o p has)
 doubts_after s r p h (ended place g o is told e) has = subst (λ x. Contains x.doubtful p) (sym e) (settling_doubtful s.pool g.offer o p has)
 
 -- a doubtful prefix stays in doubt
@@ -73,7 +77,7 @@ gaining_reserved h q = by (can_gain h q)
 
 given_reserved : (h : Holding) (d : GiverDecision) (p : Prefix) → Contains h.reserved p → Contains (after_deciding h d).reserved p
 given_reserved h (giver.Offer q) p has = (add_members q h.reserved p).1 (inl has)
-given_reserved h (giver.Decline reason) p has = has
+given_reserved h _ p has = has
 
 -- where it ends by the peer's word p may be anything, and by all else p is in doubt
 settled_listed : (h : Holding) (q : Prefix) (e : Outcome) → IsListed (settled h q e) q ⊎ MayEnd (Some (progress.Ended e))
@@ -104,12 +108,13 @@ module _ (s : AgentState) (r : Reply) (p : Prefix) (kept : IsKept s) (has : Cont
   -- the reply tells of the session that offers p
   told_of : (place : ℕ) (g : Giving) (q : Prefix) → IsGiver s place g → g.offer ≡ Some q → p ≡ q → MayEnd (progress_in (answer_in r)) → IsTold s r p
   told_of place g q is offer same told =
-      record { place = place; giving = g; idle = is.idle; duty = is.duty; entry = is.entry; offer = subst (λ x. g.offer ≡ Some x) (sym same) offer; told = told }
+      record { idle = is.idle; offers = of_entry place g is.duty is.entry (subst (λ x. g.offer ≡ Some x) (sym same) offer); told = told }
 
   dropping : (h : Holding) (place : ℕ) (handle : Handle) (q : Prefix) → s.act ≡ Some (act.Offer place handle q) → IsSome (refused_in r) → is_again r ≡ false
       → h ≡ after_back s.pool q → IsListed h p ⊎ (IsTold s r p ⊎ IsUnsent s r p)
   dropping h place handle q is refused last e = elim (cases_prefix p q) [
-    | inl same ↦ inr (inr (record { place = place; handle = handle; act = subst (λ x. s.act ≡ Some (act.Offer place handle x)) (sym same) is; refused = refused; last = last }))
+    | inl same ↦
+        inr (inr (record { offer = by_act place handle (subst (λ x. s.act ≡ Some (act.Offer place handle x)) (sym same) is); refused = refused; last = last }))
     | inr other ↦
         let stands : ActStands s (act.Offer place handle q) = act_stands s (act.Offer place handle q) is kept
         in let hasq : Contains s.pool.reserved q = offer_has place (record { handle = handle; offer = Some q; first = false }) q stands refl
@@ -124,21 +129,41 @@ module _ (s : AgentState) (r : Reply) (p : Prefix) (kept : IsKept s) (has : Cont
     | inr other ↦ inl (inl (subst (λ x. Contains x.reserved p) (sym e) (given_reserved (after_back s.pool q) d p (others q (offer_has place g q is.entry offer) other))))
   ]
 
+  unsending : (h : Holding) (b : Return) → s.back ≡ Some b → b.session ≡ None → IsSome (refused_in r) → is_again r ≡ false
+      → h ≡ after_back s.pool b.prefix → IsListed h p ⊎ (IsTold s r p ⊎ IsUnsent s r p)
+  unsending h b is none refused last e = elim (cases_prefix p b.prefix) [
+    | inl same ↦ inr (inr (record { offer = by_return b is none (sym same); refused = refused; last = last }))
+    | inr other ↦ inl (inl (subst (λ x. Contains x.reserved p) (sym e) (others b.prefix (return_reserved s b is kept) other)))
+  ]
+
+  -- the session of an offer ended
+  ended_so : (h : Holding) (q : Prefix) (o : Outcome) → Contains s.pool.reserved q → progress_in (answer_in r) ≡ Some (progress.Ended o)
+      → h ≡ settled s.pool q o → (p ≡ q → MayEnd (progress_in (answer_in r)) → IsTold s r p) → IsListed h p ⊎ (IsTold s r p ⊎ IsUnsent s r p)
+  ended_so h q o hasq told e tells = elim (cases_prefix p q) [
+    | inl same ↦ elim (settled_listed s.pool q o) [
+      | inl listed ↦ inl (subst (λ x. IsListed x p) (sym e) (subst (λ x. IsListed (settled s.pool q o) x) (sym same) listed))
+      | inr may ↦ inr (inl (tells same (subst MayEnd (sym told) may)))
+    ]
+    | inr other ↦ inl (inl (subst (λ x. Contains x p) (sym (ap (λ x. x.reserved) e ∙ settled_reserved s.pool q o)) (others q hasq other)))
+  ]
+
   ending : (h : Holding) (place : ℕ) (g : Giving) (o : Outcome) → IsGiver s place g → progress_in (answer_in r) ≡ Some (progress.Ended o)
       → (offer : Option Prefix) → g.offer ≡ offer → h ≡ settling s.pool offer o → IsListed h p ⊎ (IsTold s r p ⊎ IsUnsent s r p)
   ending h place g o is told None offer e = inl (inl (subst (λ x. Contains x.reserved p) (sym e) has))
-  ending h place g o is told (Some q) offer e = elim (cases_prefix p q) [
-    | inl same ↦ elim (settled_listed s.pool q o) [
-      | inl listed ↦ inl (subst (λ x. IsListed x p) (sym e) (subst (λ x. IsListed (settled s.pool q o) x) (sym same) listed))
-      | inr may ↦ inr (inl (told_of place g q is offer same (subst MayEnd (sym told) may)))
-    ]
-    | inr other ↦ inl (inl (subst (λ x. Contains x p) (sym (ap (λ x. x.reserved) e ∙ settled_reserved s.pool q o)) (others q (offer_has place g q is.entry offer) other)))
-  ]
+  ending h place g o is told (Some q) offer e = ended_so h q o (offer_has place g q is.entry offer) told e (told_of place g q is offer)
+
+  hearing : (h : Holding) (handle : Handle) (b : Return) (o : Outcome) → IsReturner s handle b → progress_in (answer_in r) ≡ Some (progress.Ended o)
+      → h ≡ settled s.pool b.prefix o → IsListed h p ⊎ (IsTold s r p ⊎ IsUnsent s r p)
+  hearing h handle b o is told e =
+      ended_so h b.prefix o (return_reserved s b is.back kept) told e
+      (λ same may. record { idle = is.idle; offers = of_return handle b is.duty is.back is.session (sym same); told = may })
 
   listed_after : (h : Holding) → PoolEffect s r h → IsListed h p ⊎ (IsTold s r p ⊎ IsUnsent s r p)
   listed_after h (unchanged e) = inl (inl (subst (λ x. Contains x.reserved p) (sym e) has))
   listed_after h (dropped place handle q is refused last e) = dropping h place handle q is refused last e
   listed_after h (gained handle q is done e) = inl (inl (subst (λ x. Contains x p) (sym (ap (λ x. x.reserved) e ∙ gaining_reserved s.pool q)) has))
+  listed_after h (unsent b is none refused last e) = unsending h b is none refused last e
+  listed_after h (heard handle b o is told e) = hearing h handle b o is told e
   listed_after h (turned place g o is told e) = turning h place g o is told (giver_decision (giving_back s.pool g.offer) o.value o.loops g.first) g.offer refl e
   listed_after h (ended place g o is told e) = ending h place g o is told g.offer refl e
 

@@ -1,20 +1,22 @@
 -- What an agent of PrefixManager sends is short.
-use Rattle.std.proofs.Common.{◌≡◌, ◌⊎◌, inl, inr, ℕ, zero, suc, ◌+◌, ◌^◌, ◌<◌, ◌≤◌, ◌&&◌, nat_lt, Bool, true, false, cond, List, [], ◌∷◌, ◌++◌, length, length-append, Option, Some, None, IfSome, refl, sym, subst, arith}
+use Rattle.std.proofs.Common.{◌≡◌, ◌⊎◌, inl, inr, ℕ, zero, suc, ◌+◌, ◌^◌, ◌<◌, ◌≤◌, ◌&&◌, nat_lt, Bool, true, false, List, [], ◌∷◌, ◌++◌, length, length-append, Option, Some, None, IfSome, refl, sym, ap, subst, arith}
 use Rattle.std.specs.Prelude.{codes}
 use Rattle.std.specs.Int.{to_be_bytes, w128}
 use Rattle.std.proofs.lemmas.Str.{IsUtf8-from_ascii}
 use Rattle.std.proofs.lemmas.Str.Ascii.{IsAscii-nil}
 use Rattle.std.specs.Str.{IsAscii}
 use Rattle.grasp_cbor.proofs.Facts.Numbers.{all_bytes}
-use Rattle.grasp_cbor.specs.DataItem.{unsigned, byte_string, array_of}
+use Rattle.grasp_cbor.specs.DataItem.{unsigned, byte_string, simple_value, array_of}
 use Rattle.grasp_cbor.specs.Head.{HeadSize, direct, one_byte, sized_head, shortest_size, shortest_head}
 use Rattle.grasp_cbor.specs.Shortest.{shortest}
-use Rattle.grasp_types.specs.declared.session.Handle.{Handle}
+use Rattle.grasp_types.specs.declared.call.Call.{Call}
 use Rattle.grasp_pool.proofs.Lists.{lt_tells}
-use Rattle.grasp_agent.specs.Calls.{agent_name, objective_name, reason_text, act_call, duty_call, asking_call, serving_call, opening_call, next_call}
+use Rattle.grasp_agent.specs.Calls.{agent_name, objective_name, reason_text, act_call, duty_call, opening_call, next_call}
 use Rattle.grasp_agent.specs.Kept.{ActStands, IsInRange, IsKept}
-use Rattle.grasp_laws_agent.specs.Sending.{IsShortText, IsShortValue, IsShortCall, LengthsAreSent, PrefixesAreSent, CallsAreShort}
-use Rattle.grasp_agent.specs.States.{AgentState, is_open, want_length, duty_of}
+use Rattle.grasp_laws_agent.proofs.LawNext.{next_calls_are}
+use Rattle.grasp_laws_agent.specs.Next.{NextIs, opens, acts, requests, hands_back, does}
+use Rattle.grasp_laws_agent.specs.Sending.{IsShortText, IsShortValue, IsShortCall, LengthsAreSent, PrefixesAreSent, ReturnsAreSent, CallsAreShort}
+use Rattle.grasp_agent.specs.States.{AgentState, want_length}
 use Rattle.grasp_agent.specs.Values.{length_value}
 use Rattle.grasp_agent.specs.declared.act.Act.{Act}
 use Rattle.grasp_agent.specs.declared.act.Act.TheVariants as act
@@ -27,7 +29,8 @@ use Rattle.grasp_agent.specs.declared.stage.Stage.TheVariants as stage
 use Rattle.grasp_agent.specs.declared.want.Want.{Want}
 use Rattle.grasp_agent.proofs.KeepForms.{act_reserved}
 use Rattle.grasp_agent.proofs.Keeping.{act_stands}
-use Rattle.grasp_agent.proofs.Reading.{one_again, prefix_again}
+use Rattle.grasp_agent.proofs.Returning.{return_reserved}
+use Rattle.grasp_agent.proofs.Reading.{one_again, prefix_again, return_again}
 
 -- ---- values
 
@@ -57,29 +60,44 @@ length_short n most =
     in let y : length (shortest_head 0 n) ≤ 2 = small_head 0 n (omega arith)
     in record { value = record { within = omega arith; encodable = (omega arith, (omega arith, tt)) }; short = omega arith }
 
--- a length and an address
-prefix_short : (n a : ℕ) → n ≤ 128 → IsShortValue (array_of (unsigned n ∷ byte_string (to_be_bytes w128 a) ∷ []))
-prefix_short n a most =
+-- the bytes of a length and an address, and of at most one byte more
+parts_short : (k n a : ℕ) (more : List ℕ) → k < 2 ^ 8 → n ≤ 128 → length more ≤ 1
+    → length (shortest_head 4 k ++ (shortest_head 0 n ++ ((shortest_head 2 16 ++ to_be_bytes w128 a) ++ more))) ≤ 32
+parts_short k n a more few most one =
     let address : List ℕ = shortest_head 2 16 ++ to_be_bytes w128 a
-    in let e : length (shortest_head 4 2 ++ (shortest_head 0 n ++ (address ++ []))) ≡ length (shortest_head 4 2) + length (shortest_head 0 n ++ (address ++ []))
-    = length-append (shortest_head 4 2) (shortest_head 0 n ++ (address ++ []))
-    in let f : length (shortest_head 0 n ++ (address ++ [])) ≡ length (shortest_head 0 n) + length (address ++ [])
-    = length-append (shortest_head 0 n) (address ++ [])
-    in let g : length (address ++ []) ≡ length address + 0 = length-append address []
+    in let e : length (shortest_head 4 k ++ (shortest_head 0 n ++ (address ++ more))) ≡ length (shortest_head 4 k) + length (shortest_head 0 n ++ (address ++ more))
+    = length-append (shortest_head 4 k) (shortest_head 0 n ++ (address ++ more))
+    in let f : length (shortest_head 0 n ++ (address ++ more)) ≡ length (shortest_head 0 n) + length (address ++ more)
+    = length-append (shortest_head 0 n) (address ++ more)
+    in let g : length (address ++ more) ≡ length address + length more = length-append address more
     in let h : length address ≡ length (shortest_head 2 16) + 16 = length-append (shortest_head 2 16) (to_be_bytes w128 a)
-    in let x : length (shortest_head 4 2) ≤ 2 = small_head 4 2 (omega arith)
+    in let x : length (shortest_head 4 k) ≤ 2 = small_head 4 k few
     in let y : length (shortest_head 0 n) ≤ 2 = small_head 0 n (omega arith)
     in let z : length (shortest_head 2 16) ≤ 2 = small_head 2 16 (omega arith)
-    in record {
-      value = record { within = omega arith; encodable = (omega arith, (omega arith, ((omega arith, all_bytes 16 a), tt))) };
-      short = omega arith;
-    }
+    in omega arith
+
+-- a length and an address
+prefix_short : (n a : ℕ) → n ≤ 128 → IsShortValue (array_of (unsigned n ∷ byte_string (to_be_bytes w128 a) ∷ []))
+prefix_short n a most = record {
+  value = record { within = omega arith; encodable = (omega arith, (omega arith, ((omega arith, all_bytes 16 a), tt))) };
+  short = parts_short 2 n a [] (omega arith) most (omega arith);
+}
+
+-- a length, an address and true
+return_short : (n a : ℕ) → n ≤ 128 → IsShortValue (array_of (unsigned n ∷ byte_string (to_be_bytes w128 a) ∷ simple_value 21 ∷ []))
+return_short n a most = record {
+  value = record { within = omega arith; encodable = (omega arith, (omega arith, ((omega arith, all_bytes 16 a), ((inl (omega arith), omega arith), tt)))) };
+  short = parts_short 3 n a (245 ∷ []) (omega arith) most (omega arith);
+}
 
 pub lengths_are_sent : LengthsAreSent
 lengths_are_sent n least most = (length_short n most, one_again n least most)
 
 pub prefixes_are_sent : PrefixesAreSent
 prefixes_are_sent p valid = (prefix_short p.length p.address valid.most, prefix_again p valid)
+
+pub returns_are_sent : ReturnsAreSent
+returns_are_sent p valid = (return_short p.length p.address valid.most, return_again p valid)
 
 -- ---- texts
 
@@ -124,6 +142,7 @@ reason_short NotTaken = ascii_short (codes "not-taken") refl (omega arith)
 duty_short : (d : Duty) → IsShortCall (duty_call d)
 duty_short duty.Listen = name_short
 duty_short (duty.Want h) = tt
+duty_short (duty.Return h) = tt
 duty_short (duty.Give place h) = tt
 
 opening_short : (st : Stage) → IsShortCall (opening_call st)
@@ -146,22 +165,13 @@ act_short s (act.Counter h n) k e =
 act_short s (act.Accept h p) k e = tt
 act_short s (act.Decline h reason) k e = reason_short reason
 
-asking_short : (w : Option Want) (d : Duty) → IfSome w (λ x. IsInRange x) → IsShortCall (asking_call w d)
-asking_short None d range = duty_short d
-asking_short (Some w) d range = by w range w.session
-  where
-    by : (v : Want) → IsInRange v → (o : Option Handle) → IsShortCall (asking_call (Some (record v { session = o })) d)
-    by v r None = let a : v.length ≤ v.longest = r.1 in let b : v.longest ≤ 128 = r.2 in (name_short, length_short v.length (omega arith))
-    by v r (Some h) = duty_short d
-
-serving_short : (s : AgentState) (a : Option Act) → s.act ≡ a → IsKept s → IsShortCall (serving_call a s.want (duty_of s))
-serving_short s None e k = asking_short s.want (duty_of s) k.want
-serving_short s (Some a) e k = act_short s a k e
+next_short : (s : AgentState) → IsKept s → (c : Call) → NextIs s c → IsShortCall c
+next_short s k _ (opens shut) = opening_short s.stage
+next_short s k _ (acts a serves e) = act_short s a k e
+next_short s k _ (requests w next e none) = (name_short, length_short w.length (want_most s.want w.length k.want (ap want_length e)))
+next_short s k _ (hands_back r next e none) =
+    (name_short, return_short r.prefix.length r.prefix.address (k.pool.valid r.prefix (inl (return_reserved s r e k))).most)
+next_short s k _ (does d next is) = duty_short d
 
 pub calls_are_short : CallsAreShort
-unfolding next_call
-calls_are_short s k = by (is_open s.stage)
-  where
-    by : (b : Bool) → IsShortCall (cond b (serving_call s.act s.want (duty_of s)) (opening_call s.stage))
-    by true = serving_short s s.act refl k
-    by false = opening_short s.stage
+calls_are_short s k = next_short s k (next_call s) (next_calls_are s)

@@ -7,10 +7,11 @@ use Rattle.grasp_types.specs.declared.session.Handle.{Handle}
 use Rattle.grasp_types.specs.declared.session.Progress.{Progress}
 use Rattle.grasp_types.specs.declared.session.Progress.TheVariants as progress
 use Rattle.grasp_pool.proofs.Lists.{lt_tells}
-use Rattle.grasp_laws_agent.specs.Moves.{Move, comes_in, starts, is_refused, considers, finishes, is_made, is_dropped, gives, leaves, IsNext, IsRequesting, Happens, NothingMoves, NothingElseMoves}
-use Rattle.grasp_agent.specs.Replies.{answer_in, is_again, is_answered, is_done, asa_in, incoming_in, progress_in, after_incoming, after_registering, after_opening, after_act, after_starting, after_asking, after_want_progress, after_give_progress, after_duty, after_serving, advanced, after_reply}
-use Rattle.grasp_agent.specs.States.{AgentState, is_open, is_asking, want_session, duty_of}
+use Rattle.grasp_laws_agent.specs.Moves.{Move, comes_in, starts, is_refused, considers, finishes, hands, is_unsent, hears, is_made, is_dropped, gives, leaves, IsNext, IsRequesting, IsReturning, Happens, NothingMoves, NothingElseMoves}
+use Rattle.grasp_agent.specs.Replies.{answer_in, is_again, is_answered, is_done, asa_in, incoming_in, progress_in, after_incoming, after_registering, after_opening, after_act, after_starting, after_asking, after_sending, after_returning, after_want_progress, after_back_progress, after_give_progress, after_duty, after_serving, advanced, after_reply}
+use Rattle.grasp_agent.specs.States.{AgentState, is_open, is_asking, is_returning, duty_of}
 use Rattle.grasp_agent.specs.declared.act.Act.{Act}
+use Rattle.grasp_agent.specs.declared.back.Return.{Return}
 use Rattle.grasp_agent.specs.declared.duty.Duty.{Duty}
 use Rattle.grasp_agent.specs.declared.duty.Duty.TheVariants as duty
 use Rattle.grasp_agent.specs.declared.giving.Giving.{Giving}
@@ -25,8 +26,8 @@ abbrev Tells : AgentState → Reply → AgentState → Type 0
 Tells s r t = ((m : Move) × Happens s r m) ⊎ NothingMoves s t
 
 -- nothing changed but the number, the stage and the cursor
-quiet : (s t : AgentState) → t.pool ≡ s.pool → t.giving ≡ s.giving → t.want ≡ s.want → t.last ≡ s.last → t.act ≡ s.act → NothingMoves s t
-quiet s t pool giving want last act = record { pool = pool; giving = giving; want = (want, last); act = act }
+quiet : (s t : AgentState) → t.pool ≡ s.pool → t.giving ≡ s.giving → t.want ≡ s.want → t.last ≡ s.last → t.back ≡ s.back → t.act ≡ s.act → NothingMoves s t
+quiet s t pool giving want last back act = record { pool = pool; giving = giving; want = (want, last); back = back; act = act }
 
 -- a choice between two agents
 choice_tells : (s : AgentState) (r : Reply) (b : Bool) (x y : AgentState) → Tells s r x → Tells s r y → Tells s r (cond b x y)
@@ -36,7 +37,7 @@ choice_tells s r false x y h k = k
 -- the cursor isn't seen
 advanced_tells : (s t : AgentState) (r : Reply) → Tells s r t → Tells s r (advanced t)
 advanced_tells s t r (inl h) = inl h
-advanced_tells s t r (inr n) = inr (quiet s (advanced t) n.pool n.giving n.want.0 n.want.1 n.act)
+advanced_tells s t r (inr n) = inr (quiet s (advanced t) n.pool n.giving n.want.0 n.want.1 n.back n.act)
 
 -- ---- a session comes in, or none
 
@@ -56,19 +57,19 @@ incoming_tells s x r (Some h) n many comes = by (nat_lt (length x.giving) 64) (l
 
 registering_tells : (s x : AgentState) (r : Reply) (o : Option ℕ) → NothingMoves s x → Tells s r (after_registering x o)
 registering_tells s x r None n = inr n
-registering_tells s x r (Some a) n = inr (quiet s _ n.pool n.giving n.want.0 n.want.1 n.act)
+registering_tells s x r (Some a) n = inr (quiet s _ n.pool n.giving n.want.0 n.want.1 n.back n.act)
 
 opening_tells : (s : AgentState) (st : Stage) (r : Reply) → s.stage ≡ st → Tells s r (after_opening (record s { stage = st }) r)
 opening_tells s stage.Registering r is =
-    registering_tells s (record s { stage = stage.Registering }) r (asa_in (answer_in r)) (quiet s _ refl refl refl refl refl)
+    registering_tells s (record s { stage = stage.Registering }) r (asa_in (answer_in r)) (quiet s _ refl refl refl refl refl refl)
 opening_tells s stage.Declaring r is =
-    choice_tells s r (is_done (answer_in r)) _ _ (inr (quiet s _ refl refl refl refl refl)) (inr (quiet s _ refl refl refl refl refl))
+    choice_tells s r (is_done (answer_in r)) _ _ (inr (quiet s _ refl refl refl refl refl refl)) (inr (quiet s _ refl refl refl refl refl refl))
 opening_tells s stage.Opening r is =
     choice_tells s r (is_answered r) _ _
     (incoming_tells s (record s { stage = stage.Serving }) r (incoming_in (answer_in r))
-    (quiet s _ refl refl refl refl refl) refl (λ h told few. (inl is, told, few)))
-    (inr (quiet s _ refl refl refl refl refl))
-opening_tells s stage.Serving r is = inr (quiet s _ refl refl refl refl refl)
+    (quiet s _ refl refl refl refl refl refl) refl (λ h told few. (inl is, told, few)))
+    (inr (quiet s _ refl refl refl refl refl refl))
+opening_tells s stage.Serving r is = inr (quiet s _ refl refl refl refl refl refl)
 
 -- ---- acts
 
@@ -88,7 +89,23 @@ asking_tells s (reply.Refused x) n again = inl (is_refused x, (n, refl, again))
 asking_tells s (reply.Api (answer.Started h)) n again = inl (starts h, (n, refl))
 asking_tells s _ n again = inr (not_started s s.want)
 
+-- ---- the request of a return
+
+not_sent : (s : AgentState) (b : Option Return) → NothingMoves s (after_sending s b None)
+not_sent s None = itself s
+not_sent s (Some b) = itself s
+
+returning_tells : (s : AgentState) (r : Reply) → IsReturning s → is_again r ≡ false → Tells s r (after_returning s r)
+returning_tells s (reply.Refused x) n again = inl (is_unsent x, (n, refl, again))
+returning_tells s (reply.Api (answer.Started h)) n again = inl (hands h, (n, refl))
+returning_tells s _ n again = inr (not_sent s s.back)
+
 -- ---- duties
+
+back_tells : (s : AgentState) (r : Reply) (b : Option Return) (h : Handle) (p : Option Progress) → IsNext s (duty.Return h) → progress_in (answer_in r) ≡ p
+    → Tells s r (after_back_progress s b p)
+back_tells s r (Some b) h (Some (progress.Ended e)) n told = inl (hears h e, (n, told))
+back_tells s r _ h _ n told = inr (itself s)
 
 want_tells : (s : AgentState) (r : Reply) (w : Option Want) (h : Handle) (p : Option Progress) → IsNext s (duty.Want h) → progress_in (answer_in r) ≡ p
     → Tells s r (after_want_progress s w h p)
@@ -107,24 +124,28 @@ giving_tells s r place g (Some (progress.Ended e)) n at told = inl (leaves place
 duty_tells : (s : AgentState) (r : Reply) (d : Duty) → IsNext s d → Tells s r (after_duty s d r)
 duty_tells s r duty.Listen n = incoming_tells s s r (incoming_in (answer_in r)) (itself s) refl (λ h told few. (inr n, told, few))
 duty_tells s r (duty.Want h) n = want_tells s r s.want h (progress_in (answer_in r)) n refl
+duty_tells s r (duty.Return h) n = back_tells s r s.back h (progress_in (answer_in r)) n refl
 duty_tells s r (duty.Give place h) n = by (slice_get s.giving place) refl
   where
     by : (o : Option Giving) → slice_get s.giving place ≡ o → Tells s r (after_give_progress s place o (progress_in (answer_in r)))
     by None at = inr (itself s)
     by (Some g) at =
-        let same = duty_handle (want_session s.want) s.giving s.cursor place h g n.duty at
+        let same = duty_handle s place h g n.duty at
         in giving_tells s r place g (progress_in (answer_in r)) (subst (λ x. IsNext s (duty.Give place x)) same n) at refl
 
 -- ---- replies
 
 serving_tells : (s : AgentState) (a : Option Act) (r : Reply) → s.act ≡ a → is_open s.stage ≡ true → is_again r ≡ false → Tells s r (after_serving s a r)
 serving_tells s (Some a) r e serves again = act_tells s a r e again
-serving_tells s None r e serves again = by (is_asking s.want) refl
+serving_tells s None r e serves again = by (is_asking s.want) refl (is_returning s.back) refl
   where
-    by : (b : Bool) → is_asking s.want ≡ b → Tells s r (cond b (after_asking s r) (advanced (after_duty s (duty_of s) r)))
-    by true asks = asking_tells s r (record { serves = serves; idle = e; asks = asks }) again
-    by false asked =
-        advanced_tells s (after_duty s (duty_of s) r) r (duty_tells s r (duty_of s) (record { serves = serves; idle = e; asked = asked; duty = refl }))
+    by : (b : Bool) → is_asking s.want ≡ b → (c : Bool) → is_returning s.back ≡ c
+        → Tells s r (cond b (after_asking s r) (cond c (after_returning s r) (advanced (after_duty s (duty_of s) r))))
+    by true asks c f = asking_tells s r (record { serves = serves; idle = e; asks = asks }) again
+    by false asked true returns = returning_tells s r (record { serves = serves; idle = e; asked = asked; returns = returns }) again
+    by false asked false sent =
+        advanced_tells s (after_duty s (duty_of s) r) r
+        (duty_tells s r (duty_of s) (record { serves = serves; idle = e; asked = asked; sent = sent; duty = refl }))
 
 pub nothing_else_moves : NothingElseMoves
 unfolding after_reply

@@ -6,8 +6,11 @@ pub mod LawGains
 pub mod LawGiver
 pub mod LawKept
 pub mod LawMoves
+pub mod LawNext
 pub mod LawOffers
 pub mod LawReaders
 pub mod LawRequester
+pub mod LawReturns
 pub mod LawSending
 pub mod LawStays
+pub mod Returning

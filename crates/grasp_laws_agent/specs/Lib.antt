@@ -1,2 +1,4 @@
 pub mod Moves
+pub mod Next
+pub mod Returns
 pub mod Sending

@@ -17,13 +17,14 @@ use Rattle.grasp_pool.specs.Holdings.{Holding, Reserves, GivesBack, Confirms, Do
 use Rattle.grasp_agent.specs.Deciding.{GiverDecides, RequesterDecides}
 use Rattle.grasp_agent.specs.Kept.{IsKept}
 use Rattle.grasp_agent.specs.Replies.{answer_in, is_again, incoming_in, started_in, progress_in, deciding, give_act, want_act, removed, after_reply, replied, agent_after}
-use Rattle.grasp_agent.specs.States.{AgentState, is_open, is_asking, duties, duty_of}
+use Rattle.grasp_agent.specs.States.{AgentState, is_open, is_asking, is_returning, duties, duty_of}
 use Rattle.grasp_agent.specs.Values.{offered_in}
 use Rattle.grasp_agent.specs.declared.act.Act.{Act}
 use Rattle.grasp_agent.specs.declared.act.Act.TheVariants as act
 use Rattle.grasp_agent.specs.declared.decision.GiverDecision.{GiverDecision}
 use Rattle.grasp_agent.specs.declared.decision.GiverDecision.TheVariants as giver
 use Rattle.grasp_agent.specs.declared.decision.RequesterDecision.{RequesterDecision}
+use Rattle.grasp_agent.specs.declared.back.Return.{Return}
 use Rattle.grasp_agent.specs.declared.duty.Duty.{Duty}
 use Rattle.grasp_agent.specs.declared.duty.Duty.TheVariants as duty
 use Rattle.grasp_agent.specs.declared.giving.Giving.{Giving}
@@ -42,6 +43,10 @@ pub data Move : Type 0 where
   -- the turn is the agent's in the want's session, on this offer of the peer; or that session ended
   considers : Handle → Objective → Move
   finishes : Handle → Outcome → Move
+  -- the return's request began this session, or was refused; or that session ended
+  hands : Handle → Move
+  is_unsent : ApiRefused → Move
+  hears : Handle → Outcome → Move
   -- the act is done, or was refused
   is_made : Act → Move
   is_dropped : Act → Move
@@ -56,6 +61,7 @@ pub record IsNext (s : AgentState) (d : Duty) : Type 0 where
   pub serves : is_open s.stage ≡ true
   pub idle : s.act ≡ None
   pub asked : is_asking s.want ≡ false
+  pub sent : is_returning s.back ≡ false
   pub duty : duty_of s ≡ d
 
 -- the agent's opening calls are done, it has no act, and its want is to be requested
@@ -63,6 +69,13 @@ pub record IsRequesting (s : AgentState) : Type 0 where
   pub serves : is_open s.stage ≡ true
   pub idle : s.act ≡ None
   pub asks : is_asking s.want ≡ true
+
+-- the agent's opening calls are done, it has no act and no want to request, and its return is to be requested
+pub record IsReturning (s : AgentState) : Type 0 where
+  pub serves : is_open s.stage ≡ true
+  pub idle : s.act ≡ None
+  pub asked : is_asking s.want ≡ false
+  pub returns : is_returning s.back ≡ true
 
 -- the agent listens: for the first time, or as its duty
 abbrev pub IsListening : AgentState → Type 0
@@ -74,6 +87,9 @@ Happens s r (starts h) = IsRequesting s × (started_in (answer_in r) ≡ Some h)
 Happens s r (is_refused x) = IsRequesting s × (r ≡ reply.Refused x) × (is_again r ≡ false)
 Happens s r (considers h o) = IsNext s (duty.Want h) × (progress_in (answer_in r) ≡ Some (progress.Turn o))
 Happens s r (finishes h e) = IsNext s (duty.Want h) × (progress_in (answer_in r) ≡ Some (progress.Ended e))
+Happens s r (hands h) = IsReturning s × (started_in (answer_in r) ≡ Some h)
+Happens s r (is_unsent x) = IsReturning s × (r ≡ reply.Refused x) × (is_again r ≡ false)
+Happens s r (hears h e) = IsNext s (duty.Return h) × (progress_in (answer_in r) ≡ Some (progress.Ended e))
 Happens s r (is_made a) = (s.act ≡ Some a) × (r ≡ reply.Api answer.Done)
 Happens s r (is_dropped a) = (s.act ≡ Some a) × ((x : ApiRefused) × (r ≡ reply.Refused x)) × (is_again r ≡ false)
 Happens s r (gives place g o) = IsNext s (duty.Give place g.handle) × (slice_get s.giving place ≡ Some g) × (progress_in (answer_in r) ≡ Some (progress.Turn o))
@@ -91,6 +107,9 @@ SameGiving s t = t.giving ≡ s.giving
 
 abbrev pub SameWant : AgentState → AgentState → Type 0
 SameWant s t = (t.want ≡ s.want) × (t.last ≡ s.last)
+
+abbrev pub SameBack : AgentState → AgentState → Type 0
+SameBack s t = t.back ≡ s.back
 
 abbrev pub SameAct : AgentState → AgentState → Type 0
 SameAct s t = t.act ≡ s.act
@@ -131,6 +150,7 @@ TakesBack (Some p) old new = GivesBack old new p
 -- what a giver's decision makes of the pool: an offered prefix is reserved
 abbrev pub Gives : GiverDecision → Holding → Holding → Type 0
 Gives (giver.Offer p) old new = Reserves old new p
+Gives (giver.Accept p) old new = new ≡ old
 Gives (giver.Decline reason) old new = new ≡ old
 
 -- what becomes of an offer when its session ends: it is confirmed by the peer's acceptance, free again by the peer's decline, and
@@ -170,16 +190,20 @@ pub record Considers (s t : AgentState) (h : Handle) (o : Objective) : Type 0 wh
 
 -- what a move changes, but for the number, the stage and the cursor
 abbrev pub Effect : AgentState → Move → AgentState → Type 0
-Effect s (comes_in h) t = SamePool s t × SameWant s t × SameAct s t × (t.giving ≡ s.giving ++ record { handle = h; offer = None; first = true } ∷ [])
+Effect s (comes_in h) t = SamePool s t × SameWant s t × SameBack s t × SameAct s t × (t.giving ≡ s.giving ++ record { handle = h; offer = None; first = true } ∷ [])
 Effect s (starts h) t =
-    SamePool s t × SameGiving s t × SameAct s t × (t.last ≡ s.last) × ((w : Want) × (s.want ≡ Some w) × (t.want ≡ Some (record w { session = Some h })))
-Effect s (is_refused x) t = SamePool s t × SameGiving s t × SameAct s t × (t.want ≡ None) × (t.last ≡ Some (end.Refused x))
-Effect s (considers h o) t = SamePool s t × SameGiving s t × SameWant s t × Considers s t h o
-Effect s (finishes h e) t = SamePool s t × SameGiving s t × SameAct s t × (t.want ≡ None) × ((x : WantEnd) × EndsAs e x × (t.last ≡ Some x))
-Effect s (is_made a) t = SameGiving s t × SameWant s t × (t.act ≡ None) × Does a s.pool t.pool
-Effect s (is_dropped a) t = SameWant s t × (t.act ≡ None) × Drops a s t
-Effect s (gives place g o) t = SameWant s t × TakesTurn s t place g o
-Effect s (leaves place g e) t = SameWant s t × SameAct s t × SettlesOffer g.offer e s.pool t.pool × (t.giving ≡ removed s.giving place)
+    SamePool s t × SameGiving s t × SameBack s t × SameAct s t × (t.last ≡ s.last) × ((w : Want) × (s.want ≡ Some w) × (t.want ≡ Some (record w { session = Some h })))
+Effect s (is_refused x) t = SamePool s t × SameGiving s t × SameBack s t × SameAct s t × (t.want ≡ None) × (t.last ≡ Some (end.Refused x))
+Effect s (considers h o) t = SamePool s t × SameGiving s t × SameWant s t × SameBack s t × Considers s t h o
+Effect s (finishes h e) t = SamePool s t × SameGiving s t × SameBack s t × SameAct s t × (t.want ≡ None) × ((x : WantEnd) × EndsAs e x × (t.last ≡ Some x))
+Effect s (hands h) t =
+    SamePool s t × SameGiving s t × SameWant s t × SameAct s t × ((r : Return) × (s.back ≡ Some r) × (t.back ≡ Some (record r { session = Some h })))
+Effect s (is_unsent x) t = SameGiving s t × SameWant s t × SameAct s t × (t.back ≡ None) × ((r : Return) × (s.back ≡ Some r) × GivesBack s.pool t.pool r.prefix)
+Effect s (hears h e) t = SameGiving s t × SameWant s t × SameAct s t × (t.back ≡ None) × ((r : Return) × (s.back ≡ Some r) × Settled e r.prefix s.pool t.pool)
+Effect s (is_made a) t = SameGiving s t × SameWant s t × SameBack s t × (t.act ≡ None) × Does a s.pool t.pool
+Effect s (is_dropped a) t = SameWant s t × SameBack s t × (t.act ≡ None) × Drops a s t
+Effect s (gives place g o) t = SameWant s t × SameBack s t × TakesTurn s t place g o
+Effect s (leaves place g e) t = SameWant s t × SameBack s t × SameAct s t × SettlesOffer g.offer e s.pool t.pool × (t.giving ≡ removed s.giving place)
 
 -- ---- laws
 
@@ -192,6 +216,7 @@ pub record NothingMoves (s t : AgentState) : Type 0 where
   pub pool : SamePool s t
   pub giving : SameGiving s t
   pub want : SameWant s t
+  pub back : SameBack s t
   pub act : SameAct s t
 
 -- where no move happens, nothing but these changes
@@ -225,7 +250,7 @@ OpeningsGoOn = (s : AgentState) (r : Reply) → OpeningGoes s r (after_reply s r
 
 -- an agent of this pool and number whose opening calls are done, and nothing else
 abbrev pub serving_agent : Holding → ℕ → AgentState
-serving_agent h n = record { pool = h; asa = n; stage = stage.Serving; want = None; giving = []; act = None; cursor = 0; last = None }
+serving_agent h n = record { pool = h; asa = n; stage = stage.Serving; want = None; back = None; giving = []; act = None; cursor = 0; last = None }
 
 -- after the three replies to its opening calls an agent serves
 abbrev pub OpeningsEnd : Type 0

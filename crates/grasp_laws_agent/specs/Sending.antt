@@ -12,7 +12,7 @@ use Rattle.grasp_types.specs.declared.message.Verdict.TheVariants as verdict
 use Rattle.grasp_agent.specs.Calls.{next_call}
 use Rattle.grasp_agent.specs.Kept.{IsKept}
 use Rattle.grasp_agent.specs.States.{AgentState}
-use Rattle.grasp_agent.specs.Values.{length_value, prefix_value, asked_in, offered_in}
+use Rattle.grasp_agent.specs.Values.{length_value, prefix_value, return_value, asked_in, offered_in, returned_in}
 
 -- UTF-8 of at most 16 bytes
 pub record IsShortText (text : List ℕ) : Type 0 where
@@ -47,6 +47,10 @@ LengthsAreSent = (n : ℕ) → 1 ≤ n → n ≤ 128 → IsShortValue (length_va
 -- a prefix that is offered is a value, and is read back
 abbrev pub PrefixesAreSent : Type 0
 PrefixesAreSent = (p : Prefix) → IsPrefix p.address p.length → IsShortValue (prefix_value p) × (offered_in (Some (prefix_value p)) ≡ Some p)
+
+-- a prefix that is given back is a value, and is read back
+abbrev pub ReturnsAreSent : Type 0
+ReturnsAreSent = (p : Prefix) → IsPrefix p.address p.length → IsShortValue (return_value p) × (returned_in (Some (return_value p)) ≡ Some p)
 
 -- each call that an agent makes is short
 abbrev pub CallsAreShort : Type 0

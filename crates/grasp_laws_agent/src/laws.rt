@@ -2,8 +2,9 @@
 
 ghost use Rattle.grasp_agent.specs.Deciding.{GiversDecide, RequestersDecide};
 ghost use Rattle.grasp_laws_agent.specs.Moves.{MovesAreMade, NothingElseMoves, CursorsTurn, OpeningsGoOn, OpeningsEnd};
+ghost use Rattle.grasp_laws_agent.specs.Next.{NextCallsAre};
 ghost use Rattle.grasp_agent.specs.Announcing.{ReadersAgree};
-ghost use Rattle.grasp_laws_agent.specs.Sending.{LengthsAreSent, PrefixesAreSent, CallsAreShort};
+ghost use Rattle.grasp_laws_agent.specs.Sending.{LengthsAreSent, PrefixesAreSent, ReturnsAreSent, CallsAreShort};
 ghost use Rattle.grasp_agent.specs.Laws.{LengthsAreRead, PrefixesAreRead, GiversOffer, AgentsAreKept, ThereIsADuty, OffersStayListed, DoubtsStay, GainsAreAccepted};
 
 /// A length and a prefix are read exactly from the values that hold them.
@@ -16,6 +17,7 @@ pub fn values_are_read()
 pub fn values_are_values()
     ensures lengths { LengthsAreSent }
     ensures prefixes { PrefixesAreSent }
+    ensures returns { ReturnsAreSent }
     ensures calls { CallsAreShort }
 {}
 
@@ -30,7 +32,8 @@ pub fn givers_offer()
     ensures { GiversOffer }
 {}
 
-/// A giver decides as is said of addresses, in both directions: what it offers, and for which reason it declines.
+/// A giver decides as is said of addresses, in both directions: what it offers, what it accepts back, and for which reason
+/// it declines.
 #[tactic(auto, using(crate::proofs::LawGiver::givers_decide))]
 pub fn givers_decide()
     ensures { GiversDecide }
@@ -42,10 +45,17 @@ pub fn requesters_decide()
     ensures { RequestersDecide }
 {}
 
-/// Whatever happens to an agent, what is reserved is exactly what it offers, and it has a next duty.
+/// Whatever an agent is told, wants, returns and replies, what is reserved is exactly what it offers, and it has a next duty.
 pub fn agents_are_kept()
     ensures kept { AgentsAreKept }
     ensures duty { ThereIsADuty }
+{}
+
+/// An agent's next call is an opening call, its act, the request of its want, that of its return, or the duty that is next,
+/// and that duty is one of its own.
+#[tactic(auto, using(crate::proofs::LawNext::next_calls_are))]
+pub fn next_calls_are()
+    ensures { NextCallsAre }
 {}
 
 /// What a reply makes of an agent: each move that it tells of has its effect, and where it tells of none nothing but the
@@ -67,7 +77,7 @@ pub fn openings_go_on()
     ensures end { OpeningsEnd }
 {}
 
-/// An offer stays reserved or in doubt until its session tells what became of it, and a doubtful prefix for good.
+/// An offer stays reserved or in doubt until its session tells what became of it, and no reply takes a prefix out of doubt.
 pub fn offers_stay_listed()
     ensures offers { OffersStayListed }
     ensures doubts { DoubtsStay }

@@ -2,9 +2,14 @@
 #![tactic(auto)]
 
 mod laws;
+mod return_laws;
 
 pub use laws::{
     agent_moves, agents_are_kept, cursors_turn, gains_are_accepted, givers_decide, givers_offer,
-    offers_stay_listed, openings_go_on, readers_agree, requesters_decide, values_are_read,
-    values_are_values,
+    next_calls_are, offers_stay_listed, openings_go_on, readers_agree, requesters_decide,
+    values_are_read, values_are_values,
+};
+pub use return_laws::{
+    duties_are_in_order, refusals_are_repeated, returns_are_answered, returns_are_read,
+    returns_are_requested, settlings_settle,
 };

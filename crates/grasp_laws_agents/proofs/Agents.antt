@@ -1,15 +1,16 @@
 -- What each agent of prefixes of a network offers stands as it is to, and what its next call makes of that.
-use Rattle.std.proofs.Common.{◌≡◌, refl, sym, ap, ◌∙◌, subst, arith, ℕ, ◌-◌, ◌==◌, nat_lt, Bool, true, false, cond, List, [], Contains, map, slice_get, Option, None, Some, option_map, Ok, Err, Result}
+use Rattle.std.proofs.Common.{◌≡◌, refl, sym, ap, ◌∙◌, subst, arith, ℕ, ◌-◌, ◌==◌, Bool, true, false, cond, List, [], Contains, inl, inr, map, slice_get, Option, None, Some, option_map, Ok, Err, Result}
 use Rattle.std.proofs.lemmas.Option.{none-some, slice_get-map}
-use Rattle.grasp_laws_agent.proofs.LawKept.{kept_reply, new_kept}
+use Rattle.grasp_laws_agent.proofs.LawKept.{kept_event, kept_reply}
 use Rattle.grasp_agent.specs.Calls.{next_call, agent_name, objective_name}
 use Rattle.grasp_agent.specs.Kept.{IsKept}
-use Rattle.grasp_agent.specs.Replies.{after_reply, want_reply, after_want, new_want}
-use Rattle.grasp_agent.specs.States.{AgentState, want_session}
+use Rattle.grasp_agent.specs.Replies as agent
+use Rattle.grasp_agent.specs.Replies.{AgentEvent, after_reply, want_reply, after_want, return_reply, after_return, after_event}
+use Rattle.grasp_agent.specs.States.{AgentState, back_session, want_session}
+use Rattle.grasp_agent.specs.declared.back.Return.{Return}
+use Rattle.grasp_agent.specs.declared.back.ReturnFault.{ReturnFault}
 use Rattle.grasp_agent.specs.declared.giving.Giving.{Giving}
-use Rattle.grasp_agent.specs.declared.want.Want.{Want}
 use Rattle.grasp_agent.specs.declared.want.WantFault.{WantFault}
-use Rattle.grasp_agent.specs.declared.want.WantFault.TheVariants as fault
 use Rattle.grasp_laws_node.proofs.Beginning.{drain_of_nothing}
 use Rattle.grasp_laws_node.proofs.Bounded.Nodes.{nodes_kept, begin_kept}
 use Rattle.grasp_model_node.specs.Begin.{begin, expired}
@@ -22,19 +23,21 @@ use Rattle.grasp_laws_node.specs.Consistent.{IsConsistent, TiesAreKept}
 use Rattle.grasp_laws_network.proofs.EachNode.{first_is}
 use Rattle.grasp_model_network.proofs.Facts.{first_reached}
 use Rattle.grasp_model_network.specs.EventSteps.{agent_input}
-use Rattle.grasp_model_network.specs.Events.{AreLengths}
 use Rattle.grasp_model_network.specs.Runs.{IsReached, answered_seat, first_seat, first_world}
 use Rattle.grasp_model_network.specs.Setting.{Member, Setting, numbered}
 use Rattle.grasp_model_network.specs.World.{Seat, WorldState, seat_at}
-use Rattle.grasp_pool.specs.Pools.{room_of}
 use Rattle.grasp_laws_session.proofs.Runs.{none_live}
 use Rattle.grasp_session.proofs.Tables.{state_slot}
+use Rattle.grasp_session.specs.Messages.{Side}
+use Rattle.grasp_session.specs.Runs.{WasMade}
 use Rattle.grasp_session.specs.Sessions.{SessionState, Sessions, no_sessions, session_at}
+use Rattle.grasp_types.specs.Prefix.{AddressBlock as Prefix}
 use Rattle.grasp_types.specs.declared.address.Locator.{Locator}
 use Rattle.grasp_types.specs.declared.reply.Reply.{Reply}
 use Rattle.grasp_types.specs.declared.reply.Reply.TheVariants as reply
 use Rattle.grasp_types.specs.declared.session.Handle.{Handle}
 use Rattle.grasp_types.specs.declared.traffic.Input.TheVariants as input
+use Rattle.grasp_laws_network.specs.Telling.{IsNoReply}
 use Rattle.grasp_laws_agents.proofs.EachSeat.{Keeps, reached_members}
 use Rattle.grasp_laws_agents.proofs.Owning.{others_same}
 use Rattle.grasp_laws_agents.proofs.Serving.{IsServed, serving_kept, first_serves}
@@ -44,9 +47,9 @@ use Rattle.grasp_laws_agents.specs.Serving.{OfEachSeat}
 use Rattle.grasp_laws_agents.proofs.Begun.{moves_before}
 use Rattle.grasp_laws_agents.proofs.Calling.{called}
 use Rattle.grasp_laws_agents.proofs.Going.{gives_on}
-use Rattle.grasp_laws_agents.proofs.Standing.{Moved}
+use Rattle.grasp_laws_agents.proofs.Standing.{same_has, Moved}
 use Rattle.grasp_laws_agents.specs.Calls.{CallsMean}
-use Rattle.grasp_laws_agents.specs.Giving.{Gives}
+use Rattle.grasp_laws_agents.specs.Giving.{IsOffersSession, of_entry, of_return, Gives}
 use Rattle.grasp_laws_agents.specs.OfferLaws.{AgentMoves, AgentsGive, AgentsMove}
 
 -- ---- what is so of a node and its agent
@@ -57,27 +60,45 @@ pub record IsGiving (n : NodeState) (a : AgentState) : Type 0 where
   pub kept : IsKept a
   pub gives : Gives n a
 
--- ---- a new want
-
-wants_kept : (a : AgentState) (o : Option Want) (wanted longest : ℕ) (peer : Locator) → AreLengths wanted longest → IsKept (record a { want = o })
-    → IsKept (after_want (record a { want = o }) wanted longest peer (want_reply (record a { want = o })))
-wants_kept a (Some w) wanted longest peer are k = k
-wants_kept a None wanted longest peer are k = by_room (nat_lt 0 (room_of a.pool)) where
-  by_room : (b : Bool) → IsKept (after_want (record a { want = None }) wanted longest peer (cond b (Ok tt) (Err fault.Full)))
-  by_room true = new_kept a (new_want wanted longest peer) refl (are.least, are.rising, are.most) k
-  by_room false = k
+-- ---- a new want, and a new return
 
 wants_given : (n : NodeState) (a : AgentState) (wanted longest : ℕ) (peer : Locator) (r : Result (Unit {0}) WantFault) → Gives n a → Gives n (after_want a wanted longest peer r)
 wants_given n a wanted longest peer (Ok done) k = record {
   want = λ h e. none h e;
-  entries = λ place g at. let s = k.entries place g at in record { session = s.session; own = s.own; offer = s.offer };
+  entries = λ place g at. let s = k.entries place g at in record { session = s.session; own = s.own; offer = s.offer; accept = s.accept };
+  back = k.back;
   apart = k.apart;
-  live = k.live;
+  kinds = k.kinds;
+  live = λ h side x p own pending. same_has a (after_want a wanted longest peer (Ok done)) refl refl h side (k.live h side x p own pending);
   gone = k.gone;
 } where
   none : {A : Type 0} (h : Handle) → None ≡ Some h → A
   none h e = absurd (cc)
 wants_given n a wanted longest peer (Err refused) k = k
+
+-- a return that isn't requested yet has no session
+returns_given : (n : NodeState) (a : AgentState) (o : Option Return) (p : Prefix) (peer : Locator) → Gives n (record a { back = o }) → Gives n (after_return (record a { back = o }) p peer (return_reply (record a { back = o }) p))
+returns_given n a (Some v) p peer k = k
+returns_given n a None p peer k = by_reply (return_reply (record a { back = None }) p) where
+  by_reply : (r : Result (Unit {0}) ReturnFault) → Gives n (after_return (record a { back = None }) p peer r)
+  by_reply (Err refused) = k
+  by_reply (Ok done) = record {
+    want = λ h e. let s = k.want h e in record { session = s.session; own = s.own; accept = s.accept; asks = s.asks };
+    entries = λ place g at. let s = k.entries place g at in record { session = s.session; own = s.own; offer = s.offer; accept = s.accept };
+    back = λ v h is f. absurd (none-some h (ap back_session is ∙ f));
+    apart = k.apart;
+    kinds = k.kinds;
+    live = λ h side x q own pending. by_session h side (k.live h side x q own pending);
+    gone = k.gone;
+  } where
+    by_session : (h : Handle) (side : Side) → IsOffersSession (record a { back = None }) side h → IsOffersSession (after_return (record a { back = None }) p peer (Ok done)) side h
+    by_session h side (of_entry far place g at same) = of_entry far place g at same
+    by_session h side (of_return near v is f) = absurd (none-some v is)
+
+told_given : (n : NodeState) (a : AgentState) (e : AgentEvent) → IsNoReply e → Gives n a → Gives n (after_event a e)
+told_given n a (agent.wanted wanted longest peer) other k = wants_given n a wanted longest peer (want_reply a) k
+told_given n a (agent.returned p peer) other k = returns_given n a a.back p peer k
+told_given n a (agent.replied r) other k = absurd other
 
 -- ---- a step
 
@@ -113,11 +134,11 @@ module _ (ties : TiesAreKept) (means : CallsMean) (begins : (n : NodeState) (now
       gives = gives_on n after a (others_same n after a now i x r k.served o step).goes_on k.gives;
     };
     own = own_gives;
-    wants = λ n a wanted longest peer are k. record {
-      served = serving_kept.wants n a wanted longest peer are k.served;
+    told = λ n a e possible other k. record {
+      served = serving_kept.told n a e possible other k.served;
       tied = k.tied;
-      kept = wants_kept a a.want wanted longest peer are k.kept;
-      gives = wants_given n a wanted longest peer (want_reply a) k.gives;
+      kept = kept_event a e possible k.kept;
+      gives = told_given n a e other k.gives;
     };
   }
 
@@ -126,19 +147,22 @@ module _ (ties : TiesAreKept) (means : CallsMean) (begins : (n : NodeState) (now
 record IsEmptySeat (s : Seat) : Type 0 where
   sessions : s.core.sessions ≡ no_sessions
   want : s.agent.want ≡ None
+  back : s.agent.back ≡ None
   giving : s.agent.giving ≡ []
 
 first_empty : (m : Member) → IsEmptySeat (first_seat m)
 unfolding answered_seat first_seat next_call agent_name objective_name after_reply begin expired with_reading with_registrations with_sessions with_discoveries with_floods begin_closing
-first_empty m = record { sessions = refl; want = refl; giving = refl }
+first_empty m = record { sessions = refl; want = refl; back = refl; giving = refl }
 
-empty_gives : (n : NodeState) (a : AgentState) → n.sessions ≡ no_sessions → a.want ≡ None → a.giving ≡ [] → Gives n a
-empty_gives n a z w g = record {
+empty_gives : (n : NodeState) (a : AgentState) → n.sessions ≡ no_sessions → a.want ≡ None → a.back ≡ None → a.giving ≡ [] → Gives n a
+empty_gives n a z w b g = record {
   want = λ h e. no_want h (sym (ap want_session w) ∙ e);
   entries = λ place f at. nothing f (sym (ap (λ (l : List Giving). slice_get l place) g) ∙ at);
+  back = λ r h is f. absurd (none-some r (sym b ∙ is));
   apart = λ i j f h at there same. nothing f (sym (ap (λ (l : List Giving). slice_get l i) g) ∙ at);
-  live = λ h x p own pending. absurd (none_live 64 h.place x (state_slot no_sessions h x (subst (λ (y : Sessions). session_at y h ≡ Some x) z own.at)));
-  gone = λ x p has owner role pending. nobody x (subst (λ (y : Sessions). Contains y.gone x) z has);
+  kinds = λ x made owner. none_made x (subst (λ (y : Sessions). WasMade y x) z made);
+  live = λ h side x p own pending. absurd (none_live 64 h.place x (state_slot no_sessions h x (subst (λ (y : Sessions). session_at y h ≡ Some x) z own.at)));
+  gone = λ x p has owner pending. nobody x (subst (λ (y : Sessions). Contains y.gone x) z has);
 } where
   no_want : {A : Type 0} (h : Handle) → None ≡ Some h → A
   no_want h e = absurd (cc)
@@ -149,8 +173,12 @@ empty_gives n a z w g = record {
   nobody : {A : Type 0} (x : SessionState) → Contains {X = SessionState} [] x → A
   nobody x (i, below, is) = absurd (omega (arith, below))
 
+  none_made : {A : Type 0} (x : SessionState) → WasMade no_sessions x → A
+  none_made x (inl i) = absurd (none_live 64 i.0 x i.1)
+  none_made x (inr c) = nobody x c
+
 first_gives : (m : Member) → Gives (first_seat m).core (first_seat m).agent
-first_gives m = let e = first_empty m in empty_gives (first_seat m).core (first_seat m).agent e.sessions e.want e.giving
+first_gives m = let e = first_empty m in empty_gives (first_seat m).core (first_seat m).agent e.sessions e.want e.back e.giving
 
 first_tied : TiesAreKept → (m : Member) → IsConsistent (first_seat m).core
 first_tied ties m =

@@ -1,7 +1,6 @@
 -- What a call of the agent makes of the node where its step has begun, it makes of the node before.
 use Rattle.std.proofs.Common.{◌≡◌, ◌⊎◌, refl, sym, ap, ◌∙◌, subst, inl, inr, ℕ, Bool, true, false, cond, ◌&&◌, Option, None, Some, slice_index_or}
 use Rattle.grasp_agent.specs.States.{AgentState}
-use Rattle.grasp_agent.specs.declared.giving.Giving.{Giving}
 use Rattle.grasp_laws_node.proofs.Beginning.{sessions_time_out}
 use Rattle.grasp_laws_node.proofs.Meaning.Acts.{number_at}
 use Rattle.grasp_model_node.specs.Begin.{begin}
@@ -17,7 +16,7 @@ use Rattle.grasp_laws_session.proofs.Views.{fine_turn}
 use Rattle.grasp_session.specs.declared.answer.Act.TheVariants as act
 use Rattle.std.proofs.lemmas.Bool.{and_parts}
 use Rattle.grasp_session.specs.Conversation.{accepted_by, ended, turn}
-use Rattle.grasp_session.specs.Messages.{Side, Near, Far}
+use Rattle.grasp_session.specs.Messages.{Side, Far}
 use Rattle.grasp_session.specs.Says.{IsAt}
 use Rattle.grasp_session.specs.Sessions.{SessionState, Sessions, with_transcript, is_leaving, session_at}
 use Rattle.grasp_session.specs.Transcript.{Transcript, Expired, is_going, is_mine, known, refusal, with_mark}
@@ -26,7 +25,7 @@ use Rattle.grasp_types.specs.declared.session.Handle.{Handle}
 use Rattle.grasp_laws_agents.specs.GoingOn.{OwnGoOn}
 use Rattle.grasp_laws_agents.proofs.Places.{one_there}
 use Rattle.grasp_laws_agents.specs.Giving.{IsOwnSession, IsUnaccepted}
-use Rattle.grasp_laws_agents.specs.OfferLaws.{MayGoBack, IsAcceptance, FreedBy, WasEntry, was_there, just_decided, WasOpen, was_gone, was_entry, AgentMoves}
+use Rattle.grasp_laws_agents.specs.OfferLaws.{MayGoBack, IsAcceptance, FreedBy, WasOffered, was_there, just_decided, just_requested, WasOpen, was_gone, was_offer, AgentMoves}
 
 -- as it was, or timed out
 abbrev IsMarked : SessionState → SessionState → Type 0
@@ -104,28 +103,21 @@ may_go v e = (and_parts (is_going v) (is_mine v) (fine_turn (is_going v && is_mi
 module _ (n after : NodeState) (now : ℕ) (a b : AgentState) (k : IsBoundedNode n) (on : OwnGoOn n.sessions (begin n now).sessions) where
   back_before : (p : Prefix) → MayGoBack (begin n now) a p → MayGoBack n a p
   back_before p g =
-      let w = was_so n now g.entry.handle Far g.session k g.own in
-      record {
-        place = g.place;
-        entry = g.entry;
-        session = w.session;
-        at = g.at;
-        offer = g.offer;
-        own = w.own;
-        unaccepted = unaccepted_before w.session.view g.session.view w.known_is w.role g.unaccepted;
-      }
+      let w = was_so n now g.handle g.side g.session k g.own in
+      record { handle = g.handle; side = g.side; session = w.session; offers = g.offers; own = w.own; unaccepted = unaccepted_before w.session.view g.session.view w.known_is w.role g.unaccepted }
 
   -- where the agent might accept, nothing changed
   acceptance_before : (p : Prefix) → IsAcceptance (begin n now) after a p → IsAcceptance n after a p
   acceptance_before p g =
-      let w = was_so n now g.handle Near g.session k g.own in
+      let w = was_so n now g.handle g.side g.session k g.own in
       let same : g.session ≡ w.session = w.going (may_go g.session.view g.may) in
       record {
         handle = g.handle;
+        side = g.side;
         session = g.session;
         now = g.now;
         act_is = g.act_is;
-        own = subst (IsOwnSession n.sessions g.handle Near) (sym same) w.own;
+        own = subst (IsOwnSession n.sessions g.handle g.side) (sym same) w.own;
         may = g.may;
         offer = g.offer;
         said = g.said;
@@ -133,22 +125,24 @@ module _ (n after : NodeState) (now : ℕ) (a b : AgentState) (k : IsBoundedNode
 
   freed_before : (address : ℕ) → FreedBy (begin n now) after a address → FreedBy n after a address
   freed_before address (inl f) = inl (f.0, f.1, back_before f.0 f.2)
-  freed_before address (inr f) = inr (f.0, f.1, acceptance_before f.0 f.2)
+  freed_before address (inr (inl f)) = inr (inl (f.0, f.1, acceptance_before f.0 f.2))
+  freed_before address (inr (inr f)) = inr (inr f)
 
-  entry_before : (place : ℕ) (g : Giving) (p : Prefix) → WasEntry (begin n now) after a b place g p → WasEntry n after a b place g p
-  entry_before place g p (was_there old h at same offer) = was_there old h at same offer
-  entry_before place g p (just_decided idle is x own unaccepted free) =
-      let w = was_so n now g.handle Far x k own in
-      just_decided idle is w.session w.own (unaccepted_before w.session.view x.view w.known_is w.role unaccepted) (λ address in_p. by_free address (free address in_p)) where
+  offer_before : (side : Side) (h : Handle) (p : Prefix) → WasOffered (begin n now) a b side h p → WasOffered n a b side h p
+  offer_before side h p (was_there o) = was_there o
+  offer_before side h p (just_requested near unsent requested) = just_requested near unsent requested
+  offer_before side h p (just_decided far place idle is x own unaccepted free) =
+      let w = was_so n now h Far x k own in
+      just_decided far place idle is w.session w.own (unaccepted_before w.session.view x.view w.known_is w.role unaccepted) (λ address in_p. by_free address (free address in_p)) where
         by_free : (address : ℕ) → IsFree a.pool address ⊎ ((q : Prefix) × span_of q address × MayGoBack (begin n now) a q) → IsFree a.pool address ⊎ ((q : Prefix) × span_of q address × MayGoBack n a q)
         by_free address (inl f) = inl f
         by_free address (inr f) = inr (f.0, f.1, back_before f.0 f.2)
 
-  open_before : (x : SessionState) (p : Prefix) → x.owner ≡ 1 → WasOpen (begin n now) a x p → WasOpen n a x p
+  open_before : (x : SessionState) (p : Prefix) → x.owner ≡ 1 → WasOpen (begin n now) a b x p → WasOpen n a b x p
   open_before x p owner (was_gone has) = was_gone (on.left x owner has)
-  open_before x p owner (was_entry place g y at offer there stream) =
-      let w = was_at n now g.handle.place y k (state_slot (begin n now).sessions g.handle y there) in
-      was_entry place g w.0 at offer (at_handle n.sessions g.handle w.0 w.1 (number w.0 w.2 ∙ number_at (begin n now).sessions g.handle y there)) (stream ∙ on_stream w.0 w.2) where
+  open_before x p owner (was_offer side h y offers there stream doubted) =
+      let w = was_at n now h.place y k (state_slot (begin n now).sessions h y there) in
+      was_offer side h w.0 offers (at_handle n.sessions h w.0 w.1 (number w.0 w.2 ∙ number_at (begin n now).sessions h y there)) (stream ∙ on_stream w.0 w.2) doubted where
         number : (u : SessionState) → IsMarked u y → u.number ≡ y.number
         number u (inl e) = ap (λ (s : SessionState). s.number) (sym e)
         number u (inr d) = ap (λ (s : SessionState). s.number) (sym d.1)
@@ -166,8 +160,10 @@ module _ (n after : NodeState) (now : ℕ) (a b : AgentState) (k : IsBoundedNode
   moves_before m = record {
     streams = stream_before m;
     freed = λ address f. by_freed address (m.freed address f);
-    entries = λ place g p at offer. entry_before place g p (m.entries place g p at offer);
-    doubts = λ x p has owner role pending. open_before x p owner (m.doubts x p has owner role pending);
+    offered = λ side h p o. offer_before side h p (m.offered side h p o);
+    unsent = m.unsent;
+    doubts = λ x p has owner pending. open_before x p owner (m.doubts x p has owner pending);
+    keeps_doubts = m.keeps_doubts;
     reserved = m.reserved;
     doubtful = m.doubtful;
   } where

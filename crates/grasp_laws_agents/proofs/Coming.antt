@@ -1,25 +1,26 @@
--- A session of the agent begins: one that a peer began, and that of its want.
-use Rattle.std.proofs.Common.{◌≡◌, ◌≢◌, ◌⊎◌, refl, sym, ap, ◌∙◌, subst, inl, inr, ℕ, ◌<◌, true, List, [], ◌∷◌, ◌++◌, length, Option, None, Some, Contains, slice_get, slice_set, slice_index_or}
+-- A session of the agent begins: one that a peer began.
+use Rattle.std.proofs.Common.{◌≡◌, ◌≢◌, ◌⊎◌, refl, sym, ap, ◌∙◌, subst, inl, inr, ℕ, true, List, [], ◌∷◌, ◌++◌, None, Some, Contains, slice_get, slice_set}
 use Rattle.std.proofs.lemmas.Bool.{true≢false}
-use Rattle.grasp_laws_agent.specs.Moves.{starts, Effect}
 use Rattle.grasp_agent.specs.States.{AgentState, want_session}
-use Rattle.grasp_agent.specs.declared.act.Act.{Act}
+use Rattle.grasp_agent.specs.declared.back.Return.{Return}
 use Rattle.grasp_agent.specs.declared.giving.Giving.{Giving}
 use Rattle.grasp_model_node.specs.Node.{NodeState}
 use Rattle.grasp_pool.specs.Holdings.{Holding}
 use Rattle.grasp_laws_session.proofs.Runs.{some_state}
 use Rattle.grasp_session.specs.Conversation.{has_offered}
 use Rattle.grasp_session.specs.Made.{IsFresh}
-use Rattle.grasp_session.specs.Messages.{Near, Far}
+use Rattle.grasp_session.specs.Messages.{Side, Near, Far}
 use Rattle.grasp_session.specs.Says.{IsAt}
 use Rattle.grasp_session.specs.Sessions.{SessionState, session_at, with_owner}
 use Rattle.grasp_session.specs.Transcript.{Transcript, known}
 use Rattle.grasp_types.specs.Prefix.{AddressBlock as Prefix}
 use Rattle.grasp_types.specs.declared.session.Handle.{Handle}
 use Rattle.grasp_laws_agents.proofs.Entries.{last_back, last_on, one_last}
-use Rattle.grasp_laws_agents.proofs.Places.{one_there, set_here, new_here}
-use Rattle.grasp_laws_agents.proofs.Standing.{HasEntry, same_apart, same_has, same_entry, Moved, PlainEntry, stands, idle_offers, idle_entry, untaken_apart, empty_apart, elsewhere, own_was, plain_elsewhere, set_streams, quiet, still_entries}
-use Rattle.grasp_laws_agents.specs.Giving.{IsOpenOffer, IsOwnSession, EntryStands, AcceptStands, WantStands, Gives}
+use Rattle.grasp_laws_agents.proofs.Places.{one_there, set_here}
+use Rattle.grasp_laws_agents.proofs.Sides.{KeepKinds, fresh_kind, kinds_new}
+use Rattle.grasp_laws_agents.proofs.Standing.{same_apart, same_back, same_entry, same_has, same_quiet, same_unsent, untaken_apart, Moved, PlainEntry, rests, idle_entry, own_was, plain_elsewhere, want_elsewhere, back_elsewhere, set_streams, quiet}
+use Rattle.grasp_laws_agents.specs.Giving.{IsOpenOffer, IsOwnSession, EntryStands, WantStands, ReturnStands, OffersIn, in_entry, in_return, IsOffersSession, of_entry, of_return, Gives}
+use Rattle.grasp_laws_agents.specs.OfferLaws.{WasOffered, was_there}
 
 -- a request alone offers nothing
 pub fresh_far : (v : Transcript) → IsFresh v → v.role ≡ Far
@@ -31,7 +32,7 @@ fresh_closed v p f o = true≢false (sym o.offered.made ∙ ap (λ (w : Transcri
 -- the session at this handle, which no agent had taken, is the agent's now
 module _ (n after : NodeState) (a b : AgentState) (h : Handle) (x : SessionState) (k : Gives n a) (idle : a.act ≡ None) (at : IsAt n.sessions h.place x) (number : x.number ≡ h.number)
     (free : x.owner ≡ 0) (fresh : IsFresh x.view) (set : after.sessions.places ≡ slice_set n.sessions.places h.place (Some (with_owner x 1))) (gone : after.sessions.gone ≡ n.sessions.gone)
-    (pool : b.pool ≡ a.pool) (want : b.want ≡ a.want) (act : b.act ≡ a.act) where
+    (pool : b.pool ≡ a.pool) (want : b.want ≡ a.want) (back : b.back ≡ a.back) (act : b.act ≡ a.act) where
   abbrev new : SessionState
   new = with_owner x 1
 
@@ -41,11 +42,12 @@ module _ (n after : NodeState) (a b : AgentState) (h : Handle) (x : SessionState
   came_want : (l : Handle) → want_session b.want ≡ Some l → WantStands after.sessions b l
   came_want l f =
       let s = k.want l (ap want_session (sym want) ∙ f) in
-      record {
-        session = s.session;
-        own = elsewhere n.sessions after.sessions h.place (Some new) set l Near s.session (untaken_apart n.sessions h l Near x s.session at free s.own) s.own;
-        accept = subst (λ (o : Option Act). AcceptStands o l s.session.view) (sym (act ∙ idle)) tt;
-      }
+      want_elsewhere n.sessions after.sessions h.place (Some new) set a b l s (untaken_apart n.sessions h l Near x s.session at free s.own) (act ∙ idle)
+
+  came_back : (r : Return) (l : Handle) → b.back ≡ Some r → r.session ≡ Some l → ReturnStands after.sessions l r.prefix
+  came_back r l is f =
+      let s = same_back n a b back k r l is f in
+      back_elsewhere n.sessions after.sessions h.place (Some new) set l r.prefix s (untaken_apart n.sessions h l Near x s.session at free s.own)
 
   came_old : (place : ℕ) (g : Giving) → slice_get a.giving place ≡ Some g → PlainEntry after.sessions g
   came_old place g there =
@@ -53,17 +55,22 @@ module _ (n after : NodeState) (a b : AgentState) (h : Handle) (x : SessionState
       plain_elsewhere n.sessions after.sessions h.place (Some new) set g s (untaken_apart n.sessions h g.handle Far x s.session at free s.own)
 
   -- an open offer is one of before
-  came_live : (l : Handle) (y : SessionState) (p : Prefix) → IsOwnSession after.sessions l Far y → IsOpenOffer y.view p → HasEntry a l
-  came_live l y p has pending = by_case (own_was n.sessions after.sessions h.place (Some new) set l Far y has) where
-    by_case : ((l.place ≡ h.place) × (Some new ≡ Some y)) ⊎ ((l.place ≢ h.place) × IsOwnSession n.sessions l Far y) → HasEntry a l
+  came_live : (l : Handle) (side : Side) (y : SessionState) (p : Prefix) → IsOwnSession after.sessions l side y → IsOpenOffer y.view p → IsOffersSession a side l
+  came_live l side y p has pending = by_case (own_was n.sessions after.sessions h.place (Some new) set l side y has) where
+    by_case : ((l.place ≡ h.place) × (Some new ≡ Some y)) ⊎ ((l.place ≢ h.place) × IsOwnSession n.sessions l side y) → IsOffersSession a side l
     by_case (inl c) =
         let same : new ≡ y = some_state new y c.1 in
         absurd (fresh_closed x.view p fresh (subst (λ (u : SessionState). IsOpenOffer u.view p) (sym same) pending))
-    by_case (inr c) = k.live l y p c.1 pending
+    by_case (inr c) = k.live l side y p c.1 pending
 
-  came_gone : (y : SessionState) (p : Prefix) → Contains after.sessions.gone y → y.owner ≡ 1 → y.view.role ≡ Far → IsOpenOffer y.view p → Contains b.pool.doubtful p
-  came_gone y p has owner role pending =
-      subst (λ (q : Holding). Contains q.doubtful p) (sym pool) (k.gone y p (subst (λ (l : List SessionState). Contains l y) gone has) owner role pending)
+  came_kinds : KeepKinds after.sessions
+  came_kinds = kinds_new n.sessions after.sessions h.place new set gone (fresh_kind x.view fresh) k.kinds
+
+  came_left : (y : SessionState) → Contains after.sessions.gone y → Contains n.sessions.gone y
+  came_left y has = subst (λ (l : List SessionState). Contains l y) gone has
+
+  came_gone : (y : SessionState) (p : Prefix) → Contains after.sessions.gone y → y.owner ≡ 1 → IsOpenOffer y.view p → Contains b.pool.doubtful p
+  came_gone y p has owner pending = subst (λ (q : Holding). Contains q.doubtful p) (sym pool) (k.gone y p (came_left y has) owner pending)
 
   came_streams : (l : Handle) (u y : SessionState) → session_at n.sessions l ≡ Some u → session_at after.sessions l ≡ Some y → y.stream ≡ u.stream
   came_streams =
@@ -75,12 +82,14 @@ module _ (n after : NodeState) (a b : AgentState) (h : Handle) (x : SessionState
   unlisted giving = record {
     gives = record {
       want = came_want;
-      entries = λ place g f. stands after.sessions b place g (idle_offers b place (act ∙ idle)) (came_old place g (same_entry a b giving place g f));
+      entries = λ place g f. rests after.sessions b place g (act ∙ idle) (came_old place g (same_entry a b giving place g f));
+      back = came_back;
       apart = same_apart n a b giving k;
-      live = λ l y p has pending. same_has a b giving l (came_live l y p has pending);
+      kinds = came_kinds;
+      live = λ l side y p has pending. same_has a b giving back l side (came_live l side y p has pending);
       gone = came_gone;
     };
-    moves = quiet n after a b (record { streams = came_streams; pool = pool; entries = still_entries a b giving; left = λ y role has. subst (λ (l : List SessionState). Contains l y) gone has });
+    moves = same_quiet n after a b came_streams pool giving back (λ y p pending has. came_left y has);
   }
 
   abbrev entry : Giving
@@ -94,10 +103,10 @@ module _ (n after : NodeState) (a b : AgentState) (h : Handle) (x : SessionState
     listed_entry : (i : ℕ) (g : Giving) → slice_get b.giving i ≡ Some g → EntryStands after.sessions b i g
     listed_entry i g f = by_case (last_back a.giving entry i g (was i g f)) where
       by_case : (slice_get a.giving i ≡ Some g) ⊎ ((slice_get a.giving i ≡ None) × (entry ≡ g)) → EntryStands after.sessions b i g
-      by_case (inl c) = stands after.sessions b i g (idle_offers b i (act ∙ idle)) (came_old i g c)
+      by_case (inl c) = rests after.sessions b i g (act ∙ idle) (came_old i g c)
       by_case (inr c) =
           subst (EntryStands after.sessions b i) c.1
-          (stands after.sessions b i entry (idle_offers b i (act ∙ idle)) (record { session = new; own = own; offer = λ p. fresh_closed x.view p fresh }))
+          (rests after.sessions b i entry (act ∙ idle) (record { session = new; own = own; offer = λ p. fresh_closed x.view p fresh }))
 
     -- the session of the new entry isn't that of another entry
     new_apart : (i : ℕ) (g : Giving) → slice_get a.giving i ≡ Some g → g.handle ≡ h → ⊥
@@ -111,66 +120,27 @@ module _ (n after : NodeState) (a b : AgentState) (h : Handle) (x : SessionState
       by_case (inr c) (inl d) = absurd (new_apart j l d (sym same ∙ ap (λ (u : Giving). u.handle) (sym c.1)))
       by_case (inr c) (inr d) = one_last a.giving entry i j g l (was i g f) (was j l s) c.0 d.0
 
-    listed_was : (i : ℕ) (g : Giving) (p : Prefix) → slice_get b.giving i ≡ Some g → g.offer ≡ Some p → (old : ℕ) × ((f : Giving) × (slice_get a.giving old ≡ Some f) × (f.handle ≡ g.handle) × (f.offer ≡ Some p))
-    listed_was i g p f offer = by_case (last_back a.giving entry i g (was i g f)) where
-      by_case : (slice_get a.giving i ≡ Some g) ⊎ ((slice_get a.giving i ≡ None) × (entry ≡ g)) → (old : ℕ) × ((f : Giving) × (slice_get a.giving old ≡ Some f) × (f.handle ≡ g.handle) × (f.offer ≡ Some p))
-      by_case (inl c) = (i, (g, c, refl, offer))
+    listed_offers : (side : Side) (l : Handle) (p : Prefix) → OffersIn b side l p → WasOffered n a b side l p
+    listed_offers side l p (in_entry far i g f same offer) = by_case (last_back a.giving entry i g (was i g f)) where
+      by_case : (slice_get a.giving i ≡ Some g) ⊎ ((slice_get a.giving i ≡ None) × (entry ≡ g)) → WasOffered n a b side l p
+      by_case (inl c) = was_there (in_entry far i g c same offer)
       by_case (inr c) = let clash : None ≡ Some p = ap (λ (u : Giving). u.offer) c.1 ∙ offer in absurd (cc)
+    listed_offers side l p (in_return near r is same offer) = was_there (in_return near r (sym back ∙ is) same offer)
+
+    listed_has : (l : Handle) (side : Side) → IsOffersSession a side l → IsOffersSession b side l
+    listed_has l side (of_entry far i g f same) = of_entry far i g (ap (λ (u : List Giving). slice_get u i) giving ∙ last_on a.giving entry i g f) same
+    listed_has l side (of_return near r is same) = of_return near r (back ∙ is) same
 
     pub listed : Moved n after a b
     listed = record {
       gives = record {
         want = came_want;
         entries = listed_entry;
+        back = came_back;
         apart = listed_apart;
-        live = λ l y p has pending. let r = came_live l y p has pending in (r.0, (r.1.0, ap (λ (u : List Giving). slice_get u r.0) giving ∙ last_on a.giving entry r.0 r.1.0 r.1.1, r.1.2));
+        kinds = came_kinds;
+        live = λ l side y p has pending. listed_has l side (came_live l side y p has pending);
         gone = came_gone;
       };
-      moves = quiet n after a b (record { streams = came_streams; pool = pool; entries = listed_was; left = λ y role has. subst (λ (l : List SessionState). Contains l y) gone has });
+      moves = quiet n after a b (record { streams = came_streams; pool = pool; offered = listed_offers; unsent = same_unsent a b back; left = λ y p pending has. came_left y has });
     }
-
--- the session of the want begins, at an empty place
-module _ (n after : NodeState) (a b : AgentState) (h : Handle) (new : SessionState) (k : Gives n a) (idle : a.act ≡ None) (below : h.place < length n.sessions.places)
-    (empty : slice_index_or n.sessions.places h.place None ≡ None) (number : new.number ≡ h.number) (owner_is : new.owner ≡ 1) (near : new.view.role ≡ Near)
-    (set : after.sessions.places ≡ slice_set n.sessions.places h.place (Some new)) (gone : after.sessions.gone ≡ n.sessions.gone) (e : Effect a (starts h) b) where
-  started_want : (l : Handle) → want_session b.want ≡ Some l → WantStands after.sessions b l
-  started_want l f =
-      let same : Some h ≡ Some l = sym (ap want_session e.4.2) ∙ f in
-      let there : h ≡ l = cc in
-      subst (WantStands after.sessions b) there
-      (record {
-        session = new;
-        own = record { at = new_here n.sessions after.sessions new h set below number; owner = owner_is; role = near };
-        accept = subst (λ (o : Option Act). AcceptStands o h new.view) (sym (e.2 ∙ idle)) tt;
-      })
-
-  started_entry : (place : ℕ) (g : Giving) → slice_get b.giving place ≡ Some g → EntryStands after.sessions b place g
-  started_entry place g f =
-      let s = idle_entry n a place g k idle (same_entry a b e.1 place g f) in
-      stands after.sessions b place g (idle_offers b place (e.2 ∙ idle))
-      (plain_elsewhere n.sessions after.sessions h.place (Some new) set g s (empty_apart n.sessions h.place g.handle Far s.session empty s.own))
-
-  started_live : (l : Handle) (y : SessionState) (p : Prefix) → IsOwnSession after.sessions l Far y → IsOpenOffer y.view p → HasEntry b l
-  started_live l y p has pending = by_case (own_was n.sessions after.sessions h.place (Some new) set l Far y has) where
-    by_case : ((l.place ≡ h.place) × (Some new ≡ Some y)) ⊎ ((l.place ≢ h.place) × IsOwnSession n.sessions l Far y) → HasEntry b l
-    by_case (inl c) =
-        let clash : Near ≡ Far = sym near ∙ (ap (λ (u : SessionState). u.view.role) (some_state new y c.1) ∙ has.role) in
-        absurd (cc)
-    by_case (inr c) = same_has a b e.1 l (k.live l y p c.1 pending)
-
-  started_streams : (l : Handle) (u y : SessionState) → session_at n.sessions l ≡ Some u → session_at after.sessions l ≡ Some y → y.stream ≡ u.stream
-  started_streams = set_streams n.sessions after.sessions h.place (Some new) set (λ u y there same. nobody u there) where
-    nobody : {A : Type 0} (u : SessionState) → IsAt n.sessions h.place u → A
-    nobody u there = let clash : None ≡ Some u = sym empty ∙ there in absurd (cc)
-
-  pub started : Moved n after a b
-  started = record {
-    gives = record {
-      want = started_want;
-      entries = started_entry;
-      apart = same_apart n a b e.1 k;
-      live = started_live;
-      gone = λ y p has owner role pending. subst (λ (q : Holding). Contains q.doubtful p) (sym e.0) (k.gone y p (subst (λ (l : List SessionState). Contains l y) gone has) owner role pending);
-    };
-    moves = quiet n after a b (record { streams = started_streams; pool = e.0; entries = still_entries a b e.1; left = λ y role has. subst (λ (l : List SessionState). Contains l y) gone has });
-  }

@@ -1,7 +1,9 @@
 -- What each step of a node and its agent keeps is so of each node and agent of a network that events lead to.
-use Rattle.std.proofs.Common.{◌≡◌, ◌≢◌, refl, sym, ap, ◌∙◌, subst, arith, tests, ℕ, ◌-◌, ◌≤◌, ◌==◌, Bool, true, false, cond, map, slice_get, slice_set, take, Option, Some, None}
+use Rattle.std.proofs.Common.{◌≡◌, ◌≢◌, refl, sym, ap, ◌∙◌, subst, arith, tests, ℕ, ◌-◌, ◌≤◌, ◌==◌, Bool, true, false, ◌⊎◌, inl, inr, cond, map, slice_get, slice_set, take, Option, Some, None}
 use Rattle.std.proofs.lemmas.Option.{none-some, same_Some}
-use Rattle.grasp_agent.specs.Replies.{after_reply, want_reply, after_want}
+use Rattle.grasp_agent.specs.Laws.{IsPossible}
+use Rattle.grasp_agent.specs.Replies as agent
+use Rattle.grasp_agent.specs.Replies.{AgentEvent, after_reply}
 use Rattle.grasp_agent.specs.States.{AgentState}
 use Rattle.grasp_model_node.specs.Begin.{begin}
 use Rattle.grasp_model_node.specs.Draining.{closes, drained, after_drain}
@@ -9,7 +11,6 @@ use Rattle.grasp_model_node.specs.Node.{NodeState}
 use Rattle.grasp_model_node.specs.Queue.{encoding}
 use Rattle.grasp_model_node.specs.Step.{Coming, NodeStep}
 use Rattle.grasp_session.specs.Messages.{other}
-use Rattle.grasp_types.specs.declared.address.Locator.{Locator}
 use Rattle.grasp_types.specs.declared.reply.Reply.{Reply}
 use Rattle.grasp_types.specs.declared.reply.Reply.TheVariants as reply
 use Rattle.grasp_types.specs.declared.traffic.Input.{Input}
@@ -19,9 +20,11 @@ use Rattle.grasp_laws_network.proofs.Here.{visits_are_here}
 use Rattle.grasp_laws_network.proofs.Others.{put_elsewhere, arrived_keeps, delivered_keeps, told_keeps}
 use Rattle.grasp_laws_network.proofs.Reached.{reached_keeps}
 use Rattle.grasp_laws_network.proofs.Sent.{sending_keeps_nodes}
-use Rattle.grasp_model_network.specs.EventSteps.{after_agent_call, after_agent, agent_visit, agent_seat, agent_input, after_arrival, clock_seat, after_clock, wanted_by, wanted_at, after_wanting, cut_visit, cut_at, after_cut, datagram_visit, datagram_at, after_delivery, piece_visit, piece_at, after_piece}
+use Rattle.grasp_laws_network.proofs.Telling.{one_agent, one_least, none_tells}
+use Rattle.grasp_laws_network.specs.Telling.{IsNoReply, Tells}
+use Rattle.grasp_model_network.specs.EventSteps.{after_agent_call, after_agent, agent_visit, agent_seat, agent_input, after_arrival, clock_seat, after_clock, cut_visit, cut_at, after_cut, datagram_visit, datagram_at, after_delivery, piece_visit, piece_at, after_piece}
 use Rattle.grasp_model_network.specs.StreamChanges.{arrived, told, Reached, reached_side, side_named, delivered}
-use Rattle.grasp_model_network.specs.Events.{visit_of, after_visit, after_none, after_by, after_event, drains, drained_behind, AreLengths, IsFit, Occurs}
+use Rattle.grasp_model_network.specs.Events.{visit_of, after_visit, after_none, after_by, after_event, drains, drained_behind, IsFit, Occurs}
 use Rattle.grasp_laws_network.specs.Keeping.{IsHere}
 use Rattle.grasp_model_network.specs.Notes.{noted}
 use Rattle.grasp_model_network.specs.Runs.{IsReached, first_seat, first_world}
@@ -71,11 +74,11 @@ own_call node v (Some seat) is =
 -- ---- what is kept
 
 -- each step of the node keeps it, where the input isn't a call of agent 1; so does each call of the agent, which takes the reply; and
--- so does a want
+-- so does what the agent is told
 pub record Keeps (P : NodeState → AgentState → Type 0) : Type 0 where
   pub others : (n after : NodeState) (a : AgentState) (now : ℕ) (i : Input) (x : Coming) (r : Reply) → P n a → IsOthers i → NodeStep n now i x r after → P after a
   pub own : (n after : NodeState) (a : AgentState) (now : ℕ) (x : Coming) (r : Reply) → P n a → NodeStep n now (agent_input a) x r after → P after (after_reply a r)
-  pub wants : (n : NodeState) (a : AgentState) (wanted longest : ℕ) (peer : Locator) → AreLengths wanted longest → P n a → P n (after_want a wanted longest peer (want_reply a))
+  pub told : (n : NodeState) (a : AgentState) (e : AgentEvent) → IsPossible e → IsNoReply e → P n a → P n (agent.after_event a e)
 
 -- ---- one node is put
 
@@ -140,6 +143,7 @@ module _ (P : NodeState → AgentState → Type 0) (keep : Keeps P) (s : Setting
     by_event : (e : Event) → visit_of s w e ≡ Some v → IsFit s w e → OfEachSeat P (after_visit s w e v c)
     by_event (event.Clock node millis) is fit = stepped_each w w (after_clock w v c) v c.after v.seat.agent here.member.least refl refl (stays (clock_others node millis v (seat_at w node) is)) each
     by_event (event.Want node wanted longest peer) is fit = each
+    by_event (event.Return node prefix peer) is fit = each
     by_event (event.Agent node hold) is fit =
         stepped_each w w (after_agent w v c) v c.after (after_reply v.seat.agent c.reply) here.member.least refl refl
         (keep.own v.seat.core c.after v.seat.agent v.now c.coming c.reply own (subst (λ i. NodeStep v.seat.core v.now i c.coming c.reply c.after) (sym (own_call node v (seat_at w node) is)) step)) each
@@ -159,28 +163,18 @@ module _ (P : NodeState → AgentState → Type 0) (keep : Keeps P) (s : Setting
         (told_keeps w (reached_side w stream (side_named far))) refl (stays (cut_others w v (reached_side w stream (side_named far)) is)) each
     by_event (event.Drain node max) is fit = drained_each w v.node max here.member.least each
 
-  -- ---- a want
+  -- ---- an agent that is told something
 
-  wanted_each : (w : WorldState) (node : ℕ) (seat : Seat) (wanted longest : ℕ) (peer : Option Locator) → 1 ≤ node → AreLengths wanted longest → seat_at w node ≡ Some seat → OfEachSeat P w
-      → OfEachSeat P (wanted_by w node seat wanted longest peer)
-  wanted_each w node seat wanted longest None least are here each = each
-  wanted_each w node seat wanted longest (Some peer) least are here each =
-      put_each P w (wanted_by w node seat wanted longest (Some peer)) node (seat_with seat seat.core (after_want seat.agent wanted longest peer (want_reply seat.agent))) least refl
-      (keep.wants seat.core seat.agent wanted longest peer are (each node seat here)) each
-
-  wanting_each : (w : WorldState) (node wanted longest peer : ℕ) (o : Option Seat) → 1 ≤ node → AreLengths wanted longest → seat_at w node ≡ o → OfEachSeat P w → OfEachSeat P (wanted_at s w node wanted longest peer o)
-  wanting_each w node wanted longest peer None least are here each = each
-  wanting_each w node wanted longest peer (Some seat) least are here each = wanted_each w node seat wanted longest (numbered s.peers peer) least are here each
-
-  none_each : (w : WorldState) (e : Event) → IsFit s w e → OfEachSeat P w → OfEachSeat P (after_none s w e)
-  unfolding after_wanting
-  none_each w (event.Want node wanted longest peer) fit each = wanting_each w node wanted longest peer (seat_at w node) fit.0.least fit.2 refl each
-  none_each w _ fit each = each
+  told_each : (w : WorldState) (e : Event) → OfEachSeat P w → (after_none s w e ≡ w) ⊎ Tells s w e (after_none s w e) → OfEachSeat P (after_none s w e)
+  told_each w e each (inl same) = subst (OfEachSeat P) (sym same) each
+  told_each w e each (inr t) =
+      put_each P w (after_none s w e) t.telling.node (seat_with t.seat t.seat.core (agent.after_event t.seat.agent t.telling.what)) (one_least w (after_none s w e) (one_agent s w e (after_none s w e) t))
+      (ap (λ (x : WorldState). x.seats) t.after) (keep.told t.seat.core t.seat.agent t.telling.what t.possible t.no_reply (each t.telling.node t.seat t.here)) each
 
   -- ---- an event
 
   by_each : (w : WorldState) (e : Event) (c : Choice) (o : Option Visit) → visit_of s w e ≡ o → IsFit s w e → MayCome o c → OfEachSeat P w → OfEachSeat P (after_by s w e c o)
-  by_each w e c None is fit comes each = none_each w e fit each
+  by_each w e c None is fit comes each = told_each w e each (none_tells s w e fit)
   by_each w e c (Some v) is fit comes each = at_node (visits_are_here s w e v is) where
     at_node : IsHere w v → OfEachSeat P (after_by s w e c (Some v))
     at_node here = behind_each (drains e) (after_visit s w e v c) v.node here.member.least (visit_each w e v c is fit here comes.steps each)

@@ -1,9 +1,10 @@
 -- What the agent of prefixes offers stands while it says nothing.
 use Rattle.std.proofs.Common.{◌≡◌, sym, ap, ◌∙◌, ℕ, Bool, true, false, Option, None, Some, slice_get}
 use Rattle.grasp_agent.specs.States.{AgentState, want_session}
-use Rattle.grasp_agent.specs.Values.{offered_in}
+use Rattle.grasp_agent.specs.Values.{returned_in}
 use Rattle.grasp_agent.specs.declared.act.Act.{Act}
 use Rattle.grasp_agent.specs.declared.act.Act.TheVariants as act
+use Rattle.grasp_agent.specs.declared.back.Return.{Return}
 use Rattle.grasp_agent.specs.declared.giving.Giving.{Giving}
 use Rattle.grasp_laws_node.proofs.Meaning.Acts.{number_at}
 use Rattle.grasp_model_node.specs.Node.{NodeState}
@@ -12,28 +13,29 @@ use Rattle.grasp_session.proofs.Tables.{state_slot}
 use Rattle.grasp_session.specs.Conversation.{answered, ended, has_offered, newest_offer_by, turn}
 use Rattle.grasp_session.specs.Messages.{Side, Near, Far, other}
 use Rattle.grasp_session.specs.Sessions.{SessionState, Sessions}
-use Rattle.grasp_session.specs.Transcript.{Transcript, known, peer_offer}
+use Rattle.grasp_session.specs.Transcript.{Transcript, known, my_offer, peer_offer, request_of}
 use Rattle.grasp_types.specs.Prefix.{AddressBlock as Prefix}
 use Rattle.grasp_types.specs.declared.objective.Objective.{Objective}
 use Rattle.grasp_types.specs.declared.session.Handle.{Handle}
 use Rattle.grasp_laws_agents.proofs.GoingOn.{heard_alike, heard_offer, heard_offered, heard_turn, heard_unanswered}
+use Rattle.grasp_laws_agents.proofs.Sides.{kinds_on}
 use Rattle.grasp_laws_agents.specs.GoingOn.{OnlyHears, OnlyHeard, OwnGoOn}
-use Rattle.grasp_laws_agents.proofs.Standing.{HasEntry}
-use Rattle.grasp_laws_agents.specs.Giving.{HasOffered, IsOpenOffer, IsDeciding, OfferStands, IsOwnSession, EntryStands, AcceptStands, WantStands, Gives}
+use Rattle.grasp_laws_agents.specs.Giving.{HasOffered, IsOpenOffer, IsDeciding, OfferStands, IsOwnSession, EntryStands, AcceptStands, WantStands, ReturnStands, IsOffersSession, offered_by, Gives}
 
 -- ---- offers
-
-abbrev value_offered : Objective → Option Prefix
-value_offered o = offered_in o.value
 
 made_same : (v w : Transcript) → OnlyHears v w → has_offered w.role (known w) ≡ has_offered v.role (known v)
 made_same v w h = ap (λ s. has_offered s (known w)) (heard_alike v w h).role ∙ heard_offered v w h
 
+-- what its last value offers is the same
+value_same : (v w : Transcript) → OnlyHears v w → offered_by w.role (my_offer w).value ≡ offered_by v.role (my_offer v).value
+value_same v w h = ap (λ s. offered_by s (my_offer w).value) (heard_alike v w h).role ∙ ap (λ (o : Objective). offered_by v.role o.value) (heard_offer v w h)
+
 offered_on : (v w : Transcript) (p : Prefix) → OnlyHears v w → HasOffered v p → HasOffered w p
-offered_on v w p h o = record { made = made_same v w h ∙ o.made; offer = ap value_offered (heard_offer v w h) ∙ o.offer }
+offered_on v w p h o = record { made = made_same v w h ∙ o.made; offer = value_same v w h ∙ o.offer }
 
 offered_back : (v w : Transcript) (p : Prefix) → OnlyHears v w → HasOffered w p → HasOffered v p
-offered_back v w p h o = record { made = sym (made_same v w h) ∙ o.made; offer = ap value_offered (sym (heard_offer v w h)) ∙ o.offer }
+offered_back v w p h o = record { made = sym (made_same v w h) ∙ o.made; offer = sym (value_same v w h) ∙ o.offer }
 
 pub open_back : (v w : Transcript) (p : Prefix) → OnlyHears v w → IsOpenOffer w p → IsOpenOffer v p
 open_back v w p h o = record { offered = offered_back v w p h o.offered; unanswered = heard_unanswered v w h (ap (λ s. answered s (known w)) (sym (heard_alike v w h).role) ∙ o.unanswered) }
@@ -41,17 +43,21 @@ open_back v w p h o = record { offered = offered_back v w p h o.offered; unanswe
 deciding_on : (v w : Transcript) → OnlyHears v w → IsDeciding v → IsDeciding w
 deciding_on v w h d = record { mine = ap turn (heard_turn v w h d.mine) ∙ (d.mine ∙ sym (heard_alike v w h).role); no_end = ap ended (heard_turn v w h d.mine) ∙ d.no_end }
 
+-- what its request gives back is the same
+back_same : (v w : Transcript) → OnlyHears v w → returned_in (request_of w).value ≡ returned_in (request_of v).value
+back_same v w h = ap (λ (q : Objective). returned_in q.value) (heard_alike v w h).request
+
 offer_on : (b : Bool) (o : Option Prefix) (v w : Transcript) → OnlyHears v w → OfferStands b o v → OfferStands b o w
-offer_on true o v w h s = deciding_on v w h s
+offer_on true o v w h s = (deciding_on v w h s.0, back_same v w h ∙ s.1)
 offer_on false (Some p) v w h s = offered_on v w p h s
 offer_on false None v w h s = λ p q. s p (open_back v w p h q)
 
 peer_on : (v w : Transcript) → OnlyHears v w → IsDeciding v → peer_offer w ≡ peer_offer v
 peer_on v w h d = ap (λ (s : Side). newest_offer_by (other s) (known w)) (heard_alike v w h).role ∙ ap (newest_offer_by (other v.role)) (heard_turn v w h d.mine)
 
-accept_on : (o : Option Act) (k : Handle) (v w : Transcript) → OnlyHears v w → AcceptStands o k v → AcceptStands o k w
-accept_on (Some (act.Accept at p)) k v w h s = λ e. let d = s e in (deciding_on v w h d.0, ap value_offered (peer_on v w h d.0) ∙ d.1)
-accept_on _ k v w h s = tt
+accept_on : (o : Option Act) (k : Handle) (side : Side) (v w : Transcript) → OnlyHears v w → AcceptStands o k side v → AcceptStands o k side w
+accept_on (Some (act.Accept at p)) k side v w h s = λ e. let d = s e in (deciding_on v w h d.0, ap (λ (o : Objective). offered_by (other side) o.value) (peer_on v w h d.0) ∙ d.1)
+accept_on _ k side v w h s = tt
 
 -- ---- its sessions
 
@@ -90,12 +96,20 @@ own_back z w h side y g o =
     }
 
 pub gives_on : (n m : NodeState) (a : AgentState) → OwnGoOn n.sessions m.sessions → Gives n a → Gives m a
-gives_on n m a g k = record { want = want; entries = entries; apart = k.apart; live = live; gone = λ x p has owner role pending. k.gone x p (g.left x owner has) owner role pending } where
+gives_on n m a g k = record {
+  want = want;
+  entries = entries;
+  back = back;
+  apart = k.apart;
+  kinds = kinds_on n.sessions m.sessions g k.kinds;
+  live = live;
+  gone = λ x p has owner pending. k.gone x p (g.left x owner has) owner pending;
+} where
   want : (h : Handle) → want_session a.want ≡ Some h → WantStands m.sessions a h
   want h e =
       let s = k.want h e in
       let y = own_on n.sessions m.sessions h Near s.session g s.own in
-      record { session = y.session; own = y.own; accept = accept_on a.act h s.session.view y.session.view y.over.view s.accept }
+      record { session = y.session; own = y.own; accept = accept_on a.act h Near s.session.view y.session.view y.over.view s.accept; asks = back_same s.session.view y.session.view y.over.view ∙ s.asks }
 
   entries : (place : ℕ) (e : Giving) → slice_get a.giving place ≡ Some e → EntryStands m.sessions a place e
   entries place e f =
@@ -105,9 +119,16 @@ gives_on n m a g k = record { want = want; entries = entries; apart = k.apart; l
         session = y.session;
         own = y.own;
         offer = offer_on _ e.offer s.session.view y.session.view y.over.view s.offer;
+        accept = accept_on a.act e.handle Far s.session.view y.session.view y.over.view s.accept;
       }
 
-  live : (h : Handle) (y : SessionState) (p : Prefix) → IsOwnSession m.sessions h Far y → IsOpenOffer y.view p → HasEntry a h
-  live h y p own pending =
-      let x = own_back n.sessions m.sessions h Far y g own in
-      k.live h x.session p x.own (open_back x.session.view y.view p x.over.view pending)
+  back : (r : Return) (h : Handle) → a.back ≡ Some r → r.session ≡ Some h → ReturnStands m.sessions h r.prefix
+  back r h is f =
+      let s = k.back r h is f in
+      let y = own_on n.sessions m.sessions h Near s.session g s.own in
+      record { session = y.session; own = y.own; offer = offered_on s.session.view y.session.view r.prefix y.over.view s.offer }
+
+  live : (h : Handle) (side : Side) (y : SessionState) (p : Prefix) → IsOwnSession m.sessions h side y → IsOpenOffer y.view p → IsOffersSession a side h
+  live h side y p own pending =
+      let x = own_back n.sessions m.sessions h side y g own in
+      k.live h side x.session p x.own (open_back x.session.view y.view p x.over.view pending)

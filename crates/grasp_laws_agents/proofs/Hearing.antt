@@ -41,7 +41,7 @@ listens : (n : NodeState) (stream session : ℕ) (o : Objective) (r : Result Han
 unfolding with_sessions
 listens n stream session o (Ok h) e =
     starts n.sessions n.reading (untaken stream session o) h e (λ f. absurd (omega (arith, f)))
-    (record { owned = record { own = λ f. absurd (omega (arith, f)); foreign = λ f g. absurd (f refl); untaken = λ f. refl }; unsaid = λ f. (refl, refl) })
+    (record { owned = record { own = λ f. absurd (omega (arith, f)); foreign = λ f g. absurd (f refl); untaken = λ f. refl }; unsaid = λ f. (refl, (refl, refl)) })
 listens n stream session o (Err refused) e = answers n stream (End session (declined_for busy))
 
 requests : (n : NodeState) (stream session : ℕ) (o : Objective) → SameAt n (hear_request n stream session o).node

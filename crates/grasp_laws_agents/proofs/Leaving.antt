@@ -3,13 +3,13 @@ use Rattle.std.proofs.Common.{◌≡◌, ◌≢◌, ◌⊎◌, refl, sym, ap, �
 use Rattle.std.proofs.lemmas.Bool.{true≢false}
 use Rattle.grasp_agent.specs.Laws.{IsPeersEnd}
 use Rattle.grasp_laws_agent.specs.Moves.{finishes, leaves, Effect, Settled, SettlesOffer}
-use Rattle.grasp_agent.specs.States.{AgentState, want_session}
-use Rattle.grasp_agent.specs.declared.act.Act.{Act}
+use Rattle.grasp_agent.specs.States.{AgentState, unsent_of, want_session}
+use Rattle.grasp_agent.specs.declared.back.Return.{Return}
 use Rattle.grasp_agent.specs.declared.giving.Giving.{Giving}
 use Rattle.grasp_model_node.specs.Node.{NodeState}
 use Rattle.grasp_pool.specs.Holdings.{Holding, IsFree, GivesBack, Confirms, Doubts}
 use Rattle.grasp_pool.specs.Spans.{Covers}
-use Rattle.grasp_session.specs.Messages.{Near, Far}
+use Rattle.grasp_session.specs.Messages.{Side, Near, Far}
 use Rattle.grasp_session.specs.Sessions.{SessionState, Sessions, left, session_at}
 use Rattle.grasp_session.specs.Transcript.{Transcript, outcome_of}
 use Rattle.grasp_types.specs.Prefix.{AddressBlock as Prefix, span_of}
@@ -20,9 +20,10 @@ use Rattle.grasp_types.specs.declared.session.Outcome.TheVariants as outcome
 use Rattle.grasp_laws_agents.proofs.Entries.{some_is, cons_cases, place_before, before_apart, not_removed, removed_back, removed_on}
 use Rattle.grasp_laws_agents.proofs.Known.{their_end, declined_unaccepted}
 use Rattle.grasp_laws_agents.proofs.Places.{one_handle}
-use Rattle.grasp_laws_agents.proofs.Standing.{HasEntry, same_apart, same_has, same_entry, Moved, stands, idle_offers, idle_entry, sides_apart, elsewhere, own_was, plain_elsewhere, set_streams, quiet, still_entries}
-use Rattle.grasp_laws_agents.specs.Giving.{IsOpenOffer, IsUnaccepted, OfferStands, IsOwnSession, EntryStands, AcceptStands, WantStands, Gives}
-use Rattle.grasp_laws_agents.specs.OfferLaws.{FreedBy, was_there, WasOpen, was_gone, was_entry}
+use Rattle.grasp_laws_agents.proofs.Sides.{none_offered, own_kind, kinds_left}
+use Rattle.grasp_laws_agents.proofs.Standing.{same_apart, same_back, same_entry, same_has, same_quiet, same_unsent, sides_apart, asked_apart, Moved, IsAsked, rests, idle_entry, own_was, plain_elsewhere, want_elsewhere, back_elsewhere, set_streams}
+use Rattle.grasp_laws_agents.specs.Giving.{IsOpenOffer, IsUnaccepted, OfferStands, IsOwnSession, EntryStands, WantStands, ReturnStands, OffersIn, in_entry, in_return, IsOffersSession, of_entry, of_return, Gives}
+use Rattle.grasp_laws_agents.specs.OfferLaws.{FreedBy, WasOffered, was_there, WasOpen, was_gone, was_offer, AgentMoves}
 
 -- the node without this session
 abbrev pub node_left : NodeState → Handle → SessionState → NodeState
@@ -33,27 +34,33 @@ left_streams n k u h x y at there = set_streams n.sessions (left n.sessions k u)
 
 -- ---- the session of its want
 
-module _ (n : NodeState) (a b : AgentState) (h : Handle) (x : SessionState) (k : Gives n a) (idle : a.act ≡ None) (own : IsOwnSession n.sessions h Near x) (o : Outcome) (e : Effect a (finishes h o) b) where
+module _ (n : NodeState) (a b : AgentState) (h : Handle) (x : SessionState) (k : Gives n a) (idle : a.act ≡ None) (asked : IsAsked n.sessions h x) (o : Outcome) (e : Effect a (finishes h o) b) where
   finished_want : (l : Handle) → want_session b.want ≡ Some l → WantStands (left n.sessions h x) b l
-  finished_want l f = let clash : None ≡ Some l = sym (ap want_session e.3) ∙ f in absurd (cc)
+  finished_want l f = let clash : None ≡ Some l = sym (ap want_session e.4) ∙ f in absurd (cc)
 
   finished_entry : (place : ℕ) (g : Giving) → slice_get b.giving place ≡ Some g → EntryStands (left n.sessions h x) b place g
   finished_entry place g f =
       let s = idle_entry n a place g k idle (same_entry a b e.1 place g f) in
-      stands (left n.sessions h x) b place g (idle_offers b place (e.2 ∙ idle))
-      (plain_elsewhere n.sessions (left n.sessions h x) h.place None refl g s (sides_apart n.sessions h g.handle x s.session own s.own))
+      rests (left n.sessions h x) b place g (e.3 ∙ idle)
+      (plain_elsewhere n.sessions (left n.sessions h x) h.place None refl g s (sides_apart n.sessions h g.handle x s.session asked.own s.own))
 
-  finished_live : (l : Handle) (y : SessionState) (p : Prefix) → IsOwnSession (left n.sessions h x) l Far y → IsOpenOffer y.view p → HasEntry b l
-  finished_live l y p has pending = by_case (own_was n.sessions (left n.sessions h x) h.place None refl l Far y has) where
-    by_case : ((l.place ≡ h.place) × (None ≡ Some y)) ⊎ ((l.place ≢ h.place) × IsOwnSession n.sessions l Far y) → HasEntry b l
+  finished_back : (r : Return) (l : Handle) → b.back ≡ Some r → r.session ≡ Some l → ReturnStands (left n.sessions h x) l r.prefix
+  finished_back r l is f =
+      let s = same_back n a b e.2 k r l is f in
+      back_elsewhere n.sessions (left n.sessions h x) h.place None refl l r.prefix s (asked_apart n a h l x r.prefix k asked s)
+
+  finished_live : (l : Handle) (side : Side) (y : SessionState) (p : Prefix) → IsOwnSession (left n.sessions h x) l side y → IsOpenOffer y.view p → IsOffersSession b side l
+  finished_live l side y p has pending = by_case (own_was n.sessions (left n.sessions h x) h.place None refl l side y has) where
+    by_case : ((l.place ≡ h.place) × (None ≡ Some y)) ⊎ ((l.place ≢ h.place) × IsOwnSession n.sessions l side y) → IsOffersSession b side l
     by_case (inl c) = let clash : None ≡ Some y = c.1 in absurd (cc)
-    by_case (inr c) = same_has a b e.1 l (k.live l y p c.1 pending)
+    by_case (inr c) = same_has a b e.1 e.2 l side (k.live l side y p c.1 pending)
 
-  -- a session in which this node is the far end and that is no longer live was so before the session of the want was left
-  far_gone : (y : SessionState) → y.view.role ≡ Far → Contains (x ∷ n.sessions.gone) y → Contains n.sessions.gone y
-  far_gone y role has = by_case (cons_cases x y n.sessions.gone has) where
+  -- a session with an open offer that is no longer live was so before the session of the want was left
+  open_gone : (y : SessionState) (p : Prefix) → IsOpenOffer y.view p → Contains (x ∷ n.sessions.gone) y → Contains n.sessions.gone y
+  open_gone y p pending has = by_case (cons_cases x y n.sessions.gone has) where
     by_case : (x ≡ y) ⊎ Contains n.sessions.gone y → Contains n.sessions.gone y
-    by_case (inl c) = let clash : Near ≡ Far = sym own.role ∙ (ap (λ (u : SessionState). u.view.role) c ∙ role) in absurd (cc)
+    by_case (inl c) =
+        absurd (none_offered x.view p asked.own.role (own_kind n a h Near x k asked.own) asked.asks (subst (λ (u : SessionState). IsOpenOffer u.view p) (sym c) pending).offered)
     by_case (inr c) = c
 
   pub finished : Moved n (node_left n h x) a b
@@ -61,11 +68,13 @@ module _ (n : NodeState) (a b : AgentState) (h : Handle) (x : SessionState) (k :
     gives = record {
       want = finished_want;
       entries = finished_entry;
+      back = finished_back;
       apart = same_apart n a b e.1 k;
+      kinds = kinds_left n.sessions h x asked.own.at k.kinds;
       live = finished_live;
-      gone = λ y p has owner role pending. subst (λ (q : Holding). Contains q.doubtful p) (sym e.0) (k.gone y p (far_gone y role has) owner role pending);
+      gone = λ y p has owner pending. subst (λ (q : Holding). Contains q.doubtful p) (sym e.0) (k.gone y p (open_gone y p pending has) owner pending);
     };
-    moves = quiet n (node_left n h x) a b (record { streams = left_streams n h x; pool = e.0; entries = still_entries a b e.1; left = far_gone });
+    moves = same_quiet n (node_left n h x) a b (left_streams n h x) e.0 e.1 e.2 open_gone;
   }
 
 -- ---- what becomes of an offer
@@ -153,98 +162,132 @@ leaves_offer e (Some p) old new s =
       by_free address (inl f) = inl f
       by_free address (inr f) = inr (p, refl, f.0, f.1)
 
--- ---- a session in which it gives
+-- ---- a session in which the agent offers
 
 open_not_theirs : (v : Transcript) (e : Outcome) (p : Prefix) → outcome_of v ≡ Some e → IsOpenOffer v p → ¬ IsPeersEnd e
 open_not_theirs v e p told pending theirs = true≢false (sym (their_end v e told theirs).0 ∙ pending.unanswered)
 
--- what is open is the offer of the entry
+-- what is open is the offer that stands
 open_offer : (o : Option Prefix) (v : Transcript) (p : Prefix) → OfferStands false o v → IsOpenOffer v p → o ≡ Some p
 open_offer None v p s pending = absurd (s p pending)
 open_offer (Some q) v p s pending = sym s.offer ∙ pending.offered.offer
 
-module _ (n : NodeState) (a b : AgentState) (place : ℕ) (g : Giving) (x : SessionState) (k : Gives n a) (idle : a.act ≡ None) (here : slice_get a.giving place ≡ Some g)
-    (own : IsOwnSession n.sessions g.handle Far x) (offer : OfferStands false g.offer x.view) (o : Outcome) (told : outcome_of x.view ≡ Some o) (e : Effect a (leaves place g o) b) where
-  abbrev z : Sessions
-  z = left n.sessions g.handle x
+-- the session, in which the agent offers this or nothing, has ended so, and the offer is settled
+module _ (n : NodeState) (a b : AgentState) (side : Side) (h : Handle) (x : SessionState) (k : Gives n a) (own : IsOwnSession n.sessions h side x) (offer : Option Prefix) (stands : OfferStands false offer x.view)
+    (offers : (p : Prefix) → offer ≡ Some p → OffersIn a side h p) (o : Outcome) (told : outcome_of x.view ≡ Some o) (settled : SettlesOffer offer o a.pool b.pool) where
+  t : Leaves o offer a.pool b.pool
+  t = leaves_offer o offer a.pool b.pool settled
 
-  t : Leaves o g.offer a.pool b.pool
-  t = leaves_offer o g.offer a.pool b.pool e.2
+  -- what was open in it
+  module _ (y : SessionState) (p : Prefix) (same : x ≡ y) (pending : IsOpenOffer y.view p) where
+    open_here : IsOpenOffer x.view p
+    open_here = subst (λ (u : SessionState). IsOpenOffer u.view p) (sym same) pending
 
-  was : (i : ℕ) (f : Giving) → slice_get b.giving i ≡ Some f → slice_get a.giving (place_before place i) ≡ Some f
-  was i f at = sym (removed_back a.giving place i) ∙ (ap (λ (l : List Giving). slice_get l i) (sym e.3) ∙ at)
+    offered_here : offer ≡ Some p
+    offered_here = open_offer offer x.view p stands open_here
 
-  -- the other entries are of sessions at other places
-  other_place : (i : ℕ) (f : Giving) (y : SessionState) → i ≢ place → slice_get a.giving i ≡ Some f → IsOwnSession n.sessions f.handle Far y → f.handle.place ≢ g.handle.place
-  other_place i f y apart at has same = apart (k.apart i place f g at here (one_handle n.sessions f.handle g.handle y x has.at own.at same).0)
+    doubted_here : Contains b.pool.doubtful p
+    doubted_here = t.doubted p offered_here (open_not_theirs x.view o p told open_here)
 
-  left_want : (l : Handle) → want_session b.want ≡ Some l → WantStands z b l
-  left_want l f =
-      let s = k.want l (ap want_session (sym e.0.0) ∙ f) in
-      record {
-        session = s.session;
-        own = elsewhere n.sessions z g.handle.place None refl l Near s.session (λ same. sides_apart n.sessions l g.handle s.session x s.own own (sym same)) s.own;
-        accept = subst (λ (u : Option Act). AcceptStands u l s.session.view) (sym (e.1 ∙ idle)) tt;
-      }
-
-  left_entry : (i : ℕ) (f : Giving) → slice_get b.giving i ≡ Some f → EntryStands z b i f
-  left_entry i f at =
-      let s = idle_entry n a (place_before place i) f k idle (was i f at) in
-      stands z b i f (idle_offers b i (e.1 ∙ idle))
-      (plain_elsewhere n.sessions z g.handle.place None refl f s (other_place (place_before place i) f s.session (not_removed place i) (was i f at) s.own))
-
-  left_live : (l : Handle) (y : SessionState) (p : Prefix) → IsOwnSession z l Far y → IsOpenOffer y.view p → HasEntry b l
-  left_live l y p has pending = by_case (own_was n.sessions z g.handle.place None refl l Far y has) where
-    by_case : ((l.place ≡ g.handle.place) × (None ≡ Some y)) ⊎ ((l.place ≢ g.handle.place) × IsOwnSession n.sessions l Far y) → HasEntry b l
-    by_case (inl c) = let clash : None ≡ Some y = c.1 in absurd (cc)
-    by_case (inr c) =
-        let r = k.live l y p c.1 pending in
-        let apart : r.0 ≢ place = λ same. c.0 (ap (λ (u : Handle). u.place) (sym r.1.2) ∙ ap (λ (u : Giving). u.handle.place) (some_is r.1.0 g (sym r.1.1 ∙ (ap (slice_get a.giving) same ∙ here)))) in
-        let j = removed_on a.giving place r.0 r.1.0 r.1.1 apart in
-        (j.0, (r.1.0, ap (λ (u : List Giving). slice_get u j.0) e.3 ∙ j.1, r.1.2))
-
-  left_gone : (y : SessionState) (p : Prefix) → Contains (x ∷ n.sessions.gone) y → y.owner ≡ 1 → y.view.role ≡ Far → IsOpenOffer y.view p → Contains b.pool.doubtful p
-  left_gone y p has owner role pending = by_case (cons_cases x y n.sessions.gone has) where
+  pub left_gone : (y : SessionState) (p : Prefix) → Contains (x ∷ n.sessions.gone) y → y.owner ≡ 1 → IsOpenOffer y.view p → Contains b.pool.doubtful p
+  left_gone y p has owner pending = by_case (cons_cases x y n.sessions.gone has) where
     by_case : (x ≡ y) ⊎ Contains n.sessions.gone y → Contains b.pool.doubtful p
-    by_case (inl c) =
-        let here_open : IsOpenOffer x.view p = subst (λ (u : SessionState). IsOpenOffer u.view p) (sym c) pending in
-        t.doubted p (open_offer g.offer x.view p offer here_open) (open_not_theirs x.view o p told here_open)
-    by_case (inr c) = t.still p (k.gone y p c owner role pending)
+    by_case (inl c) = doubted_here y p c pending
+    by_case (inr c) = t.still p (k.gone y p c owner pending)
 
-  left_freed : (address : ℕ) → IsFree b.pool address → IsFree a.pool address ⊎ FreedBy n (node_left n g.handle x) a address
+  left_freed : (address : ℕ) → IsFree b.pool address → IsFree a.pool address ⊎ FreedBy n (node_left n h x) a address
   left_freed address f = by_case (t.free address f) where
     unaccepted : (reason : Option (List ℕ)) → o ≡ outcome.Declined Theirs reason → IsUnaccepted x.view
     unaccepted reason same =
         let declined : outcome_of x.view ≡ Some (outcome.Declined Theirs reason) = told ∙ ap (λ (u : Outcome). Some u) same in
         record { whole = inr (their_end x.view (outcome.Declined Theirs reason) declined tt).1; no_acceptance = declined_unaccepted x.view Theirs reason declined }
 
-    by_case : IsFree a.pool address ⊎ ((p : Prefix) × (g.offer ≡ Some p) × span_of p address × ((reason : Option (List ℕ)) × (o ≡ outcome.Declined Theirs reason)))
-        → IsFree a.pool address ⊎ FreedBy n (node_left n g.handle x) a address
+    by_case : IsFree a.pool address ⊎ ((p : Prefix) × (offer ≡ Some p) × span_of p address × ((reason : Option (List ℕ)) × (o ≡ outcome.Declined Theirs reason)))
+        → IsFree a.pool address ⊎ FreedBy n (node_left n h x) a address
     by_case (inl c) = inl c
-    by_case (inr c) = inr (inl (c.0, c.2, record { place = place; entry = g; session = x; at = here; offer = c.1; own = own; unaccepted = unaccepted c.3.0 c.3.1 }))
+    by_case (inr c) = inr (inl (c.0, c.2, record { handle = h; side = side; session = x; offers = offers c.0 c.1; own = own; unaccepted = unaccepted c.3.0 c.3.1 }))
 
-  left_open : (y : SessionState) (p : Prefix) → Contains (x ∷ n.sessions.gone) y → IsOpenOffer y.view p → WasOpen n a y p
+  left_open : (y : SessionState) (p : Prefix) → Contains (x ∷ n.sessions.gone) y → IsOpenOffer y.view p → WasOpen n a b y p
   left_open y p has pending = by_case (cons_cases x y n.sessions.gone has) where
-    by_case : (x ≡ y) ⊎ Contains n.sessions.gone y → WasOpen n a y p
-    by_case (inl c) =
-        was_entry place g x here (open_offer g.offer x.view p offer (subst (λ (u : SessionState). IsOpenOffer u.view p) (sym c) pending)) own.at (ap (λ (u : SessionState). u.stream) (sym c))
+    by_case : (x ≡ y) ⊎ Contains n.sessions.gone y → WasOpen n a b y p
+    by_case (inl c) = was_offer side h x (offers p (offered_here y p c pending)) own.at (ap (λ (u : SessionState). u.stream) (sym c)) (doubted_here y p c pending)
     by_case (inr c) = was_gone c
+
+  pub left_moves : ((s : Side) (l : Handle) (p : Prefix) → OffersIn b s l p → WasOffered n a b s l p) → ((p : Prefix) → unsent_of b.back ≡ Some p → unsent_of a.back ≡ Some p)
+      → AgentMoves n (node_left n h x) a b
+  left_moves offered unsent = record {
+    streams = λ l y u at owner there. left_streams n h x l y u at there;
+    freed = left_freed;
+    offered = offered;
+    unsent = unsent;
+    doubts = λ y p has owner pending. left_open y p has pending;
+    keeps_doubts = t.still;
+    reserved = λ p has. inl (t.reserved p has);
+    doubtful = t.doubtful;
+  }
+
+-- ---- a session in which it gives
+
+module _ (n : NodeState) (a b : AgentState) (place : ℕ) (g : Giving) (x : SessionState) (k : Gives n a) (idle : a.act ≡ None) (here : slice_get a.giving place ≡ Some g)
+    (own : IsOwnSession n.sessions g.handle Far x) (offer : OfferStands false g.offer x.view) (o : Outcome) (told : outcome_of x.view ≡ Some o) (e : Effect a (leaves place g o) b) where
+  abbrev z : Sessions
+  z = left n.sessions g.handle x
+
+  was : (i : ℕ) (f : Giving) → slice_get b.giving i ≡ Some f → slice_get a.giving (place_before place i) ≡ Some f
+  was i f at = sym (removed_back a.giving place i) ∙ (ap (λ (l : List Giving). slice_get l i) (sym e.4) ∙ at)
+
+  -- the other entries are of sessions at other places
+  other_place : (i : ℕ) (f : Giving) (y : SessionState) → i ≢ place → slice_get a.giving i ≡ Some f → IsOwnSession n.sessions f.handle Far y → f.handle.place ≢ g.handle.place
+  other_place i f y apart at has same = apart (k.apart i place f g at here (one_handle n.sessions f.handle g.handle y x has.at own.at same).0)
+
+  -- and so are those that it requested
+  near_place : (l : Handle) (y : SessionState) → IsOwnSession n.sessions l Near y → l.place ≢ g.handle.place
+  near_place l y has same = sides_apart n.sessions l g.handle y x has own (sym same)
+
+  left_want : (l : Handle) → want_session b.want ≡ Some l → WantStands z b l
+  left_want l f =
+      let s = k.want l (ap want_session (sym e.0.0) ∙ f) in
+      want_elsewhere n.sessions z g.handle.place None refl a b l s (near_place l s.session s.own) (e.2 ∙ idle)
+
+  left_entry : (i : ℕ) (f : Giving) → slice_get b.giving i ≡ Some f → EntryStands z b i f
+  left_entry i f at =
+      let s = idle_entry n a (place_before place i) f k idle (was i f at) in
+      rests z b i f (e.2 ∙ idle) (plain_elsewhere n.sessions z g.handle.place None refl f s (other_place (place_before place i) f s.session (not_removed place i) (was i f at) s.own))
+
+  left_back : (r : Return) (l : Handle) → b.back ≡ Some r → r.session ≡ Some l → ReturnStands z l r.prefix
+  left_back r l is f = let s = same_back n a b e.1 k r l is f in back_elsewhere n.sessions z g.handle.place None refl l r.prefix s (near_place l s.session s.own)
+
+  left_live : (l : Handle) (side : Side) (y : SessionState) (p : Prefix) → IsOwnSession z l side y → IsOpenOffer y.view p → IsOffersSession b side l
+  left_live l side y p has pending = by_case (own_was n.sessions z g.handle.place None refl l side y has) where
+    by_entry : l.place ≢ g.handle.place → IsOffersSession a side l → IsOffersSession b side l
+    by_entry away (of_entry far i f at same) =
+        let apart : i ≢ place = λ c. away (ap (λ (u : Handle). u.place) (sym same) ∙ ap (λ (u : Giving). u.handle.place) (some_is f g (sym at ∙ (ap (slice_get a.giving) c ∙ here)))) in
+        let j = removed_on a.giving place i f at apart in
+        of_entry far j.0 f (ap (λ (u : List Giving). slice_get u j.0) e.4 ∙ j.1) same
+    by_entry away (of_return near r is same) = of_return near r (e.1 ∙ is) same
+
+    by_case : ((l.place ≡ g.handle.place) × (None ≡ Some y)) ⊎ ((l.place ≢ g.handle.place) × IsOwnSession n.sessions l side y) → IsOffersSession b side l
+    by_case (inl c) = let clash : None ≡ Some y = c.1 in absurd (cc)
+    by_case (inr c) = by_entry c.0 (k.live l side y p c.1 pending)
+
+  left_offers : (side : Side) (h : Handle) (p : Prefix) → OffersIn b side h p → WasOffered n a b side h p
+  left_offers side h p (in_entry far i f at same has) = was_there (in_entry far (place_before place i) f (was i f at) same has)
+  left_offers side h p (in_return near r is same has) = was_there (in_return near r (sym e.1 ∙ is) same has)
+
+  -- what it offers is the offer of its entry
+  entry_offers : (p : Prefix) → g.offer ≡ Some p → OffersIn a Far g.handle p
+  entry_offers p f = in_entry refl place g here refl f
 
   pub gave : Moved n (node_left n g.handle x) a b
   gave = record {
     gives = record {
       want = left_want;
       entries = left_entry;
+      back = left_back;
       apart = λ i j f h at there same. before_apart place i j (k.apart (place_before place i) (place_before place j) f h (was i f at) (was j h there) same);
+      kinds = kinds_left n.sessions g.handle x own.at k.kinds;
       live = left_live;
-      gone = left_gone;
+      gone = left_gone n a b Far g.handle x k own g.offer offer entry_offers o told e.3;
     };
-    moves = record {
-      streams = λ h y u at owner there. left_streams n g.handle x h y u at there;
-      freed = left_freed;
-      entries = λ i f p at has. was_there (place_before place i) f (was i f at) refl has;
-      doubts = λ y p has owner role pending. left_open y p has pending;
-      reserved = λ p has. inl (t.reserved p has);
-      doubtful = t.doubtful;
-    };
+    moves = left_moves n a b Far g.handle x k own g.offer offer entry_offers o told e.3 left_offers (same_unsent a b e.1);
   }

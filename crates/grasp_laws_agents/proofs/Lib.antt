@@ -1,4 +1,5 @@
 pub mod Agents
+pub mod Back
 pub mod Begun
 pub mod Calling
 pub mod Coming
@@ -21,7 +22,9 @@ pub mod Replacing
 pub mod Reserving
 pub mod SameRegistered
 pub mod Serving
+pub mod Sides
 pub mod Standing
+pub mod Starting
 pub mod Staying
 pub mod Tested
 pub mod Turning

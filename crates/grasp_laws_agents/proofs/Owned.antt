@@ -4,19 +4,20 @@ use Rattle.std.proofs.lemmas.Bool.{and_parts, eqb-true}
 use Rattle.std.proofs.lemmas.Bool.Decides.{eqb_tells}
 use Rattle.std.proofs.lemmas.List.{get_or-set_same, get_or-set_other}
 use Rattle.std.proofs.lemmas.Option.{none-some}
+use Rattle.std.specs.List.{list_any}
 use Rattle.grasp_laws_session.proofs.Bounds.{going_test}
 use Rattle.grasp_laws_session.proofs.Runs.{set_some, some_state, at_below}
 use Rattle.grasp_laws_session.proofs.Says.{started}
 use Rattle.grasp_session.proofs.Tables.{state_slot}
 use Rattle.grasp_session.specs.Conversation.{has_offered}
-use Rattle.grasp_session.specs.Made.{IsLastSaying}
-use Rattle.grasp_session.specs.Messages.{Far, is_side}
+use Rattle.grasp_session.specs.Messages.{Far, is_side, is_acceptance}
 use Rattle.grasp_session.specs.Says.{IsAt}
 use Rattle.grasp_session.specs.Sessions.{SessionState, Sessions, session_at, with_transcript, with_owner, after_adopt, is_leaving, left, with_place, changed, mark_at, keep_at, on_stream, receive_reply, after_receive, after_say, begun_state, start_reply, after_start, leave_at, after_mark, after_expire, due}
-use Rattle.grasp_session.specs.Transcript.{Mark, Expired, Transcript, Saying, SayStep, SayWait, SayEnd, SayInvalid, known, is_going, receive, receive_going, having_said, with_kept, with_mark}
+use Rattle.grasp_session.specs.Transcript.{Mark, Expired, Transcript, Saying, SayStep, SayEnd, SayInvalid, known, sent_of, is_going, receive, receive_going, having_said, with_kept, with_mark}
 use Rattle.grasp_session.specs.declared.answer.Received.TheVariants.{Kept}
 use Rattle.grasp_session.specs.declared.begin.Begin.{Begin}
 use Rattle.grasp_types.specs.declared.message.Message.{Message}
+use Rattle.grasp_types.specs.declared.message.Verdict.TheVariants.{Decline}
 use Rattle.grasp_types.specs.declared.session.Handle.{Handle}
 use Rattle.grasp_laws_agents.proofs.GoingOn.{Alike, nothing_heard, hears_then, kept_heard, mark_heard, kept_alike, kept_trails, trails_offered}
 use Rattle.grasp_laws_agents.specs.GoingOn.{OnlyHears, OnlyHeard, OwnGoOn, IsOwnedGone, GoneAreOwned}
@@ -24,13 +25,17 @@ use Rattle.grasp_laws_agents.specs.Owning.{IsOwned, AreOwned}
 
 -- ---- whose each session is
 
--- a live session is whose it may be, and in one that no agent has taken this end, which listens, has made no step
+-- a listener has made no step and accepted nothing
+abbrev IsUnsaid : Transcript → Type 0
+IsUnsaid v = (has_offered Far (known v) ≡ false) × (list_any is_acceptance (sent_of v.entries) ≡ false)
+
+-- a live session is whose it may be, and in one that no agent has taken this end, which listens, has made no step and accepted nothing
 pub record IsClear (x : SessionState) : Type 0 where
   pub owned : IsOwned x
-  pub unsaid : x.owner ≡ 0 → (x.view.role ≡ Far) × (has_offered Far (known x.view) ≡ false)
+  pub unsaid : x.owner ≡ 0 → (x.view.role ≡ Far) × IsUnsaid x.view
 
--- each live session has an owner that it may have, and this end has made no step where no agent has taken it; sessions that are no longer
--- live are so too, apart from those of agent 1
+-- each live session has an owner that it may have, and this end has made no step and accepted nothing where no agent has taken it; sessions
+-- that are no longer live are so too, apart from those of agent 1
 pub record AreClear (z : Sessions) : Type 0 where
   pub live : (place : ℕ) (x : SessionState) → IsAt z place x → IsClear x
   pub gone : GoneAreOwned z
@@ -39,7 +44,7 @@ pub clear_owned : (z : Sessions) → AreClear z → AreOwned z
 clear_owned z c place x at = (c.live place x at).owned
 
 clear_gone : (x : SessionState) → IsClear x → IsOwnedGone x
-clear_gone x c = record { foreign = c.owned.foreign; untaken = c.unsaid }
+clear_gone x c = record { foreign = c.owned.foreign; untaken = λ e. let u = c.unsaid e in (u.0, u.1.0); unaccepted = λ e. (c.unsaid e).1.1 }
 
 -- one more is no longer live
 pub one_gone : (x : SessionState) (gone : List SessionState) → IsClear x → ((y : SessionState) → Contains gone y → IsOwnedGone y) → (y : SessionState) → Contains (x ∷ gone) y → IsOwnedGone y
@@ -182,10 +187,10 @@ no_clear x e = absurd (none-some x e)
 -- ---- what is seen changes
 
 -- a new transcript of a session has the same request, kind and role; and where no agent has taken the session, this end has still made no
--- step
+-- step and accepted nothing
 pub record Changes (x : SessionState) (w : Transcript) : Type 0 where
   pub alike : Alike x.view w
-  pub unsaid : x.owner ≡ 0 → x.view.role ≡ Far → has_offered Far (known x.view) ≡ false → has_offered Far (known w) ≡ false
+  pub unsaid : x.owner ≡ 0 → x.view.role ≡ Far → IsUnsaid x.view → IsUnsaid w
 
 changed_one : (x : SessionState) (w : Transcript) → Changes x w → IsClear x → IsClear (with_transcript x w)
 changed_one x w a c = record {
@@ -253,22 +258,27 @@ no_offer : (b c : Bool) → c ≡ false → ((b && false) || c) ≡ false
 no_offer true c e = e
 no_offer false c e = e
 
-last_unsaid : (v : Transcript) (now : ℕ) (s : Saying) → IsLastSaying s → has_offered Far (known v) ≡ false → has_offered Far (known (having_said v now s)) ≡ false
-last_unsaid v now (SayStep value) l e = absurd l
-last_unsaid v now (SayWait millis) l e = absurd l
-last_unsaid v now (SayEnd verdict) l e = no_offer (is_side Far v.role) (has_offered Far (known v)) e
-last_unsaid v now (SayInvalid detail) l e = e
+-- what is said where no agent has taken the session: a decline, or that the last message was invalid
+abbrev pub IsRefusal : Saying → Type 0
+IsRefusal (SayEnd (Decline reason)) = Unit {0}
+IsRefusal (SayInvalid detail) = Unit {0}
+IsRefusal _ = ⊥
 
-said_changes : (x : SessionState) (now : ℕ) (s : Saying) → (x.owner ≡ 0 → IsLastSaying s) → Changes x (having_said x.view now s)
-said_changes x now s l = record { alike = said_alike x.view now s; unsaid = λ e f g. last_unsaid x.view now s (l e) g }
+refused_unsaid : (v : Transcript) (now : ℕ) (s : Saying) → IsRefusal s → IsUnsaid v → IsUnsaid (having_said v now s)
+refused_unsaid v now (SayEnd (Decline reason)) l e = (no_offer (is_side Far v.role) (has_offered Far (known v)) e.0, e.1)
+refused_unsaid v now (SayInvalid detail) l e = e
+refused_unsaid v now _ l e = absurd l
 
-pub says_clear : (z : Sessions) (now : ℕ) (h : Handle) (s : Saying) → ((x : SessionState) → session_at z h ≡ Some x → x.owner ≡ 0 → IsLastSaying s) → AreClear z → AreClear (after_say z now h s)
+said_changes : (x : SessionState) (now : ℕ) (s : Saying) → (x.owner ≡ 0 → IsRefusal s) → Changes x (having_said x.view now s)
+said_changes x now s l = record { alike = said_alike x.view now s; unsaid = λ e f g. refused_unsaid x.view now s (l e) g }
+
+pub says_clear : (z : Sessions) (now : ℕ) (h : Handle) (s : Saying) → ((x : SessionState) → session_at z h ≡ Some x → x.owner ≡ 0 → IsRefusal s) → AreClear z → AreClear (after_say z now h s)
 says_clear z now h s l c = by_state (session_at z h) refl where
   by_state : (o : Option SessionState) → session_at z h ≡ o → AreClear (after_say z now h s)
   by_state None e = rw e c
   by_state (Some x) e = rw e (changes_clear z h x (having_said x.view now s) e (said_changes x now s (l x e)) c)
 
-pub says : (z : Sessions) (now : ℕ) (h : Handle) (s : Saying) → ((x : SessionState) → session_at z h ≡ Some x → x.owner ≢ 1) → ((x : SessionState) → session_at z h ≡ Some x → x.owner ≡ 0 → IsLastSaying s)
+pub says : (z : Sessions) (now : ℕ) (h : Handle) (s : Saying) → ((x : SessionState) → session_at z h ≡ Some x → x.owner ≢ 1) → ((x : SessionState) → session_at z h ≡ Some x → x.owner ≡ 0 → IsRefusal s)
     → Same z (after_say z now h s)
 says z now h s other l = record { goes_on = by_state (session_at z h) refl; clear = says_clear z now h s l } where
   by_state : (o : Option SessionState) → session_at z h ≡ o → OwnGoOn z (after_say z now h s)
@@ -279,7 +289,7 @@ says z now h s other l = record { goes_on = by_state (session_at z h) refl; clea
 kept_changes : (x : SessionState) (now : ℕ) (m : Message) → receive_going x.view m ≡ Kept → Changes x (with_kept x.view now m)
 kept_changes x now m e = record {
   alike = kept_alike x.view now m e;
-  unsaid = λ f g i. sym (subst (λ s. has_offered s (known x.view) ≡ has_offered s (known (with_kept x.view now m))) g (trails_offered x.view.role (known x.view) (known (with_kept x.view now m)) (kept_trails x.view now m))) ∙ i;
+  unsaid = λ f g i. (sym (subst (λ s. has_offered s (known x.view) ≡ has_offered s (known (with_kept x.view now m))) g (trails_offered x.view.role (known x.view) (known (with_kept x.view now m)) (kept_trails x.view now m))) ∙ i.0, i.1);
 }
 
 pub keeps : (z : Sessions) (now stream : ℕ) (m : Message) → receive_reply z stream m ≡ Kept → Same z (after_receive z now stream m Kept)

@@ -2,7 +2,6 @@
 use Rattle.std.proofs.Common.{◌≡◌, refl, sym, subst, arith, ℕ, ◌==◌, ◌&&◌, true, Option, None, Some, Result, Ok, Err, bytes_eq}
 use Rattle.std.proofs.lemmas.Bool.{eqb-true, and_parts}
 use Rattle.std.proofs.lemmas.Slice.Eq.{bytes_eq-Decides}
-use Rattle.grasp_cbor.specs.DataItem.{DataItem}
 use Rattle.grasp_agent.specs.Calls.{next_call, objective_name, agent_name}
 use Rattle.grasp_agent.specs.Replies.{after_reply}
 use Rattle.grasp_agent.specs.States.{AgentState}
@@ -24,7 +23,8 @@ use Rattle.grasp_laws_session.proofs.Runs.{none_live}
 use Rattle.grasp_laws_session.proofs.Streams.{is_least}
 use Rattle.grasp_session.proofs.Tables.{state_slot}
 use Rattle.grasp_session.specs.Sessions.{SessionState, no_sessions, with_owner, session_at, begun_state, start_reply, after_start, after_say, untaken_reply, after_adopt}
-use Rattle.grasp_session.specs.Transcript.{SayStep, SayEnd, request_of}
+use Rattle.grasp_session.specs.Transcript.{Saying, SayStep, SayEnd, request_of}
+use Rattle.grasp_session.specs.declared.answer.Act.{Act}
 use Rattle.grasp_session.specs.declared.answer.Act.TheVariants as act
 use Rattle.grasp_session.specs.declared.answer.SessionRefused.{SessionRefused}
 use Rattle.grasp_types.specs.declared.address.Locator.{Locator}
@@ -107,19 +107,19 @@ module _ (n : NodeState) (k : AreClear n.sessions) where
       let q = and_parts (l.state.owner == 0) (bytes_eq (request_of l.state.view).name objective_name) l.passes in
       taken_clear h l.state l.at (eqb-true l.state.owner 0 q.0) ((bytes_eq-Decides (request_of l.state.view).name objective_name).0 q.1)
 
-  -- a step that agent 1 says is in a session of its own
-  steps_clear : (h : Handle) (value : DataItem) → early (act_tests n 1 h act.Step) ≡ Ok tt → AreClear (after_say n.sessions n.reading h (SayStep value))
-  steps_clear h value e =
-      let o = acts_in n.sessions 1 h act.Step (none_of (act_tests n 1 h act.Step) e).session in
-      says_clear n.sessions n.reading h (SayStep value) (λ x f g. let own : x.owner ≡ 1 = owner_is n.sessions 1 h o x f in absurd (omega (arith, own, g))) k
+  -- what agent 1 says is in a session of its own
+  said_clear : (h : Handle) (d : Act) (saying : Saying) → early (act_tests n 1 h d) ≡ Ok tt → AreClear (after_say n.sessions n.reading h saying)
+  said_clear h d saying e =
+      let o = acts_in n.sessions 1 h d (none_of (act_tests n 1 h d) e).session in
+      says_clear n.sessions n.reading h saying (λ x f g. let own : x.owner ≡ 1 = owner_is n.sessions 1 h o x f in absurd (omega (arith, own, g))) k
 
   own_answered : (c : Call) (a : ApiAnswer) → IsServing c → MayCall n 1 c (Ok a) → AreClear (after_call n 1 c (Ok a)).sessions
   unfolding with_sessions begin_closing queue_up
   own_answered (call.RequestNegotiate name value loops timeout dry peer) a s m = requests_clear timeout (negotiated n 1 name value loops dry) peer s
   own_answered (call.ListenNegotiate name) a s m =
       subst (λ name. AreClear (with_adopted (with_mark n 1 name true) 1 (untaken_reply n.sessions name)).sessions) (sym s) (adopts_clear (untaken_reply n.sessions objective_name) refl)
-  own_answered (call.NegotiateStep h value) a s m = steps_clear h value m.0
-  own_answered (call.EndNegotiate h verdict) a s m = says_clear n.sessions n.reading h (SayEnd verdict) (λ x f g. tt) k
+  own_answered (call.NegotiateStep h value) a s m = said_clear h act.Step (SayStep value) m.0
+  own_answered (call.EndNegotiate h verdict) a s m = said_clear h act.End (SayEnd verdict) m.0
   own_answered (call.Poll h) a s m = polls_clear h a
   own_answered _ a s m = absurd s
 
@@ -144,7 +144,7 @@ pub owning_kept : Keeps IsOwning
 owning_kept = record {
   others = λ n after a now i x r k o step. record { served = serving_kept.others n after a now i x r k.served o step; clear = (others_same n after a now i x r k.served o step).clear k.clear };
   own = own_keeps;
-  wants = λ n a wanted longest peer are k. record { served = serving_kept.wants n a wanted longest peer are k.served; clear = k.clear };
+  told = λ n a e possible other k. record { served = serving_kept.told n a e possible other k.served; clear = k.clear };
 }
 
 first_sessions : (m : Member) → (first_seat m).core.sessions ≡ no_sessions

@@ -3,13 +3,12 @@ use Rattle.std.proofs.Common.{◌≡◌, ◌≢◌, ◌⊎◌, refl, sym, ap, �
 use Rattle.grasp_agent.specs.States.{AgentState}
 use Rattle.grasp_agent.specs.declared.giving.Giving.{Giving}
 use Rattle.grasp_model_node.specs.Node.{NodeState}
-use Rattle.grasp_session.specs.Messages.{Far}
+use Rattle.grasp_session.specs.Messages.{Side}
 use Rattle.grasp_session.specs.Sessions.{SessionState}
 use Rattle.grasp_types.specs.Prefix.{AddressBlock as Prefix}
 use Rattle.grasp_types.specs.declared.session.Handle.{Handle}
 use Rattle.grasp_laws_agents.proofs.Entries.{some_is, set_back, set_on}
-use Rattle.grasp_laws_agents.proofs.Standing.{HasEntry}
-use Rattle.grasp_laws_agents.specs.Giving.{IsOpenOffer, IsOwnSession, Gives}
+use Rattle.grasp_laws_agents.specs.Giving.{IsOpenOffer, IsOwnSession, IsOffersSession, of_entry, of_return, Gives}
 
 module _ (a b : AgentState) (place : ℕ) (g v : Giving) (here : slice_get a.giving place ≡ Some g) (handle : v.handle ≡ g.handle) (set : b.giving ≡ slice_set a.giving place v) where
   -- an entry is the new one, or was there
@@ -40,9 +39,9 @@ module _ (a b : AgentState) (place : ℕ) (g v : Giving) (here : slice_get a.giv
       let d = handle_was j h there in
       k.apart i j c.0 d.0 c.1 d.1 (c.2 ∙ (same ∙ sym d.2))
 
-  pub still_live : (n : NodeState) → Gives n a → (h : Handle) (y : SessionState) (p : Prefix) → IsOwnSession n.sessions h Far y → IsOpenOffer y.view p
-      → HasEntry b h
-  still_live n k h y p has pending =
-      let r = k.live h y p has pending in
-      let c = entry_on r.0 r.1.0 r.1.1 in
-      (r.0, (c.0, c.1, c.2 ∙ r.1.2))
+  pub still_live : (n : NodeState) → b.back ≡ a.back → Gives n a → (h : Handle) (side : Side) (y : SessionState) (p : Prefix) → IsOwnSession n.sessions h side y → IsOpenOffer y.view p
+      → IsOffersSession b side h
+  still_live n back k h side y p has pending = by_entry (k.live h side y p has pending) where
+    by_entry : IsOffersSession a side h → IsOffersSession b side h
+    by_entry (of_entry far i f at same) = let c = entry_on i f at in of_entry far i c.0 c.1 (c.2 ∙ same)
+    by_entry (of_return near r is same) = of_return near r (back ∙ is) same

@@ -1,38 +1,23 @@
 -- What an agent of prefixes has reserved is what it offers, in every network that events lead to.
-use Rattle.std.proofs.Common.{◌≡◌, refl, subst, ℕ, ◌-◌, ◌==◌, nat_lt, Bool, true, false, cond, List, [], ◌∷◌, All, slice_get, Option, None, Some, Ok, Err}
+use Rattle.std.proofs.Common.{◌≡◌, refl, subst, ℕ, ◌-◌, ◌==◌, Bool, true, false, cond, List, [], ◌∷◌, All, slice_get, None, Some}
 use Rattle.std.proofs.lemmas.List.Elements.{All-nil, All-cons}
 use Rattle.std.proofs.lemmas.Option.{none-some, slice_get_within, get_or_from_slice_get}
 use Rattle.grasp_laws_agent.proofs.LawKept as agents
-use Rattle.grasp_laws_agent.proofs.LawKept.{kept_reply, new_kept}
+use Rattle.grasp_laws_agent.proofs.LawKept.{kept_event, kept_reply}
 use Rattle.grasp_agent.specs.Kept.{IsKept}
 use Rattle.grasp_agent.specs.Laws.{IsPossible}
-use Rattle.grasp_agent.specs.Replies.{AgentEvent, replied, agent_after, want_reply, after_want, new_want}
+use Rattle.grasp_agent.specs.Replies.{AgentEvent, replied, agent_after}
 use Rattle.grasp_agent.specs.States.{AgentState}
-use Rattle.grasp_agent.specs.declared.want.Want.{Want}
-use Rattle.grasp_agent.specs.declared.want.WantFault.TheVariants as fault
 use Rattle.grasp_model_node.specs.Node.{NodeState}
 use Rattle.grasp_pool.proofs.Opening.{opened_pool}
 use Rattle.grasp_pool.specs.Functions.{pool_of}
-use Rattle.grasp_pool.specs.Pools.{room_of}
-use Rattle.grasp_types.specs.declared.address.Locator.{Locator}
 use Rattle.grasp_types.specs.declared.reply.ApiAnswer.TheVariants as answer
 use Rattle.grasp_types.specs.declared.reply.Reply.TheVariants as reply
-use Rattle.grasp_model_network.specs.Events.{AreLengths}
 use Rattle.grasp_model_network.specs.GoodSetting.{IsGoodMember, IsGoodSetting}
 use Rattle.grasp_model_network.specs.Runs.{first_seat, answered_seat}
 use Rattle.grasp_model_network.specs.Setting.{Member, Setting, numbered}
 use Rattle.grasp_laws_agents.proofs.EachSeat.{Keeps, reached_members}
 use Rattle.grasp_laws_agents.specs.Laws.{AgentsAreKept}
-
--- ---- a want
-
-wanted_by : (s : AgentState) (o : Option Want) (wanted longest : ℕ) (peer : Locator) → AreLengths wanted longest → IsKept (record s { want = o })
-    → IsKept (after_want (record s { want = o }) wanted longest peer (want_reply (record s { want = o })))
-wanted_by s (Some w) wanted longest peer are k = k
-wanted_by s None wanted longest peer are k = by_room (nat_lt 0 (room_of s.pool)) where
-  by_room : (b : Bool) → IsKept (after_want (record s { want = None }) wanted longest peer (cond b (Ok tt) (Err fault.Full)))
-  by_room true = new_kept s (new_want wanted longest peer) refl (are.least, are.rising, are.most) k
-  by_room false = k
 
 -- ---- each event
 
@@ -40,7 +25,7 @@ kept_keeps : Keeps (λ (n : NodeState) (a : AgentState). IsKept a)
 kept_keeps = record {
   others = λ n after a now i x r k o step. k;
   own = λ n after a now x r k step. kept_reply a r k;
-  wants = λ n a wanted longest peer are k. wanted_by a a.want wanted longest peer are k;
+  told = λ n a e possible other k. kept_event a e possible k;
 }
 
 -- ---- the beginning

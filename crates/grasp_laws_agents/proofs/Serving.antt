@@ -1,15 +1,20 @@
 -- Each step leaves the objective of the agent of prefixes registered and listened for, and the agent serving.
-use Rattle.std.proofs.Common.{◌≡◌, ◌≢◌, refl, sym, ◌∙◌, subst, ℕ, ◌-◌, ◌==◌, List, slice_get, Bool, true, false, Option, None, Some, Result, Ok, Err}
+use Rattle.std.proofs.Common.{◌≡◌, ◌≢◌, refl, sym, ap, ◌∙◌, subst, ℕ, true, false, None, Some, Result, Ok, Err}
+use Rattle.std.proofs.lemmas.Bool.{false≢true}
 use Rattle.grasp_laws_agent.proofs.LawCursors.{openings_go_on}
-use Rattle.grasp_agent.specs.Calls.{next_call, act_call, duty_call, asking_call, serving_call, objective_name, agent_name}
+use Rattle.grasp_laws_agent.proofs.LawNext.{next_calls_are}
+use Rattle.grasp_agent.specs.Calls.{next_call, act_call, duty_call, objective_name, agent_name}
 use Rattle.grasp_laws_agent.specs.Moves.{OpeningGoes}
-use Rattle.grasp_agent.specs.Replies.{after_reply, want_reply, after_want}
-use Rattle.grasp_agent.specs.States.{AgentState, want_session, giving_duty, duty_at, duty_of}
+use Rattle.grasp_laws_agent.specs.Next.{NextIs, opens, acts, requests, hands_back, does}
+use Rattle.grasp_agent.specs.Replies as agent
+use Rattle.grasp_agent.specs.Replies.{AgentEvent, after_reply, want_reply, after_want, return_reply, after_return, after_event}
+use Rattle.grasp_agent.specs.States.{AgentState, is_open}
 use Rattle.grasp_agent.specs.declared.act.Act.{Act}
 use Rattle.grasp_agent.specs.declared.act.Act.TheVariants as act
-use Rattle.grasp_agent.specs.declared.giving.Giving.{Giving}
+use Rattle.grasp_agent.specs.declared.back.ReturnFault.{ReturnFault}
+use Rattle.grasp_agent.specs.declared.duty.Duty.{Duty}
+use Rattle.grasp_agent.specs.declared.duty.Duty.TheVariants as duty
 use Rattle.grasp_agent.specs.declared.stage.Stage.TheVariants as stage
-use Rattle.grasp_agent.specs.declared.want.Want.{Want}
 use Rattle.grasp_agent.specs.declared.want.WantFault.{WantFault}
 use Rattle.grasp_laws_tables.proofs.LawOthers.{others_leave}
 use Rattle.grasp_asa.specs.Answers.{names_of, listen_answer}
@@ -33,14 +38,15 @@ use Rattle.grasp_types.specs.declared.call.Call.TheVariants as call
 use Rattle.grasp_types.specs.declared.reply.ApiAnswer.{ApiAnswer}
 use Rattle.grasp_types.specs.declared.reply.Reply.{Reply}
 use Rattle.grasp_types.specs.declared.reply.Reply.TheVariants as reply
-use Rattle.grasp_types.specs.declared.session.Handle.{Handle}
 use Rattle.grasp_types.specs.declared.traffic.Input.{Input}
 use Rattle.grasp_types.specs.declared.traffic.Input.TheVariants as input
+use Rattle.grasp_types.specs.Prefix.{AddressBlock as Prefix}
 use Rattle.grasp_types.specs.declared.address.Locator.{Locator}
 use Rattle.grasp_laws_network.proofs.EachNode.{first_is}
 use Rattle.grasp_model_network.specs.EventSteps.{agent_input}
 use Rattle.grasp_model_network.specs.Runs.{first_seat, answered_seat}
 use Rattle.grasp_model_network.specs.Setting.{Member}
+use Rattle.grasp_laws_network.specs.Telling.{IsNoReply}
 use Rattle.grasp_laws_agents.proofs.EachSeat.{Keeps, reached_seats}
 use Rattle.grasp_laws_agents.proofs.Registering.{Has, as_before, listened_again, has_flags, has_listener, no_other}
 use Rattle.grasp_laws_agents.proofs.SameRegistered.{declines_registered, withouts_registered, looked_registered, polling_registered, adopted_registered}
@@ -118,42 +124,23 @@ IsServing (call.EndNegotiate handle verdict) = Unit {0}
 IsServing (call.Poll handle) = Unit {0}
 IsServing _ = ⊥
 
-giving_serving : (giving : List Giving) (place : ℕ) → IsServing (duty_call (giving_duty giving place))
-giving_serving giving place = by_entry (slice_get giving place) refl where
-  by_entry : (o : Option Giving) → slice_get giving place ≡ o → IsServing (duty_call (giving_duty giving place))
-  by_entry None e = rw e refl
-  by_entry (Some g) e = rw e tt
-
-duty_serving : (o : Option Handle) (giving : List Giving) (place : ℕ) → IsServing (duty_call (duty_at o giving place))
-duty_serving None giving place = by_place (place == 0) refl where
-  by_place : (b : Bool) → (place == 0) ≡ b → IsServing (duty_call (duty_at None giving place))
-  by_place true e = rw e refl
-  by_place false e = rw e (giving_serving giving (place - 1))
-duty_serving (Some h) giving place = by_place (place == 0) (place == 1) refl refl where
-  by_place : (b c : Bool) → (place == 0) ≡ b → (place == 1) ≡ c → IsServing (duty_call (duty_at (Some h) giving place))
-  by_place true c e f = rw e refl
-  by_place false true e f = rw e (rw f tt)
-  by_place false false e f = rw e (rw f (giving_serving giving (place - 2)))
+duty_serving : (d : Duty) → IsServing (duty_call d)
+duty_serving duty.Listen = refl
+duty_serving _ = tt
 
 act_serving : (a : Act) → IsServing (act_call a)
 act_serving (act.Offer place handle p) = tt
 act_serving _ = tt
 
-module _ (a : AgentState) where
-  asking_serving : (w : Option Want) → IsServing (asking_call w (duty_of a))
-  asking_serving None = duty_serving (want_session a.want) a.giving a.cursor
-  asking_serving (Some w) = by_session w.session refl where
-    by_session : (o : Option Handle) → w.session ≡ o → IsServing (asking_call (Some w) (duty_of a))
-    by_session None e = rw e refl
-    by_session (Some h) e = rw e (duty_serving (want_session a.want) a.giving a.cursor)
-
-  calls_serving : (o : Option Act) → IsServing (serving_call o a.want (duty_of a))
-  calls_serving None = asking_serving a.want
-  calls_serving (Some x) = act_serving x
+call_serving : (a : AgentState) → a.stage ≡ stage.Serving → (c : Call) → NextIs a c → IsServing c
+call_serving a e _ (opens shut) = absurd (false≢true (sym shut ∙ ap is_open e))
+call_serving a e _ (acts x serves is) = act_serving x
+call_serving a e _ (requests w next is none) = refl
+call_serving a e _ (hands_back v next is none) = refl
+call_serving a e _ (does d next is) = duty_serving d
 
 pub next_serving : (a : AgentState) → a.stage ≡ stage.Serving → IsServing (next_call a)
-unfolding next_call
-next_serving a e = rw e (calls_serving a a.act)
+next_serving a e = call_serving a e (next_call a) (next_calls_are a)
 
 own_registered : (n : NodeState) (asa : ℕ) (c : Call) (a : ApiAnswer) → IsServing c → Holds n → Holds (after_call n asa c (Ok a))
 unfolding with_registrations with_sessions with_draw begin_closing dial_record queue_up
@@ -193,6 +180,15 @@ want_serves : (n : NodeState) (a : AgentState) (wanted longest : ℕ) (peer : Lo
 want_serves n a wanted longest peer (Ok done) k = record { sound = k.sound; holds = k.holds; number = k.number; stage = k.stage }
 want_serves n a wanted longest peer (Err fault) k = k
 
+return_serves : (n : NodeState) (a : AgentState) (p : Prefix) (peer : Locator) (r : Result (Unit {0}) ReturnFault) → IsServed n a → IsServed n (after_return a p peer r)
+return_serves n a p peer (Ok done) k = record { sound = k.sound; holds = k.holds; number = k.number; stage = k.stage }
+return_serves n a p peer (Err fault) k = k
+
+told_serves : (n : NodeState) (a : AgentState) (e : AgentEvent) → IsNoReply e → IsServed n a → IsServed n (after_event a e)
+told_serves n a (agent.wanted wanted longest peer) other k = want_serves n a wanted longest peer (want_reply a) k
+told_serves n a (agent.returned p peer) other k = return_serves n a p peer (return_reply a p) k
+told_serves n a (agent.replied r) other k = absurd other
+
 pub serving_kept : Keeps IsServed
 serving_kept = record {
   others = λ n after a now i x r k o step. record {
@@ -202,7 +198,7 @@ serving_kept = record {
     stage = k.stage;
   };
   own = own_serves;
-  wants = λ n a wanted longest peer are k. want_serves n a wanted longest peer (want_reply a) k;
+  told = λ n a e possible other k. told_serves n a e other k;
 }
 
 first_holds : (m : Member) → Has objective_name (first_seat m).core.registrations

@@ -1,10 +1,11 @@
 -- How the sessions of the agent of prefixes at a node go on while others act: this agent says nothing in them.
 use Rattle.std.specs.Prelude.{◌≡◌, ◌≢◌, ℕ, false, List, [], ◌∷◌, Contains}
+use Rattle.std.specs.List.{list_any}
 use Rattle.grasp_session.specs.Conversation.{has_offered}
-use Rattle.grasp_session.specs.Messages.{Far}
+use Rattle.grasp_session.specs.Messages.{Far, is_acceptance}
 use Rattle.grasp_session.specs.Says.{IsAt}
 use Rattle.grasp_session.specs.Sessions.{SessionState, Sessions}
-use Rattle.grasp_session.specs.Transcript.{Transcript, Deed, Does, Gets, Suffers, after_deeds, known, request_of}
+use Rattle.grasp_session.specs.Transcript.{Transcript, Deed, Does, Gets, Suffers, after_deeds, known, request_of, sent_of}
 use Rattle.grasp_agent.specs.Calls.{objective_name}
 
 -- a message that came, or an end from outside: this end said nothing
@@ -38,10 +39,11 @@ pub record OwnGoOn (z w : Sessions) : Type 0 where
   pub left : (x : SessionState) → x.owner ≡ 1 → Contains w.gone x → Contains z.gone x
 
 -- a session that is no longer live: one of another agent names another objective than PrefixManager; in one that no agent had taken this
--- end listened and made no step
+-- end listened, made no step and accepted nothing
 pub record IsOwnedGone (x : SessionState) : Type 0 where
   pub foreign : x.owner ≢ 0 → x.owner ≢ 1 → (request_of x.view).name ≢ objective_name
   pub untaken : x.owner ≡ 0 → (x.view.role ≡ Far) × (has_offered Far (known x.view) ≡ false)
+  pub unaccepted : x.owner ≡ 0 → list_any is_acceptance (sent_of x.view.entries) ≡ false
 
 abbrev pub GoneAreOwned : Sessions → Type 0
 GoneAreOwned z = (x : SessionState) → Contains z.gone x → IsOwnedGone x

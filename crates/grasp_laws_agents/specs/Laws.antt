@@ -27,7 +27,8 @@ abbrev pub OwnSessionsStay : Type 0
 OwnSessionsStay = (s : Setting) (w : WorldState) → IsReached s w → (node : ℕ) (seat : Seat) → seat_at w node ≡ Some seat
     → (now : ℕ) (i : Input) (x : Coming) (r : Reply) (after : NodeState) → IsOthers i → NodeStep seat.core now i x r after → OwnStay seat.core.sessions after.sessions
 
--- what each agent has reserved is exactly what its giving entries offer, each once; an offer that isn't made yet is that of its entry
+-- what each agent has reserved is exactly what it returns and what its giving entries offer, each once; an offer that isn't made yet is that
+-- of its entry
 abbrev pub AgentsAreKept : Type 0
 AgentsAreKept = (s : Setting) (w : WorldState) → IsReached s w → OfEachSeat (λ n a. IsKept a) w
 

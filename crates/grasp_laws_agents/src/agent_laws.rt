@@ -27,7 +27,7 @@ pub fn gone_sessions_are_owned()
     ensures { GoneSessionsAreOwned }
 {}
 
-/// What each agent of prefixes has reserved is exactly what the sessions in which it gives offer.
+/// What each agent of prefixes has reserved is exactly what it returns and what the sessions in which it gives offer.
 pub fn agents_are_kept()
     ensures { AgentsAreKept }
 {}

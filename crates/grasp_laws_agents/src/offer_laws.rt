@@ -19,7 +19,8 @@ pub fn calls_mean()
     request_means();
 }
 
-/// What each agent of prefixes offers is the last offer of its session, and what became of no offer is known is reserved or in doubt.
+/// What each agent of prefixes offers is the last offer of its session, and an offer is reserved or in doubt as long as it isn't known what
+/// became of it.
 pub fn agents_give()
     ensures { AgentsGive }
 {
@@ -29,7 +30,7 @@ pub fn agents_give()
     agents_are_kept();
 }
 
-/// The next call of an agent frees only an offer that wasn't accepted, or what it accepts itself.
+/// The next call of an agent frees only an offer that wasn't accepted, what was to be returned and wasn't requested, or what it accepts itself.
 pub fn agents_move()
     ensures { AgentsMove }
 {

@@ -1,18 +1,19 @@
 -- The streams and the nodes of a network after a step, and after a drain.
 use Rattle.std.proofs.Common.{◌≡◌, ◌≢◌, refl, sym, ap, ◌∙◌, subst, ℕ, ◌-◌, ◌≤◌, ◌==◌, true, false, List, take, ◌⊎◌, inl, inr, slice_set, Option, None, Some}
 use Rattle.std.proofs.lemmas.Bool.Decides.{eqb_tells}
-use Rattle.grasp_agent.specs.Replies.{after_reply, want_reply, after_want}
+use Rattle.grasp_agent.specs.Replies.{after_reply}
 use Rattle.grasp_agent.specs.States.{AgentState}
 use Rattle.grasp_model_node.specs.Draining.{closes, after_drain}
 use Rattle.grasp_model_node.specs.Node.{NodeState}
-use Rattle.grasp_types.specs.declared.address.Locator.{Locator}
 use Rattle.grasp_types.specs.declared.message.Message.{Message}
 use Rattle.grasp_laws_network.proofs.EachNode.{put_is}
 use Rattle.grasp_laws_network.proofs.Others.{put_elsewhere, arrived_keeps, delivered_keeps, told_keeps}
 use Rattle.grasp_laws_network.proofs.Sent.{sending_keeps_nodes}
-use Rattle.grasp_model_network.specs.EventSteps.{after_agent_call, after_agent, after_arrival, after_clock, wanted_by, wanted_at, after_wanting, after_cut, after_delivery, after_piece}
+use Rattle.grasp_laws_network.proofs.Telling.{one_least}
+use Rattle.grasp_laws_network.specs.Telling.{OneAgent}
+use Rattle.grasp_model_network.specs.EventSteps.{after_agent_call, after_agent, after_arrival, after_clock, after_cut, after_delivery, after_piece}
 use Rattle.grasp_model_network.specs.StreamChanges.{arrived, told, reached_side, side_named, delivered}
-use Rattle.grasp_model_network.specs.Events.{IsFit, after_visit, after_none}
+use Rattle.grasp_model_network.specs.Events.{after_visit}
 use Rattle.grasp_model_network.specs.Notes.{noted}
 use Rattle.grasp_model_network.specs.Routes.{Route}
 use Rattle.grasp_model_network.specs.Sending.{posted, gained, streams_made, seat_with, stepped, drained_from}
@@ -50,6 +51,7 @@ pub streams_stepped : (s : Setting) (w : WorldState) (e : Event) (v : Visit) (c 
     → (after_visit s w e v c).streams ≡ streams_made v.node v.seat (streams_before s w e v c) (gained v.seat.core c.after)
 unfolding after_clock after_agent after_agent_call after_delivery after_arrival after_piece after_cut noted stepped
 streams_stepped s w (event.Want node length longest peer) v c is = absurd is
+streams_stepped s w (event.Return node prefix peer) v c is = absurd is
 streams_stepped s w (event.Drain node max) v c is = absurd is
 streams_stepped s w _ v c is = refl
 
@@ -67,6 +69,7 @@ pub seats_stepped : (s : Setting) (w : WorldState) (e : Event) (v : Visit) (c : 
 unfolding after_clock after_agent after_agent_call after_delivery after_arrival after_piece after_cut noted
 seats_stepped s w (event.Clock node millis) v c is = put_in w w (after_clock w v c) v c v.seat.agent (inl refl) refl refl
 seats_stepped s w (event.Want node length longest peer) v c is = absurd is
+seats_stepped s w (event.Return node prefix peer) v c is = absurd is
 seats_stepped s w (event.Agent node hold) v c is = put_in w w (after_agent w v c) v c (after_reply v.seat.agent c.reply) (inr refl) refl refl
 seats_stepped s w (event.Api node asa call hold) v c is = put_in w w (after_agent_call w v asa call c) v c v.seat.agent (inl refl) refl refl
 seats_stepped s w (event.Datagram index hold) v c is = put_in w w (after_delivery w v index c) v c v.seat.agent (inl refl) refl refl
@@ -115,33 +118,14 @@ each_drained P s w node seat m max least own others n other found =
       by_node (inl t) = subst (λ k. P k other) (sym t.0) (subst (λ (y : Seat). P node y) t.1 own)
       by_node (inr t) = others n other t.0 t.1
 
--- ---- a want
+-- ---- another agent
 
--- the network is the same, or one node's agent is another one
-pub data IsWanted (w x : WorldState) : Type 0 where
-  same : x ≡ w → IsWanted w x
-  wanted : (node : ℕ) (seat : Seat) (agent : AgentState) → 1 ≤ node → seat_at w node ≡ Some seat → x ≡ with_seat w node (seat_with seat seat.core agent) → IsWanted w x
-
-wanted_now : (w : WorldState) (node : ℕ) (seat : Seat) (length longest : ℕ) (peer : Option Locator) → 1 ≤ node → seat_at w node ≡ Some seat → IsWanted w (wanted_by w node seat length longest peer)
-wanted_now w node seat length longest None least here = same refl
-wanted_now w node seat length longest (Some peer) least here = wanted node seat (after_want seat.agent length longest peer (want_reply seat.agent)) least here refl
-
-wanted_there : (s : Setting) (w : WorldState) (node length longest peer : ℕ) (o : Option Seat) → 1 ≤ node → seat_at w node ≡ o → IsWanted w (wanted_at s w node length longest peer o)
-wanted_there s w node length longest peer None least here = same refl
-wanted_there s w node length longest peer (Some seat) least here = wanted_now w node seat length longest (numbered s.peers peer) least here
-
-pub none_wanted : (s : Setting) (w : WorldState) (e : Event) → IsFit s w e → IsWanted w (after_none s w e)
-unfolding after_wanting
-none_wanted s w (event.Want node length longest peer) fit = wanted_there s w node length longest peer (seat_at w node) fit.0.least refl
-none_wanted s w _ fit = same refl
-
--- what is so of each node, whatever its agent is, and of the streams, stays so
-pub want_keeps : (P : List StreamState → ℕ → Seat → Type 0) (w x : WorldState) → ((node : ℕ) (seat : Seat) (agent : AgentState) → P w.streams node seat → P w.streams node (seat_with seat seat.core agent)) → IsWanted w x
+-- what is so of each node and of the streams stays so, if it does of the node whose agent is another one
+pub agent_keeps : (P : List StreamState → ℕ → Seat → Type 0) (w x : WorldState) (o : OneAgent w x) → (P w.streams o.node o.seat → P w.streams o.node (seat_with o.seat o.seat.core o.agent))
     → ((node : ℕ) (seat : Seat) → seat_at w node ≡ Some seat → P w.streams node seat) → (node : ℕ) (seat : Seat) → seat_at x node ≡ Some seat → P x.streams node seat
-want_keeps P w x any (same e) each = subst (λ (y : WorldState). (node : ℕ) (seat : Seat) → seat_at y node ≡ Some seat → P y.streams node seat) (sym e) each
-want_keeps P w x any (wanted node seat agent least here e) each = subst (λ (y : WorldState). (n : ℕ) (other : Seat) → seat_at y n ≡ Some other → P y.streams n other) (sym e) put where
-  put : (n : ℕ) (other : Seat) → seat_at (with_seat w node (seat_with seat seat.core agent)) n ≡ Some other → P w.streams n other
-  put n other found = by_node (put_or w.seats node (seat_with seat seat.core agent) n other least found) where
-    by_node : IsPutOr w.seats node (seat_with seat seat.core agent) n other → P w.streams n other
-    by_node (inl t) = subst (λ k. P w.streams k other) (sym t.0) (subst (λ (y : Seat). P w.streams node y) t.1 (any node seat agent (each node seat here)))
+agent_keeps P w x o own each = subst (λ (y : WorldState). (n : ℕ) (other : Seat) → seat_at y n ≡ Some other → P y.streams n other) (sym o.after) put where
+  put : (n : ℕ) (other : Seat) → seat_at (with_seat w o.node (seat_with o.seat o.seat.core o.agent)) n ≡ Some other → P w.streams n other
+  put n other found = by_node (put_or w.seats o.node (seat_with o.seat o.seat.core o.agent) n other (one_least w x o) found) where
+    by_node : IsPutOr w.seats o.node (seat_with o.seat o.seat.core o.agent) n other → P w.streams n other
+    by_node (inl t) = subst (λ k. P w.streams k other) (sym t.0) (subst (λ (y : Seat). P w.streams o.node y) t.1 (own (each o.node o.seat o.here)))
     by_node (inr t) = each n other t.1

@@ -4,9 +4,10 @@ use Rattle.std.proofs.lemmas.Option.{none-some}
 use Rattle.grasp_model_node.specs.Begin.{begin}
 use Rattle.grasp_model_node.specs.Draining.{after_drain}
 use Rattle.grasp_model_node.specs.Node.{NodeState}
-use Rattle.grasp_laws_network.proofs.EachNode.{IsMade, is_made}
+use Rattle.grasp_laws_network.proofs.EachNode.{IsMade, is_made, one_each}
 use Rattle.grasp_laws_network.proofs.Here.{visits_are_here}
-use Rattle.grasp_model_network.specs.Events.{Occurs, visit_of, after_visit, after_none}
+use Rattle.grasp_laws_network.proofs.Telling.{one_agent}
+use Rattle.grasp_model_network.specs.Events.{Occurs, visit_of, after_visit}
 use Rattle.grasp_laws_network.specs.Nodes.{OfEachNode}
 use Rattle.grasp_model_network.specs.Runs.{IsReached, first_seat, first_world}
 use Rattle.grasp_model_network.specs.Sending as network
@@ -15,7 +16,7 @@ use Rattle.grasp_model_network.specs.Setting.{Member, Setting, numbered}
 use Rattle.grasp_model_network.specs.Visits.{Visit, Choice}
 use Rattle.grasp_model_network.specs.World.{Seat, WorldState, seat_at}
 use Rattle.grasp_model_network.specs.declared.event.Event.{Event}
-use Rattle.grasp_laws_delivery.proofs.AfterSteps.{seats_stepped, each_seat, each_drained, none_wanted, want_keeps}
+use Rattle.grasp_laws_delivery.proofs.AfterSteps.{seats_stepped, each_seat, each_drained}
 use Rattle.grasp_laws_delivery.proofs.Holding.{IsStep, PartsKeep, parts_keep}
 
 abbrev pub OfAll : (NodeState → Type 0) → WorldState → Type 0
@@ -55,7 +56,7 @@ all_parts : (s : Setting) (P : NodeState → Type 0) → NodesKeep s P → Parts
 unfolding network.drained
 all_parts s P k = record {
   steps = λ w e c v r all o is step reached. stepped_all s P k w e c v r all o is step;
-  wants = λ w e r all fit. want_keeps (λ ts node seat. P seat.core) w (after_none s w e) (λ node seat agent p. p) (none_wanted s w e fit) all;
+  told = λ w x e r t all. one_each (λ node n. P n) w x (one_agent s w e x t) all;
   drains = λ w node max r all least. drained_all s P k w node max (seat_at w node) r least refl all;
 }
 

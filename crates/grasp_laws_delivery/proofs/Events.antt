@@ -124,6 +124,7 @@ module _ (ties : TiesAreKept) (s : Setting) (good : IsGoodSetting s) (w : WorldS
   unfolding after_clock after_agent after_agent_call after_delivery after_piece after_cut noted
   visit_kept (event.Clock node millis) is = plain w (after_clock w v c) v.seat.agent refl kept (clock_input s w node millis v is) (record { seats = refl; streams = refl; dials = refl })
   visit_kept (event.Want node wanted longest peer) is = kept
+  visit_kept (event.Return node prefix peer) is = kept
   visit_kept (event.Agent node hold) is = plain w (after_agent w v c) (after_reply v.seat.agent c.reply) refl kept (agent_plain_input s w node hold v is) (record { seats = refl; streams = refl; dials = refl })
   visit_kept (event.Api node asa call hold) is =
       plain w (after_agent_call w v asa call c) v.seat.agent refl kept (subst IsPlain (visit_input node (input.Api asa call) v (seat_at w node) is) tt) (record { seats = refl; streams = refl; dials = refl })

@@ -73,6 +73,7 @@ pub brings_bytes : (s : Setting) (w : WorldState) (e : Event) (v : Visit) → Is
 unfolding agent_visit datagram_visit
 brings_bytes s w (event.Clock node millis) v r is = as_bytes v node (input.Drain 0) (clock_visit_is node millis v (seat_at w node) is) tt
 brings_bytes s w (event.Want node length longest peer) v r is = absurd (none-some v is)
+brings_bytes s w (event.Return node prefix peer) v r is = absurd (none-some v is)
 brings_bytes s w (event.Agent node hold) v r is = agent_bytes node v (seat_at w node) is
 brings_bytes s w (event.Api node asa call hold) v r is = as_bytes v node (input.Api asa call) (at_visit w node (input.Api asa call) v is) tt
 brings_bytes s w (event.Datagram index hold) v r is = datagram_bytes w index v (numbered w.datagrams index) (datagrams_are_messages s w r) refl is

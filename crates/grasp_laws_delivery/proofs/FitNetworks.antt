@@ -15,7 +15,7 @@ use Rattle.grasp_wire.specs.Laws.{IsSendable}
 use Rattle.grasp_laws_network.proofs.Here.{visits_are_here}
 use Rattle.grasp_laws_node.proofs.PlansStay.{step_plan}
 use Rattle.grasp_model_network.specs.StreamChanges.{arrival_by, arrived, told, Reached, reached_side, side_named, delivered}
-use Rattle.grasp_model_network.specs.Events.{Occurs, visit_of, after_visit, after_none}
+use Rattle.grasp_model_network.specs.Events.{Occurs, visit_of, after_visit}
 use Rattle.grasp_model_network.specs.GoodSetting.{IsGoodSetting}
 use Rattle.grasp_model_network.specs.Routes.{route_of}
 use Rattle.grasp_model_network.specs.Runs.{IsReached, first_world}
@@ -27,7 +27,7 @@ use Rattle.grasp_model_network.specs.Visits.{Visit, Choice, VisitStep, MayCome}
 use Rattle.grasp_model_network.specs.World.{Seat, WorldState, seat_at, with_seat, end_of}
 use Rattle.grasp_model_network.specs.declared.event.Event.{Event}
 use Rattle.grasp_model_network.specs.declared.event.Event.TheVariants as event
-use Rattle.grasp_laws_delivery.proofs.AfterSteps.{posted_each, streams_before, streams_stepped, IsWanted, same, wanted, none_wanted}
+use Rattle.grasp_laws_delivery.proofs.AfterSteps.{posted_each, streams_before, streams_stepped}
 use Rattle.grasp_laws_delivery.proofs.Given.{limit_by}
 use Rattle.grasp_laws_delivery.proofs.Holding.{IsStep, PartsKeep, parts_keep}
 use Rattle.grasp_laws_delivery.proofs.InRange.Moves.{CanSend}
@@ -199,15 +199,11 @@ drained_can s good w node max (Some seat) r here each = from (begin seat.core se
 
 -- ---- every event
 
-want_can : (limit : ℕ) (w x : WorldState) → IsWanted w x → AllCanBeSent limit w.streams → AllCanBeSent limit x.streams
-want_can limit w x (same e) each = subst (λ (y : WorldState). AllCanBeSent limit y.streams) (sym e) each
-want_can limit w x (wanted node seat agent least here e) each = subst (λ (y : WorldState). AllCanBeSent limit y.streams) (sym e) each
-
 fit_parts : (s : Setting) (good : IsGoodSetting s) → PartsKeep s (λ w. AllCanBeSent good.limit w.streams)
 unfolding network.drained
 fit_parts s good = record {
   steps = λ w e c v r each o is step reached. step_can s good w e c v r o is step each;
-  wants = λ w e r each fit. want_can good.limit w (after_none s w e) (none_wanted s w e fit) each;
+  told = λ w x e r t each. subst (λ (y : WorldState). AllCanBeSent good.limit y.streams) (sym t.after) each;
   drains = λ w node max r each least. drained_can s good w node max (seat_at w node) r refl each;
 }
 

@@ -1,11 +1,13 @@
 -- An event is a undrained one and then a drain: what each of the two keeps is so of every network that events lead to.
-use Rattle.std.proofs.Common.{◌≡◌, refl, sym, ap, ◌∙◌, subst, arith, tests, ℕ, ◌≤◌, Bool, true, false, nat_lt, [], Option, None, Some}
+use Rattle.std.proofs.Common.{◌≡◌, refl, sym, ap, ◌∙◌, subst, arith, tests, ℕ, ◌≤◌, Bool, true, false, ◌⊎◌, inl, inr, nat_lt, [], Option, None, Some}
 use Rattle.grasp_laws_network.proofs.Going.{reached_more}
 use Rattle.grasp_laws_network.proofs.Growing.{behind_grows}
 use Rattle.grasp_laws_network.proofs.Here.{visits_are_here}
 use Rattle.grasp_laws_network.proofs.Reached.{reached_keeps}
+use Rattle.grasp_laws_network.proofs.Telling.{none_tells}
 use Rattle.grasp_model_network.specs.Events.{Occurs, IsFit, visit_of, after_visit, after_none, after_by, after_event, drains, drained_behind}
 use Rattle.grasp_laws_network.specs.Keeping.{WorldGrows}
+use Rattle.grasp_laws_network.specs.Telling.{Tells}
 use Rattle.grasp_model_network.specs.Runs.{IsRun, IsReached, first_world, world_after}
 use Rattle.grasp_model_network.specs.Sending.{drained, event_drain}
 use Rattle.grasp_model_network.specs.Setting.{Setting}
@@ -69,6 +71,7 @@ held_reached s w e c v r o is = subst (λ (x : WorldState). IsReached s x) (held
 -- the event makes a step that isn't a drain
 abbrev pub IsStep : Event → Type 0
 IsStep (event.Want node length longest peer) = ⊥
+IsStep (event.Return node prefix peer) = ⊥
 IsStep (event.Drain node max) = ⊥
 IsStep _ = Unit {0}
 
@@ -76,8 +79,8 @@ pub record PartsKeep (s : Setting) (P : WorldState → Type 0) : Type 0 where
   -- a step, and the network after it, which events lead to
   pub steps : (w : WorldState) (e : Event) (c : Choice) (v : Visit) → IsReached s w → P w → Occurs s w e c → visit_of s w e ≡ Some v → IsStep e → IsReached s (after_visit s w e v c)
       → P (after_visit s w e v c)
-  -- a want, or nothing
-  pub wants : (w : WorldState) (e : Event) → IsReached s w → P w → IsFit s w e → P (after_none s w e)
+  -- an agent that is told something
+  pub told : (w x : WorldState) (e : Event) → IsReached s w → Tells s w e x → P w → P x
   -- a drain
   pub drains : (w : WorldState) (node max : ℕ) → IsReached s w → P w → 1 ≤ node → P (drained s w node max)
 
@@ -85,6 +88,7 @@ part_kept : (s : Setting) (P : WorldState → Type 0) → PartsKeep s P → (w :
     → P (after_visit s w e v c)
 part_kept s P k w (event.Clock node millis) c v r p o is least = k.steps w (event.Clock node millis) c v r p o is tt (held_reached s w (event.Clock node millis) c v r o is)
 part_kept s P k w (event.Want node length longest peer) c v r p o is least = p
+part_kept s P k w (event.Return node prefix peer) c v r p o is least = p
 part_kept s P k w (event.Agent node hold) c v r p o is least = k.steps w (event.Agent node hold) c v r p o is tt (held_reached s w (event.Agent node hold) c v r o is)
 part_kept s P k w (event.Api node asa call hold) c v r p o is least =
     k.steps w (event.Api node asa call hold) c v r p o is tt (held_reached s w (event.Api node asa call hold) c v r o is)
@@ -99,11 +103,15 @@ behind_kept : (s : Setting) (P : WorldState → Type 0) → PartsKeep s P → (b
 behind_kept s P k true w node r p least = k.drains w node event_drain r p least
 behind_kept s P k false w node r p least = p
 
+none_kept : (s : Setting) (P : WorldState → Type 0) → PartsKeep s P → (w : WorldState) (e : Event) → IsReached s w → P w → (after_none s w e ≡ w) ⊎ Tells s w e (after_none s w e) → P (after_none s w e)
+none_kept s P k w e r p (inl same) = subst P (sym same) p
+none_kept s P k w e r p (inr t) = k.told w (after_none s w e) e r t p
+
 event_kept : (s : Setting) (P : WorldState → Type 0) → PartsKeep s P → (w : WorldState) (e : Event) (c : Choice) → IsReached s w → P w → Occurs s w e c → P (after_event s w e c)
 unfolding after_event
 event_kept s P k w e c r p o = by_visit (visit_of s w e) refl where
   by_visit : (x : Option Visit) → visit_of s w e ≡ x → P (after_by s w e c x)
-  by_visit None is = k.wants w e r p o.fit
+  by_visit None is = none_kept s P k w e r p (none_tells s w e o.fit)
   by_visit (Some v) is =
       let least = (visits_are_here s w e v is).member.least in
       behind_kept s P k (drains e) (after_visit s w e v c) v.node (held_reached s w e c v r o is) (part_kept s P k w e c v r p o is least) least

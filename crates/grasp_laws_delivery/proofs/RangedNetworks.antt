@@ -17,7 +17,7 @@ use Rattle.grasp_types.specs.declared.traffic.Input.{Input}
 use Rattle.grasp_laws_network.proofs.Openings.{worlds_begin}
 use Rattle.grasp_model_network.specs.EventSteps.{after_agent_call, after_agent, after_arrival, after_clock, after_cut, after_delivery, after_piece}
 use Rattle.grasp_model_network.specs.StreamChanges.{arrived, told, Reached, reached_side, side_named, delivered}
-use Rattle.grasp_model_network.specs.Events.{after_visit, after_none}
+use Rattle.grasp_model_network.specs.Events.{after_visit}
 use Rattle.grasp_model_network.specs.Notes.{noted}
 use Rattle.grasp_model_network.specs.Routes.{Route, route_of}
 use Rattle.grasp_model_network.specs.Runs.{IsReached, first_world}
@@ -29,7 +29,6 @@ use Rattle.grasp_model_network.specs.Visits.{Visit, Choice, MayCome, no_choice}
 use Rattle.grasp_model_network.specs.World.{Seat, SentDatagram, WorldState, seat_at, with_seat}
 use Rattle.grasp_model_network.specs.declared.event.Event.{Event}
 use Rattle.grasp_model_network.specs.declared.event.Event.TheVariants as event
-use Rattle.grasp_laws_delivery.proofs.AfterSteps.{IsWanted, same, wanted, none_wanted}
 use Rattle.grasp_laws_delivery.proofs.Holding.{IsStep, PartsKeep, parts_keep}
 use Rattle.grasp_laws_delivery.proofs.InRange.Moves.{IsInRange, IsRealPlan}
 use Rattle.grasp_laws_delivery.proofs.InRange.Networks.{all_real, real_plan, input_good}
@@ -89,6 +88,7 @@ told_same w (Some x) = refl
 stepped_same : (s : Setting) (w : WorldState) (e : Event) (v : Visit) (c : Choice) → IsStep e → (after_visit s w e v c).datagrams ≡ w.datagrams
 unfolding after_clock after_agent after_agent_call after_delivery after_arrival after_piece after_cut noted stepped
 stepped_same s w (event.Want node length longest peer) v c is = absurd is
+stepped_same s w (event.Return node prefix peer) v c is = absurd is
 stepped_same s w (event.Arrive stream hold) v c is = arrived_same w v (s.arrives_as v.node stream) c.reply (stream_numbered w.streams stream)
 stepped_same s w (event.Bytes stream far count hold) v c is = delivered_same w count (reached_side w stream (side_named far))
 stepped_same s w (event.Cut stream far hold) v c is = told_same w (reached_side w stream (side_named far))
@@ -122,15 +122,11 @@ drained_ranged s w node max (Some seat) r here all = from (begin seat.core seat.
       let put = with_seat w node (seat_with seat (after_drain m max) seat.agent) in
       closed_ranged node seat (closes m max) (fold (having_sent s node seat) put (take max m.queue)) (handed_ranged s node seat (take max m.queue) put (All-take IsRanged max m.queue q) all)
 
-want_ranged : (w x : WorldState) → IsWanted w x → AllSentRanged w → AllSentRanged x
-want_ranged w x (same e) all = subst AllSentRanged (sym e) all
-want_ranged w x (wanted node seat agent least here e) all = subst AllSentRanged (sym e) all
-
 sent_parts : (s : Setting) → PartsKeep s AllSentRanged
 unfolding network.drained
 sent_parts s = record {
   steps = λ w e c v r all o is step reached. subst (All IsSentRanged) (sym (stepped_same s w e v c step)) all;
-  wants = λ w e r all fit. want_ranged w (after_none s w e) (none_wanted s w e fit) all;
+  told = λ w x e r t all. subst AllSentRanged (sym t.after) all;
   drains = λ w node max r all least. drained_ranged s w node max (seat_at w node) r refl all;
 }
 

@@ -8,7 +8,7 @@ use Rattle.grasp_model_node.specs.Queue.{Queued, datagram, dial, send}
 use Rattle.grasp_types.specs.declared.reply.Reply.{Reply}
 use Rattle.grasp_types.specs.declared.reply.Reply.TheVariants as reply
 use Rattle.grasp_model_network.specs.StreamChanges.{arrival_by, arrived, told, Reached, reached_side, side_named, delivered}
-use Rattle.grasp_model_network.specs.Events.{after_visit, after_none}
+use Rattle.grasp_model_network.specs.Events.{after_visit}
 use Rattle.grasp_model_network.specs.Routes.{route_of}
 use Rattle.grasp_model_network.specs.Runs.{IsReached, first_world}
 use Rattle.grasp_model_network.specs.Sending.{gained, having_made, streams_made, seat_with, having_sent, having_closed, handed_over, drained, drained_at, drained_from}
@@ -18,7 +18,7 @@ use Rattle.grasp_model_network.specs.Visits.{Visit, Choice}
 use Rattle.grasp_model_network.specs.World.{Seat, WorldState, seat_at, with_seat, end_of}
 use Rattle.grasp_model_network.specs.declared.event.Event.{Event}
 use Rattle.grasp_model_network.specs.declared.event.Event.TheVariants as event
-use Rattle.grasp_laws_delivery.proofs.AfterSteps.{posted_each, streams_before, streams_stepped, IsWanted, same, wanted, none_wanted}
+use Rattle.grasp_laws_delivery.proofs.AfterSteps.{posted_each, streams_before, streams_stepped}
 use Rattle.grasp_laws_delivery.proofs.Holding.{IsStep, PartsKeep, parts_keep}
 use Rattle.grasp_laws_delivery.proofs.Sane.{IsSane, said_sane, sent_sane, ended_sane, numbered_sane, delivered_sane, told_sane, opened_sane, dialled_sane}
 use Rattle.grasp_laws_delivery.proofs.Sides.{each_changed, each_push}
@@ -91,15 +91,11 @@ drained_sane s w node max (Some seat) each = from (begin seat.core seat.core.rea
 
 -- ---- every event
 
-want_sane : (w x : WorldState) → IsWanted w x → AreSane w.streams → AreSane x.streams
-want_sane w x (same e) each = subst (λ (y : WorldState). AreSane y.streams) (sym e) each
-want_sane w x (wanted node seat agent least here e) each = subst (λ (y : WorldState). AreSane y.streams) (sym e) each
-
 sane_parts : (s : Setting) → PartsKeep s (λ w. AreSane w.streams)
 unfolding drained
 sane_parts s = record {
   steps = λ w e c v r each o is step reached. step_sane s w e v c step each;
-  wants = λ w e r each fit. want_sane w (after_none s w e) (none_wanted s w e fit) each;
+  told = λ w x e r t each. subst (λ (y : WorldState). AreSane y.streams) (sym t.after) each;
   drains = λ w node max r each least. drained_sane s w node max (seat_at w node) each;
 }
 

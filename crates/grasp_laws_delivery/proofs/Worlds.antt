@@ -1,11 +1,10 @@
 -- The streams of every network that events lead to are in order.
-use Rattle.std.proofs.Common.{◌≡◌, ◌≤◌, ◌-◌, ◌==◌, refl, sym, ap, subst, arith, ℕ, Bool, true, false, cond, [], map, Option, Some, None, slice_set, slice_get, All}
+use Rattle.std.proofs.Common.{◌≡◌, ◌-◌, ◌==◌, refl, sym, ap, subst, arith, ℕ, Bool, true, false, cond, [], map, Option, Some, None, slice_get, All}
 use Rattle.std.proofs.lemmas.Option.{none-some}
 use Rattle.std.proofs.lemmas.List.{length-set}
 use Rattle.std.proofs.lemmas.List.Elements.{All-nil}
 use Rattle.grasp_agent.specs.Calls.{next_call, agent_name, objective_name}
-use Rattle.grasp_agent.specs.Replies.{after_reply, want_reply, after_want}
-use Rattle.grasp_agent.specs.States.{AgentState}
+use Rattle.grasp_agent.specs.Replies.{after_reply}
 use Rattle.grasp_laws_node.proofs.Bounded.Nodes.{nodes_kept}
 use Rattle.grasp_model_node.specs.Begin.{begin, expired}
 use Rattle.grasp_model_node.specs.Moves.{with_reading, with_registrations, with_sessions, with_discoveries, with_floods, begin_closing}
@@ -14,7 +13,6 @@ use Rattle.grasp_model_node.specs.BoundedNodes.{IsBoundedNode}
 use Rattle.grasp_model_node.specs.Step.{Coming, NodeStep}
 use Rattle.grasp_model_node.specs.Streams.{StreamRecord, StreamsState, no_streams}
 use Rattle.grasp_laws_node.specs.Consistent.{IsConsistent, TiesAreKept}
-use Rattle.grasp_types.specs.declared.address.Locator.{Locator}
 use Rattle.grasp_types.specs.declared.reply.Reply.{Reply}
 use Rattle.grasp_types.specs.declared.traffic.Input.{Input}
 use Rattle.grasp_laws_node.specs.Dials.{evens_from}
@@ -22,18 +20,18 @@ use Rattle.grasp_laws_node.specs.Sends.{IsKnown}
 use Rattle.grasp_laws_network.proofs.EachNode.{IsMade, is_made, visit_each, event_each, first_each}
 use Rattle.grasp_laws_network.proofs.Here.{visits_are_here}
 use Rattle.grasp_laws_network.proofs.Reached.{reached_keeps}
+use Rattle.grasp_laws_network.proofs.Telling.{none_one, one_least}
+use Rattle.grasp_laws_network.specs.Telling.{OneAgent}
 use Rattle.grasp_model_network.proofs.Facts.{first_life}
-use Rattle.grasp_model_network.specs.EventSteps.{wanted_by, wanted_at, after_wanting}
-use Rattle.grasp_model_network.specs.Events.{visit_of, after_visit, after_none, after_by, after_event, drains, drained_behind, IsFit, Occurs}
+use Rattle.grasp_model_network.specs.Events.{visit_of, after_visit, after_by, after_event, drains, drained_behind, Occurs}
 use Rattle.grasp_model_network.specs.GoodSetting.{IsGoodSetting}
 use Rattle.grasp_laws_network.specs.Keeping.{IsHere}
 use Rattle.grasp_model_network.specs.Runs.{IsReached, answered_seat, first_seat, first_world}
 use Rattle.grasp_model_network.specs.Sending.{seat_with, event_drain}
 use Rattle.grasp_model_network.specs.Setting.{Member, Setting, numbered}
 use Rattle.grasp_model_network.specs.Visits.{Visit, Choice, MayCome}
-use Rattle.grasp_model_network.specs.World.{Seat, WorldState, seat_at}
+use Rattle.grasp_model_network.specs.World.{Seat, WorldState}
 use Rattle.grasp_model_network.specs.declared.event.Event.{Event}
-use Rattle.grasp_model_network.specs.declared.event.Event.TheVariants as event
 use Rattle.grasp_laws_delivery.specs.Heads.{heads}
 use Rattle.grasp_laws_delivery.specs.Kept.{IsArrived, QueueKept, NodeKept, GoodHead, StreamsKept}
 use Rattle.grasp_laws_delivery.specs.Ready.{Every}
@@ -46,36 +44,20 @@ pub record IsInOrder (s : Setting) (w : WorldState) : Type 0 where
   pub streams : StreamsKept s w
   pub sound : AreSound w
 
--- ---- a want
+-- ---- an agent changes alone
 
--- an agent changes alone
-want_kept : (s : Setting) (w : WorldState) (node : ℕ) (seat : Seat) (agent : AgentState) → 1 ≤ node → seat_at w node ≡ Some seat → StreamsKept s w
-    → StreamsKept s (record w { seats = slice_set w.seats (node - 1) (seat_with seat seat.core agent) })
-want_kept s w node seat agent least here k = record {
+one_kept : (s : Setting) (w x : WorldState) → OneAgent w x → StreamsKept s w → StreamsKept s x
+one_kept s w x o k = subst (λ (y : WorldState). StreamsKept s y) (sym o.after) (record {
   kept = record {
-    nodes = put_nodes (NodeKept (heads w.streams)) w.seats node (seat_with seat seat.core agent) least (record { life = was.life; queue = was.queue; records = was.records; nears = was.nears })
-        (λ n x apart there. k.kept.nodes n x there);
-    ends = subst (λ nodes. Every (GoodHead s nodes w.dials) (heads w.streams)) (sym (length-set w.seats (node - 1) (seat_with seat seat.core agent))) k.kept.ends;
+    nodes = put_nodes (NodeKept (heads w.streams)) w.seats o.node (seat_with o.seat o.seat.core o.agent) (one_least w x o)
+        (record { life = was.life; queue = was.queue; records = was.records; nears = was.nears }) (λ n y apart there. k.kept.nodes n y there);
+    ends = subst (λ nodes. Every (GoodHead s nodes w.dials) (heads w.streams)) (sym (length-set w.seats (o.node - 1) (seat_with o.seat o.seat.core o.agent))) k.kept.ends;
     once = k.kept.once;
   };
   waits = k.waits;
-} where
-  was : NodeKept (heads w.streams) node seat
-  was = k.kept.nodes node seat here
-
-wanted_kept : (s : Setting) (w : WorldState) (node : ℕ) (seat : Seat) (wanted longest : ℕ) (peer : Option Locator) → 1 ≤ node → seat_at w node ≡ Some seat → StreamsKept s w
-    → StreamsKept s (wanted_by w node seat wanted longest peer)
-wanted_kept s w node seat wanted longest None least here k = k
-wanted_kept s w node seat wanted longest (Some peer) least here k = want_kept s w node seat (after_want seat.agent wanted longest peer (want_reply seat.agent)) least here k
-
-wanting_kept : (s : Setting) (w : WorldState) (node wanted longest peer : ℕ) (o : Option Seat) → 1 ≤ node → seat_at w node ≡ o → StreamsKept s w → StreamsKept s (wanted_at s w node wanted longest peer o)
-wanting_kept s w node wanted longest peer None least here k = k
-wanting_kept s w node wanted longest peer (Some seat) least here k = wanted_kept s w node seat wanted longest (numbered s.peers peer) least here k
-
-none_kept : (s : Setting) (w : WorldState) (e : Event) → IsFit s w e → StreamsKept s w → StreamsKept s (after_none s w e)
-unfolding after_wanting
-none_kept s w (event.Want node wanted longest peer) fit k = wanting_kept s w node wanted longest peer (seat_at w node) fit.0.least refl k
-none_kept s w _ fit k = k
+}) where
+  was : NodeKept (heads w.streams) o.node o.seat
+  was = k.kept.nodes o.node o.seat o.here
 
 -- ---- an event
 
@@ -87,9 +69,9 @@ module _ (ties : TiesAreKept) (s : Setting) (good : IsGoodSetting s) where
   behind_kept true w node k sound = drained_kept ties s good w node event_drain k sound
   behind_kept false w node k sound = k
 
-  by_kept : (w : WorldState) (e : Event) (c : Choice) (o : Option Visit) → visit_of s w e ≡ o → IsFit s w e → MayCome o c → IsInOrder s w → StreamsKept s (after_by s w e c o)
-  by_kept w e c None is fit comes k = none_kept s w e fit k.streams
-  by_kept w e c (Some v) is fit comes k =
+  by_kept : (w : WorldState) (e : Event) (c : Choice) (o : Option Visit) → visit_of s w e ≡ o → MayCome o c → IsInOrder s w → StreamsKept s (after_by s w e c o)
+  by_kept w e c None is comes k = none_one s w e (λ x. StreamsKept s x) k.streams (λ x o. one_kept s w x o k.streams)
+  by_kept w e c (Some v) is comes k =
       let here : IsHere w v = visits_are_here s w e v is in
       let p = k.sound v.node v.seat here.stands in
       behind_kept (drains e) (after_visit s w e v c) v.node (visit_kept ties s good w v c k.streams k.sound here comes e is)
@@ -98,7 +80,7 @@ module _ (ties : TiesAreKept) (s : Setting) (good : IsGoodSetting s) where
   event_kept : (w : WorldState) (e : Event) (c : Choice) → Occurs s w e c → IsInOrder s w → IsInOrder s (after_event s w e c)
   unfolding after_event
   event_kept w e c o k = record {
-    streams = by_kept w e c (visit_of s w e) refl o.fit o.comes k;
+    streams = by_kept w e c (visit_of s w e) refl o.comes k;
     sound = event_each (λ n m. IsBoundedNode m × IsConsistent m) s w e c sound_steps o k.sound;
   }
 

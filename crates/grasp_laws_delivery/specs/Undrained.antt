@@ -12,6 +12,7 @@ use Rattle.grasp_model_network.specs.declared.event.Event.TheVariants as event
 abbrev pub undrained : Event → Event
 undrained (event.Clock node millis) = event.Clock node millis
 undrained (event.Want node length longest peer) = event.Want node length longest peer
+undrained (event.Return node prefix peer) = event.Return node prefix peer
 undrained (event.Agent node hold) = event.Agent node true
 undrained (event.Api node asa call hold) = event.Api node asa call true
 undrained (event.Datagram index hold) = event.Datagram index true

@@ -20,12 +20,13 @@ use Rattle.grasp_types.specs.declared.objective.Objective.{Objective}
 use Rattle.grasp_types.specs.declared.reply.Reply.{Reply}
 use Rattle.grasp_types.specs.declared.traffic.Input.{Input}
 use Rattle.grasp_types.specs.declared.traffic.Input.TheVariants as input
-use Rattle.grasp_laws_network.proofs.Growing.{seats_grow, visit_grows, drained_grows}
+use Rattle.grasp_laws_network.proofs.Growing.{one_grows, visit_grows, drained_grows}
+use Rattle.grasp_laws_network.proofs.Telling.{one_agent}
 use Rattle.grasp_laws_network.proofs.Here.{visits_are_here}
 use Rattle.grasp_model_network.proofs.Facts.{numbered_all}
 use Rattle.grasp_model_network.specs.EventSteps.{after_agent_call, after_agent, after_arrival, after_clock, after_cut, is_own_response, is_own_answer, answers_to, answered_with, after_delivery, after_piece}
 use Rattle.grasp_model_network.specs.StreamChanges.{arrived, told, Reached, reached_side, side_named, delivered}
-use Rattle.grasp_model_network.specs.Events.{visit_of, after_visit, after_none}
+use Rattle.grasp_model_network.specs.Events.{visit_of, after_visit}
 use Rattle.grasp_laws_network.specs.Keeping.{TakesNothing, WorldGrows}
 use Rattle.grasp_model_network.specs.Notes.{noted}
 use Rattle.grasp_model_network.specs.Routes.{Route, route_of}
@@ -38,7 +39,6 @@ use Rattle.grasp_model_network.specs.Visits.{Visit, Choice, MayCome, VisitStep}
 use Rattle.grasp_model_network.specs.World.{Seat, SentDatagram, DiscoveryAnswer, WorldState, seat_at, with_seat}
 use Rattle.grasp_model_network.specs.declared.event.Event.{Event}
 use Rattle.grasp_model_network.specs.declared.event.Event.TheVariants as event
-use Rattle.grasp_laws_delivery.proofs.AfterSteps.{IsWanted, same, wanted, none_wanted}
 use Rattle.grasp_laws_delivery.proofs.Holding.{IsStep, PartsKeep, parts_keep}
 use Rattle.grasp_laws_floods.specs.Laws.{DiscoveriesAreReal}
 use Rattle.grasp_laws_floods.specs.Sought.{IsMessageSought, DiscoveriesAreSought}
@@ -159,6 +159,7 @@ module _ (real : DiscoveriesAreReal) (messages : DatagramsAreMessages) (s : Sett
   step_answers : (w : WorldState) (e : Event) (c : Choice) (v : Visit) → IsReached s w → visit_of s w e ≡ Some v → IsStep e → VisitStep v c → AllReal s w → All (IsAnswerReal s w) (after_visit s w e v c).answers
   unfolding after_clock after_agent after_agent_call after_arrival after_piece after_cut noted stepped
   step_answers w (event.Want node length longest peer) c v r is step may all = absurd step
+  step_answers w (event.Return node prefix peer) c v r is step may all = absurd step
   step_answers w (event.Datagram index hold) c v r is step may all = delivery_real w r index hold v c is may all
   step_answers w (event.Arrive stream hold) c v r is step may all =
       subst (All (IsAnswerReal s w)) (sym (same_arrived w v (s.arrives_as v.node stream) c.reply (stream_numbered w.streams stream))) all
@@ -195,10 +196,6 @@ module _ (real : DiscoveriesAreReal) (messages : DatagramsAreMessages) (s : Sett
         let put = with_seat w node (seat_with seat (after_drain m most) seat.agent) in
         same_closed node seat (closes m most) (fold (having_sent s node seat) put (take most m.queue)) ∙ same_handed node seat (take most m.queue) put
 
-  want_real : (w x : WorldState) → IsWanted w x → AllReal s w → AllReal s x
-  want_real w x (same e) all = subst (AllReal s) (sym e) all
-  want_real w x (wanted node seat agent least here e) all = subst (AllReal s) (sym e) (still_real s w (with_seat w node (seat_with seat seat.core agent)) (seats_grow w _) refl all)
-
   -- ---- every event
 
   parts : PartsKeep s (AllReal s)
@@ -207,7 +204,7 @@ module _ (real : DiscoveriesAreReal) (messages : DatagramsAreMessages) (s : Sett
     steps = λ w e c v r all o is step reached.
         All-weaker (IsAnswerReal s w) (IsAnswerReal s (after_visit s w e v c)) (answer_longer s w (after_visit s w e v c) (visit_grows s w e v c)) (after_visit s w e v c).answers
         (step_answers w e c v r is step (subst (λ (x : Option Visit). MayCome x c) is o.comes) all);
-    wants = λ w e r all fit. want_real w (after_none s w e) (none_wanted s w e fit) all;
+    told = λ w x e r t all. still_real s w x (one_grows w x (one_agent s w e x t)) (ap (λ (y : WorldState). y.answers) t.after) all;
     drains = λ w node most r all least. still_real s w (network.drained s w node most) (drained_grows s w node most) (same_drained w node most (seat_at w node)) all;
   }
 

@@ -9,6 +9,7 @@ pub mod Keeping
 pub mod Longer
 pub mod Networks
 pub mod Noting
+pub mod OwnAnswers
 pub mod Real
 pub mod Sourcing
 pub mod Stepping

@@ -12,12 +12,14 @@ use Rattle.grasp_session.specs.Messages.{other}
 use Rattle.grasp_types.specs.declared.message.Message.{Message}
 use Rattle.grasp_types.specs.declared.traffic.Input.TheVariants as input
 use Rattle.grasp_wire.specs.Cutter.{Past}
-use Rattle.grasp_laws_network.proofs.EachNode.{IsMade, is_made}
-use Rattle.grasp_laws_network.proofs.Growing.{visit_grows, drained_grows, none_grows}
+use Rattle.grasp_laws_network.proofs.EachNode.{IsMade, is_made, one_each}
+use Rattle.grasp_laws_network.proofs.Growing.{visit_grows, drained_grows, one_grows}
+use Rattle.grasp_laws_network.proofs.Telling.{one_agent}
+use Rattle.grasp_laws_network.specs.Telling.{OneAgent}
 use Rattle.grasp_laws_network.proofs.Here.{visits_are_here}
 use Rattle.grasp_model_network.proofs.Facts.{numbered_all}
 use Rattle.grasp_model_network.specs.EventSteps.{agent_visit, agent_seat, agent_input, after_delivery}
-use Rattle.grasp_model_network.specs.Events.{visit_of, after_visit, after_none}
+use Rattle.grasp_model_network.specs.Events.{visit_of, after_visit}
 use Rattle.grasp_laws_network.specs.Keeping.{WorldGrows}
 use Rattle.grasp_model_network.specs.Notes.{SearchesDiffer}
 use Rattle.grasp_model_network.specs.StreamChanges.{Reached, reached_side, side_named}
@@ -30,7 +32,7 @@ use Rattle.grasp_model_network.specs.Visits.{Visit, Choice, MayCome, VisitStep}
 use Rattle.grasp_model_network.specs.World.{Seat, SearchCall, SentDatagram, WorldState, seat_at}
 use Rattle.grasp_model_network.specs.declared.event.Event.{Event}
 use Rattle.grasp_model_network.specs.declared.event.Event.TheVariants as event
-use Rattle.grasp_laws_delivery.proofs.AfterSteps.{IsWanted, same, wanted, none_wanted, seats_stepped, each_seat, each_drained, want_keeps}
+use Rattle.grasp_laws_delivery.proofs.AfterSteps.{seats_stepped, each_seat, each_drained}
 use Rattle.grasp_laws_delivery.proofs.Heard.Steps.{reached_is}
 use Rattle.grasp_laws_delivery.proofs.Holding.{IsStep, PartsKeep, parts_keep}
 use Rattle.grasp_laws_delivery.proofs.Came.Inputs.{IsReaching, seat_visit, at_visit, clock_visit_is, opening_is, piece_is, cut_is}
@@ -138,6 +140,7 @@ module _ (given : WhatWasSaidIsGiven) (real : DiscoveriesAreReal) (told : Search
   node_after w (event.Clock node millis) c v r differ k is step may g own =
       plain_step s (after_visit s w (event.Clock node millis) v c) v c (subst IsPlain (sym (clock_visit_is node millis v (seat_at w node) is).input_is) refl) may own
   node_after w (event.Want node length longest peer) c v r differ k is step may g own = absurd step
+  node_after w (event.Return node prefix peer) c v r differ k is step may g own = absurd step
   node_after w (event.Agent node hold) c v r differ k is step may g own = plain_step s (after_visit s w (event.Agent node hold) v c) v c (agent_plain node v (seat_at w node) is) may own
   node_after w (event.Api node asa call hold) c v r differ k is step may g own =
       plain_step s (after_visit s w (event.Api node asa call hold) v c) v c (subst IsPlain (sym (at_visit w node (input.Api asa call) v is).input_is) tt) may own
@@ -180,16 +183,13 @@ module _ (given : WhatWasSaidIsGiven) (real : DiscoveriesAreReal) (told : Search
         streams = drained_talks s x w node seat m most (All-take (IsQueuedReal s x) most m.queue n.queue) (talks_longer s w x h w.streams k.streams);
       }
 
-  -- ---- a want
+  -- ---- another agent
 
-  wanted_real : (w x : WorldState) → WorldGrows w x → IsWanted w x → WorldReal s w → WorldReal s x
-  wanted_real w x g is k = record {
-    nodes = want_keeps (λ ts node seat. NodeReal s x seat.core) w x (λ node seat agent n. n) is (λ node seat there. node_longer s w x g seat.core (k.nodes node seat there));
-    streams = talks_longer s w x g x.streams (same_talks is);
-  } where
-    same_talks : IsWanted w x → TalksReal s w x.streams
-    same_talks (same e) = subst (λ (y : WorldState). TalksReal s w y.streams) (sym e) k.streams
-    same_talks (wanted node seat agent least here e) = subst (λ (y : WorldState). TalksReal s w y.streams) (sym e) k.streams
+  one_real : (w x : WorldState) → OneAgent w x → WorldReal s w → WorldReal s x
+  one_real w x o k = record {
+    nodes = one_each (λ node n. NodeReal s x n) w x o (λ node seat there. node_longer s w x (one_grows w x o) seat.core (k.nodes node seat there));
+    streams = talks_longer s w x (one_grows w x o) x.streams (subst (λ (y : WorldState). TalksReal s w y.streams) (sym o.after) k.streams);
+  }
 
   -- ---- every event
 
@@ -199,7 +199,7 @@ module _ (given : WhatWasSaidIsGiven) (real : DiscoveriesAreReal) (told : Search
     steps = λ w e c v r p o is step reached differ.
         let before = differed w (after_visit s w e v c) (visit_grows s w e v c) differ in
         stepped_real w e c v r before (p before) is step (subst (λ (x : Option Visit). MayCome x c) is o.comes);
-    wants = λ w e r p fit differ. wanted_real w (after_none s w e) (none_grows s w e) (none_wanted s w e fit) (p (differed w (after_none s w e) (none_grows s w e) differ));
+    told = λ w x e r t p differ. let o = one_agent s w e x t in one_real w x o (p (differed w x (one_grows w x o) differ));
     drains = λ w node most r p least differ.
         drained_real w node most (seat_at w node) refl least (p (differed w (network.drained s w node most) (drained_grows s w node most) differ)) (drained_grows s w node most);
   }

@@ -1,3 +1,4 @@
 pub mod Laws
 pub mod Locators
+pub mod Own
 pub mod Sources

@@ -8,6 +8,7 @@ ghost use Rattle.grasp_laws_discovery.specs.Laws.{
   EachResponseIsReal,
   LookedForIsSearched,
 };
+ghost use Rattle.grasp_laws_discovery.specs.Own.{NotedAnswersAreOwn};
 ghost use Rattle.grasp_laws_discovery.specs.Sources.{ResponsesHaveSources};
 
 use grasp_laws_delivery::{datagrams_are_messages, what_was_said_is_given};
@@ -56,3 +57,11 @@ pub fn found_locators_are_real()
 pub fn responses_have_sources()
     ensures { ResponsesHaveSources }
 {}
+
+/// Each discovery that an event answers, and that is noted as answered, is answered with the session number and the initiator that
+/// it has, and with the locator of its node alone.
+pub fn noted_answers_are_own()
+    ensures { NotedAnswersAreOwn }
+{
+    datagrams_are_messages();
+}

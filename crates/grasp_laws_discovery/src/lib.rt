@@ -5,6 +5,6 @@
 mod laws;
 
 pub use laws::{
-    answers_are_real, cached_locators_are_real, found_locators_are_real, responses_are_real,
-    responses_have_sources,
+    answers_are_real, cached_locators_are_real, found_locators_are_real, noted_answers_are_own,
+    responses_are_real, responses_have_sources,
 };

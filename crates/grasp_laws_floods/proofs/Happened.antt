@@ -6,23 +6,24 @@ use Rattle.grasp_agent.specs.Replies.{after_reply}
 use Rattle.grasp_agent.specs.States.{AgentState}
 use Rattle.grasp_model_node.specs.Begin.{begin}
 use Rattle.grasp_model_node.specs.Step.{Acts}
-use Rattle.grasp_laws_network.proofs.EachNode.{stepped_each, wanting_each}
+use Rattle.grasp_laws_network.proofs.EachNode.{stepped_each, one_each}
 use Rattle.grasp_laws_network.proofs.Here.{visits_are_here}
-use Rattle.grasp_model_network.specs.EventSteps.{after_agent_call, agent_input, after_agent, after_arrival, after_clock, wanted_by, wanted_at, after_wanting, after_cut, after_delivery, after_piece}
+use Rattle.grasp_laws_network.proofs.Telling.{none_one}
+use Rattle.grasp_laws_network.specs.Telling.{OneAgent}
+use Rattle.grasp_model_network.specs.EventSteps.{after_agent_call, agent_input, after_agent, after_arrival, after_clock, after_cut, after_delivery, after_piece}
 use Rattle.grasp_model_network.specs.StreamChanges.{arrived, told, Reached, reached_side, side_named, delivered}
-use Rattle.grasp_model_network.specs.Events.{visit_of, after_visit, after_none, after_by, after_event, drains, drained_behind, IsFit, Occurs}
+use Rattle.grasp_model_network.specs.Events.{visit_of, after_visit, after_by, after_event, drains, drained_behind, Occurs}
 use Rattle.grasp_model_network.specs.GoodSetting.{IsGoodSetting}
 use Rattle.grasp_laws_network.specs.Keeping.{IsHere}
 use Rattle.grasp_laws_network.specs.Nodes.{OfEachNode}
 use Rattle.grasp_model_network.specs.Notes.{noted, floods_in, floods_read_in}
 use Rattle.grasp_model_network.specs.Sending.{stepped}
-use Rattle.grasp_model_network.specs.Setting.{Setting, numbered}
+use Rattle.grasp_model_network.specs.Setting.{Setting}
 use Rattle.grasp_model_network.specs.Streams.{StreamState, stream_numbered}
 use Rattle.grasp_model_network.specs.Visits.{Visit, Choice, MayCome, VisitStep}
-use Rattle.grasp_model_network.specs.World.{Seat, FloodCall, WorldState, seat_at}
+use Rattle.grasp_model_network.specs.World.{FloodCall, WorldState}
 use Rattle.grasp_model_network.specs.declared.event.Event.{Event}
 use Rattle.grasp_model_network.specs.declared.event.Event.TheVariants as event
-use Rattle.grasp_types.specs.declared.address.Locator.{Locator}
 use Rattle.grasp_types.specs.declared.call.Call.{Call}
 use Rattle.grasp_types.specs.declared.flood.FloodRead.{FloodRead}
 use Rattle.grasp_types.specs.declared.reply.Reply.{Reply}
@@ -172,6 +173,7 @@ unfolding after_clock after_agent after_agent_call after_delivery after_arrival 
 visit_goes s w (event.Clock node millis) v c good addresses range least step given n k =
     still s w w (after_clock w v c) v c v.seat.agent least (same_notes w) (same_notes (stepped w v c.after v.seat.agent)) (quiet_on s w.flood_calls v c step given n) k
 visit_goes s w (event.Want node wanted longest peer) v c good addresses range least step given n k = record { made = k; reads = reads_none s w w refl }
+visit_goes s w (event.Return node prefix peer) v c good addresses range least step given n k = record { made = k; reads = reads_none s w w refl }
 visit_goes s w (event.Agent node hold) v c good addresses range least step given n k =
     called s w (after_agent w v c) v v.seat.agent.asa (next_call v.seat.agent) c (after_reply v.seat.agent c.reply) least
     (record { seats = refl; datagrams = refl; flood_calls = refl; floods_read = refl })
@@ -202,35 +204,19 @@ goes_then s w x y a d = record {
   reads = record { more = a.reads.more; read = d.read_same ∙ a.reads.read; made = a.reads.made };
 }
 
--- ---- a want
+-- ---- another agent
 
-wanted_notes : (s : Setting) (w : WorldState) (node : ℕ) (seat : Seat) (wanted longest : ℕ) (peer : Option Locator) → 1 ≤ node → seat_at w node ≡ Some seat
-    → OfEachNode (NodeMade s w.flood_calls) (wanted_by w node seat wanted longest peer) → IsMade s w → Goes s w (wanted_by w node seat wanted longest peer)
-wanted_notes s w node seat wanted longest None least here each k = record { made = k; reads = reads_none s w w refl }
-wanted_notes s w node seat wanted longest (Some peer) least here each k =
-    record { made = record { nodes = each; sent = k.sent; read = k.read }; reads = reads_none s w (wanted_by w node seat wanted longest (Some peer)) refl }
-
-wanting_notes : (s : Setting) (w : WorldState) (node wanted longest peer : ℕ) (o : Option Seat) → 1 ≤ node → seat_at w node ≡ o
-    → OfEachNode (NodeMade s w.flood_calls) (wanted_at s w node wanted longest peer o) → IsMade s w → Goes s w (wanted_at s w node wanted longest peer o)
-wanting_notes s w node wanted longest peer None least here each k = record { made = k; reads = reads_none s w w refl }
-wanting_notes s w node wanted longest peer (Some seat) least here each k = wanted_notes s w node seat wanted longest (numbered s.peers peer) least here each k
-
-stays : (s : Setting) (w : WorldState) → IsMade s w → Goes s w w
-stays s w k = record { made = k; reads = reads_none s w w refl }
-
-none_goes : (s : Setting) (w : WorldState) (e : Event) → IsFit s w e → IsMade s w → Goes s w (after_none s w e)
-unfolding after_wanting
-none_goes s w (event.Want node wanted longest peer) fit k =
-    wanting_notes s w node wanted longest peer (seat_at w node) fit.0.least refl
-    (wanting_each (NodeMade s w.flood_calls) s w node wanted longest peer (seat_at w node) fit.0.least refl k.nodes) k
-none_goes s w _ fit k = stays s w k
+one_goes : (s : Setting) (w x : WorldState) → OneAgent w x → IsMade s w → Goes s w x
+one_goes s w x o k =
+    subst (λ (y : WorldState). OfEachNode (NodeMade s w.flood_calls) y → Goes s w y) (sym o.after)
+    (λ each. record { made = record { nodes = each; sent = k.sent; read = k.read }; reads = reads_none s w _ refl }) (one_each (NodeMade s w.flood_calls) w x o k.nodes)
 
 -- ---- an event
 
-by_goes : (s : Setting) (w : WorldState) (e : Event) (c : Choice) (o : Option Visit) → IsGoodSetting s → HasAddresses s → IsEventInRange e → visit_of s w e ≡ o → IsFit s w e → MayCome o c
+by_goes : (s : Setting) (w : WorldState) (e : Event) (c : Choice) (o : Option Visit) → IsGoodSetting s → HasAddresses s → IsEventInRange e → visit_of s w e ≡ o → MayCome o c
     → IsMade s w → Goes s w (after_by s w e c o)
-by_goes s w e c None good addresses range is fit comes k = none_goes s w e fit k
-by_goes s w e c (Some v) good addresses range is fit comes k = here (visits_are_here s w e v is) where
+by_goes s w e c None good addresses range is comes k = none_one s w e (λ x. Goes s w x) (record { made = k; reads = reads_none s w w refl }) (λ x o. one_goes s w x o k)
+by_goes s w e c (Some v) good addresses range is comes k = here (visits_are_here s w e v is) where
   here : IsHere w v → Goes s w (after_by s w e c (Some v))
   here h = behind (visit_goes s w e v c good addresses range h.member.least comes (given_by s w e v is) (at_node s w v h k) k) where
     behind : Goes s w (after_visit s w e v c) → Goes s w (after_by s w e c (Some v))
@@ -241,4 +227,4 @@ by_goes s w e c (Some v) good addresses range is fit comes k = here (visits_are_
 pub event_goes : (s : Setting) (w : WorldState) (e : Event) (c : Choice) → IsGoodSetting s → Occurs s w e c → IsMade s w → Goes s w (after_event s w e c)
 unfolding after_event
 event_goes s w e c good occurs k =
-    by_goes s w e c (visit_of s w e) good (good_addresses s good) (event_range (length w.seats) (length s.peers) e occurs.fit) refl occurs.fit occurs.comes k
+    by_goes s w e c (visit_of s w e) good (good_addresses s good) (event_range (length w.seats) (length s.peers) e occurs.fit) refl occurs.comes k

@@ -1,19 +1,21 @@
 -- No node begins a further life.
 use Rattle.std.proofs.Common.{◌≡◌, ◌≢◌, refl, sym, ap, ◌∙◌, subst, arith, tests, ℕ, ◌≤◌, ◌-◌, ◌==◌, Bool, true, false, cond, [], map, slice_get, slice_set, take, Option, Some, None}
 use Rattle.std.proofs.lemmas.Option.{none-some}
-use Rattle.grasp_agent.specs.Replies.{after_reply, want_reply, after_want}
+use Rattle.grasp_agent.specs.Replies.{after_reply}
 use Rattle.grasp_agent.specs.States.{AgentState}
 use Rattle.grasp_model_node.specs.Begin.{begin}
 use Rattle.grasp_model_node.specs.Draining.{closes, after_drain}
 use Rattle.grasp_model_node.specs.Node.{NodeState}
 use Rattle.grasp_laws_network.proofs.EachNode.{IsMade, is_made, put_is}
 use Rattle.grasp_laws_network.proofs.Here.{visits_are_here}
+use Rattle.grasp_laws_network.proofs.Telling.{none_one, one_least}
+use Rattle.grasp_laws_network.specs.Telling.{OneAgent}
 use Rattle.grasp_laws_network.proofs.Others.{put_elsewhere, arrived_keeps, delivered_keeps, told_keeps}
 use Rattle.grasp_laws_network.proofs.Sent.{sending_keeps_nodes}
 use Rattle.grasp_model_network.proofs.Facts.{first_life}
-use Rattle.grasp_model_network.specs.EventSteps.{after_agent_call, after_agent, after_arrival, after_clock, wanted_by, wanted_at, after_wanting, after_cut, after_delivery, after_piece}
+use Rattle.grasp_model_network.specs.EventSteps.{after_agent_call, after_agent, after_arrival, after_clock, after_cut, after_delivery, after_piece}
 use Rattle.grasp_model_network.specs.StreamChanges.{arrived, told, reached_side, side_named, delivered}
-use Rattle.grasp_model_network.specs.Events.{visit_of, after_visit, after_none, after_by, after_event, drains, drained_behind, IsFit, Occurs}
+use Rattle.grasp_model_network.specs.Events.{visit_of, after_visit, after_by, after_event, drains, drained_behind, Occurs}
 use Rattle.grasp_laws_network.specs.Keeping.{IsHere}
 use Rattle.grasp_model_network.specs.Notes.{noted}
 use Rattle.grasp_model_network.specs.Runs.{first_seat, first_world}
@@ -25,7 +27,6 @@ use Rattle.grasp_model_network.specs.Visits.{Visit, Choice}
 use Rattle.grasp_model_network.specs.World.{Seat, WorldState, seat_at, with_seat}
 use Rattle.grasp_model_network.specs.declared.event.Event.{Event}
 use Rattle.grasp_model_network.specs.declared.event.Event.TheVariants as event
-use Rattle.grasp_types.specs.declared.address.Locator.{Locator}
 
 -- each node is in its first life
 abbrev pub FirstLives : WorldState → Type 0
@@ -73,6 +74,7 @@ visit_first : (s : Setting) (w : WorldState) (e : Event) (v : Visit) (c : Choice
 unfolding after_clock after_agent after_agent_call after_delivery after_arrival after_piece after_cut noted
 visit_first s w (event.Clock node millis) v c least p each = stepped_first w w (after_clock w v c) v c.after v.seat.agent least refl refl p each
 visit_first s w (event.Want node wanted longest peer) v c least p each = each
+visit_first s w (event.Return node prefix peer) v c least p each = each
 visit_first s w (event.Agent node hold) v c least p each = stepped_first w w (after_agent w v c) v c.after (after_reply v.seat.agent c.reply) least refl refl p each
 visit_first s w (event.Api node asa call hold) v c least p each = stepped_first w w (after_agent_call w v asa call c) v c.after v.seat.agent least refl refl p each
 visit_first s w (event.Datagram index hold) v c least p each = stepped_first w w (after_delivery w v index c) v c.after v.seat.agent least refl refl p each
@@ -91,36 +93,24 @@ behind_first : (b : Bool) (s : Setting) (w : WorldState) (node : ℕ) → 1 ≤ 
 behind_first true s w node least each = drained_first s w node event_drain least each
 behind_first false s w node least each = each
 
--- ---- wants
+-- ---- another agent
 
-wanted_first : (w : WorldState) (node : ℕ) (seat : Seat) (wanted longest : ℕ) (peer : Option Locator) → 1 ≤ node → seat_at w node ≡ Some seat → FirstLives w
-    → FirstLives (wanted_by w node seat wanted longest peer)
-wanted_first w node seat wanted longest None least here each = each
-wanted_first w node seat wanted longest (Some peer) least here each =
-    put_first w (wanted_by w node seat wanted longest (Some peer)) node (seat_with seat seat.core (after_want seat.agent wanted longest peer (want_reply seat.agent))) least refl
-    (each node seat here) each
-
-wanting_first : (s : Setting) (w : WorldState) (node wanted longest peer : ℕ) (o : Option Seat) → 1 ≤ node → seat_at w node ≡ o → FirstLives w → FirstLives (wanted_at s w node wanted longest peer o)
-wanting_first s w node wanted longest peer None least here each = each
-wanting_first s w node wanted longest peer (Some seat) least here each = wanted_first w node seat wanted longest (numbered s.peers peer) least here each
-
-none_first : (s : Setting) (w : WorldState) (e : Event) → IsFit s w e → FirstLives w → FirstLives (after_none s w e)
-unfolding after_wanting
-none_first s w (event.Want node wanted longest peer) fit each = wanting_first s w node wanted longest peer (seat_at w node) fit.0.least refl each
-none_first s w _ fit each = each
+one_first : (w x : WorldState) → OneAgent w x → FirstLives w → FirstLives x
+one_first w x o each =
+    put_first w x o.node (seat_with o.seat o.seat.core o.agent) (one_least w x o) (ap (λ (y : WorldState). y.seats) o.after) (each o.node o.seat o.here) each
 
 -- ---- events
 
-by_first : (s : Setting) (w : WorldState) (e : Event) (c : Choice) (o : Option Visit) → visit_of s w e ≡ o → IsFit s w e → FirstLives w → FirstLives (after_by s w e c o)
-by_first s w e c None is fit each = none_first s w e fit each
-by_first s w e c (Some v) is fit each = at_node (visits_are_here s w e v is) where
+by_first : (s : Setting) (w : WorldState) (e : Event) (c : Choice) (o : Option Visit) → visit_of s w e ≡ o → FirstLives w → FirstLives (after_by s w e c o)
+by_first s w e c None is each = none_one s w e FirstLives each (λ x o. one_first w x o each)
+by_first s w e c (Some v) is each = at_node (visits_are_here s w e v is) where
   at_node : IsHere w v → FirstLives (after_by s w e c (Some v))
   at_node here =
       behind_first (drains e) s (after_visit s w e v c) v.node here.member.least (visit_first s w e v c here.member.least (each v.node v.seat here.stands) each)
 
 pub event_first : (s : Setting) (w : WorldState) (e : Event) (c : Choice) → Occurs s w e c → FirstLives w → FirstLives (after_event s w e c)
 unfolding after_event
-event_first s w e c occurs each = by_first s w e c (visit_of s w e) refl occurs.fit each
+event_first s w e c occurs each = by_first s w e c (visit_of s w e) refl each
 
 -- ---- the beginning
 

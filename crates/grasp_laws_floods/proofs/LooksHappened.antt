@@ -12,25 +12,26 @@ use Rattle.grasp_model_node.specs.Queue.{encoding}
 use Rattle.grasp_model_node.specs.Step.{Coming, IsComing}
 use Rattle.grasp_discovery.specs.Topic.{topic_of}
 use Rattle.grasp_discovery.specs.declared.topic.Topic.{Topic}
-use Rattle.grasp_laws_network.proofs.EachNode.{stepped_each, wanting_each}
+use Rattle.grasp_laws_network.proofs.EachNode.{stepped_each, one_each}
 use Rattle.grasp_laws_network.proofs.Here.{visits_are_here}
+use Rattle.grasp_laws_network.proofs.Telling.{none_one}
+use Rattle.grasp_laws_network.specs.Telling.{OneAgent}
 use Rattle.grasp_model_network.proofs.Facts.{numbered_all}
-use Rattle.grasp_model_network.specs.EventSteps.{after_agent_call, after_agent, after_arrival, after_clock, wanted_by, wanted_at, after_wanting, after_cut, after_delivery, after_piece}
+use Rattle.grasp_model_network.specs.EventSteps.{after_agent_call, after_agent, after_arrival, after_clock, after_cut, after_delivery, after_piece}
 use Rattle.grasp_model_network.specs.StreamChanges.{arrived, told, Reached, reached_side, side_named, delivered}
-use Rattle.grasp_model_network.specs.Events.{visit_of, after_visit, after_none, after_by, after_event, drains, drained_behind, IsFit, Occurs}
+use Rattle.grasp_model_network.specs.Events.{visit_of, after_visit, after_by, after_event, drains, drained_behind, Occurs}
 use Rattle.grasp_model_network.specs.GoodSetting.{IsGoodSetting}
 use Rattle.grasp_laws_network.specs.Keeping.{IsHere}
 use Rattle.grasp_laws_network.specs.Nodes.{OfEachNode}
 use Rattle.grasp_model_network.specs.Notes.{noted, is_searching, searches_in}
 use Rattle.grasp_model_network.specs.Sending.{stepped}
-use Rattle.grasp_model_network.specs.Setting.{Setting, numbered}
+use Rattle.grasp_model_network.specs.Setting.{Setting}
 use Rattle.grasp_model_network.specs.Streams.{StreamState, stream_numbered}
 use Rattle.grasp_model_network.specs.Visits.{Visit, Choice, MayCome, VisitStep}
-use Rattle.grasp_model_network.specs.World.{Seat, FloodCall, SearchCall, WorldState, life_of, seat_at}
+use Rattle.grasp_model_network.specs.World.{FloodCall, SearchCall, WorldState, life_of}
 use Rattle.grasp_model_network.specs.declared.event.Event.{Event}
 use Rattle.grasp_model_network.specs.declared.event.Event.TheVariants as event
 use Rattle.grasp_types.specs.Message.{IsMessage}
-use Rattle.grasp_types.specs.declared.address.Locator.{Locator}
 use Rattle.grasp_types.specs.declared.call.Call.{Call}
 use Rattle.grasp_types.specs.declared.call.Call.TheVariants as call
 use Rattle.grasp_types.specs.declared.message.Message.{Message}
@@ -238,6 +239,7 @@ unfolding after_clock after_agent after_agent_call after_delivery after_arrival 
 visit_sought s w (event.Clock node millis) v c good least first step given made n k looks =
     still s w w (after_clock w v c) v c v.seat.agent least (same_searches w) (same_searches (stepped w v c.after v.seat.agent)) k (quiet_on s k.sought v c step given looks)
 visit_sought s w (event.Want node wanted longest peer) v c good least first step given made n k looks = k
+visit_sought s w (event.Return node prefix peer) v c good least first step given made n k looks = k
 visit_sought s w (event.Agent node hold) v c good least first step given made n k looks =
     called s w (after_agent w v c) v (next_call v.seat.agent) c (after_reply v.seat.agent c.reply) least first (record { seats = refl; datagrams = refl; searches = refl }) k
     (call_on s k.sought w v c v.seat.agent.asa (next_call v.seat.agent) step given n looks)
@@ -258,30 +260,19 @@ visit_sought s w (event.Cut stream far hold) v c good least first step given mad
 visit_sought s w (event.Drain node max) v c good least first step given made n k looks =
     drain_sought s w (after_visit s w (event.Drain node max) v c) k (drained_looks s k.sought w v.node max least k.looks)
 
--- ---- a want
+-- ---- another agent
 
-wanted_sought : (s : Setting) (w : WorldState) (node : ℕ) (seat : Seat) (wanted longest : ℕ) (peer : Option Locator) → (k : IsSought s w)
-    → OfEachNode (NodeLooks s k.sought) (wanted_by w node seat wanted longest peer) → IsSought s (wanted_by w node seat wanted longest peer)
-wanted_sought s w node seat wanted longest None k each = k
-wanted_sought s w node seat wanted longest (Some peer) k each = record { sought = k.sought; looks = record { nodes = each; sent = k.looks.sent }; searches = k.searches; lives = k.lives }
-
-wanting_sought : (s : Setting) (w : WorldState) (node wanted longest peer : ℕ) (o : Option Seat) → (k : IsSought s w)
-    → OfEachNode (NodeLooks s k.sought) (wanted_at s w node wanted longest peer o) → IsSought s (wanted_at s w node wanted longest peer o)
-wanting_sought s w node wanted longest peer None k each = k
-wanting_sought s w node wanted longest peer (Some seat) k each = wanted_sought s w node seat wanted longest (numbered s.peers peer) k each
-
-none_sought : (s : Setting) (w : WorldState) (e : Event) → IsFit s w e → IsSought s w → IsSought s (after_none s w e)
-unfolding after_wanting
-none_sought s w (event.Want node wanted longest peer) fit k =
-    wanting_sought s w node wanted longest peer (seat_at w node) k (wanting_each (NodeLooks s k.sought) s w node wanted longest peer (seat_at w node) fit.0.least refl k.looks.nodes)
-none_sought s w _ fit k = k
+one_sought : (s : Setting) (w x : WorldState) → OneAgent w x → IsSought s w → IsSought s x
+one_sought s w x o k =
+    subst (λ (y : WorldState). OfEachNode (NodeLooks s k.sought) y → IsSought s y) (sym o.after)
+    (λ each. record { sought = k.sought; looks = record { nodes = each; sent = k.looks.sent }; searches = k.searches; lives = k.lives }) (one_each (NodeLooks s k.sought) w x o k.looks.nodes)
 
 -- ---- an event
 
-by_sought : (s : Setting) (w : WorldState) (e : Event) (c : Choice) (o : Option Visit) → IsGoodSetting s → visit_of s w e ≡ o → IsFit s w e → MayCome o c → IsMade s w → FirstLives w → IsSought s w
+by_sought : (s : Setting) (w : WorldState) (e : Event) (c : Choice) (o : Option Visit) → IsGoodSetting s → visit_of s w e ≡ o → MayCome o c → IsMade s w → FirstLives w → IsSought s w
     → IsSought s (after_by s w e c o)
-by_sought s w e c None good is fit comes made first k = none_sought s w e fit k
-by_sought s w e c (Some v) good is fit comes made first k = here (visits_are_here s w e v is) where
+by_sought s w e c None good is comes made first k = none_one s w e (λ x. IsSought s x) k (λ x o. one_sought s w x o k)
+by_sought s w e c (Some v) good is comes made first k = here (visits_are_here s w e v is) where
   here : IsHere w v → IsSought s (after_by s w e c (Some v))
   here h = behind (visit_sought s w e v c good h.member.least (first v.node v.seat h.stands) comes (given_by s w e v is) made (made.nodes v.node v.seat h.stands) k (k.looks.nodes v.node v.seat h.stands)) where
     behind : IsSought s (after_visit s w e v c) → IsSought s (after_by s w e c (Some v))
@@ -291,4 +282,4 @@ by_sought s w e c (Some v) good is fit comes made first k = here (visits_are_her
 
 pub event_sought : (s : Setting) (w : WorldState) (e : Event) (c : Choice) → IsGoodSetting s → Occurs s w e c → IsMade s w → FirstLives w → IsSought s w → IsSought s (after_event s w e c)
 unfolding after_event
-event_sought s w e c good occurs made first k = by_sought s w e c (visit_of s w e) good refl occurs.fit occurs.comes made first k
+event_sought s w e c good occurs made first k = by_sought s w e c (visit_of s w e) good refl occurs.comes made first k

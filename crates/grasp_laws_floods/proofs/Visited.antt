@@ -90,6 +90,7 @@ pub given_by : (s : Setting) (w : WorldState) (e : Event) (v : Visit) → visit_
 unfolding agent_visit datagram_visit arrival_visit piece_visit cut_visit
 given_by s w (event.Clock node millis) v is = clock_quiet node millis v (seat_at w node) is
 given_by s w (event.Want node length longest peer) v is = absurd (none-some v is)
+given_by s w (event.Return node prefix peer) v is = absurd (none-some v is)
 given_by s w (event.Agent node hold) v is = agent_given node v (seat_at w node) is
 given_by s w (event.Api node asa call hold) v is = visit_input w node (input.Api asa call) v is
 given_by s w (event.Datagram index hold) v is = datagram_given w index v (numbered w.datagrams index) refl is

@@ -1,4 +1,4 @@
--- A drain, a want and the first network.
+-- A drain, a change of one agent and the first network.
 use Rattle.std.proofs.Common.{◌≡◌, ◌≤◌, ◌-◌, ℕ, ◌==◌, Bool, true, false, cond, List, [], inl, inr, Option, Some, None, length, slice_get, slice_set, map, take, drop, refl, sym, ap, ◌∙◌, subst, arith}
 use Rattle.std.proofs.Math.ListN.{drop_of_length-le}
 use Rattle.std.proofs.lemmas.Bool.{eqb-true, eqb-false, true≢false}
@@ -6,7 +6,6 @@ use Rattle.std.proofs.lemmas.List.{length-drop}
 use Rattle.std.proofs.lemmas.Option.{none-some, same_Some as some_same}
 use Rattle.grasp_agent.specs.Calls.{next_call, agent_name, objective_name}
 use Rattle.grasp_agent.specs.Replies.{after_reply}
-use Rattle.grasp_agent.specs.States.{AgentState}
 use Rattle.grasp_model_node.specs.Begin.{begin, expired}
 use Rattle.grasp_model_node.specs.Draining.{closes, drained, after_drain}
 use Rattle.grasp_model_node.specs.Moves.{with_reading, with_registrations, with_sessions, with_discoveries, with_floods, begin_closing}
@@ -26,6 +25,8 @@ use Rattle.grasp_laws_network.proofs.EachNode.{IsMade, is_made, drain_steps}
 use Rattle.grasp_laws_network.proofs.Others.{put_elsewhere}
 use Rattle.grasp_laws_network.proofs.Sent.{sending_keeps_nodes}
 use Rattle.grasp_laws_network.proofs.Staying.{put_here}
+use Rattle.grasp_laws_network.proofs.Telling.{one_least}
+use Rattle.grasp_laws_network.specs.Telling.{OneAgent}
 use Rattle.grasp_model_network.specs.Runs.{IsReached, answered_seat, first_seat, first_world}
 use Rattle.grasp_model_network.specs.Sending as network
 use Rattle.grasp_model_network.specs.Sending.{seat_with, drained_at, drained_from}
@@ -33,7 +34,7 @@ use Rattle.grasp_model_network.specs.Setting.{Member, Setting, numbered}
 use Rattle.grasp_model_network.specs.Streams.{StreamEnd, StreamState, end_at, is_same_end}
 use Rattle.grasp_model_network.specs.Visits.{no_choice}
 use Rattle.grasp_model_network.specs.World.{Seat, WorldState, seat_at, with_seat, life_of}
-use Rattle.grasp_laws_delivery.proofs.AfterSteps.{IsPutOr, put_or, IsWanted, same, wanted}
+use Rattle.grasp_laws_delivery.proofs.AfterSteps.{agent_keeps}
 use Rattle.grasp_laws_negotiation.proofs.Events.{like_ends}
 use Rattle.grasp_laws_negotiation.proofs.Harmless.{IsLike, Harmless, handed_harmless}
 use Rattle.grasp_laws_negotiation.proofs.NodeMoves.{FromOld, NodeMove, move_stands, move_goes}
@@ -155,70 +156,57 @@ drained_goes l s w node max r k least place t u was there m = by_seat (seat_at w
   by_seat None here found = same_goes w place t u was found m
   by_seat (Some seat) here found = drain_goes l s w r k node max seat here least place t u was found m
 
--- ---- a want
+-- ---- another agent
 
-module _ (w : WorldState) (node : ℕ) (seat : Seat) (agent : AgentState) (least : 1 ≤ node) (here : seat_at w node ≡ Some seat) where
+module _ (w x : WorldState) (o : OneAgent w x) where
   -- each node has the core that it had
-  pub had : (n : ℕ) (other : Seat) → seat_at (with_seat w node (seat_with seat seat.core agent)) n ≡ Some other
-      → (before : Seat) × (seat_at w n ≡ Some before) × (other.core ≡ before.core) × (life_of other ≡ life_of before)
-  had n other found = by_put (put_or w.seats node (seat_with seat seat.core agent) n other least found) where
-    by_put : IsPutOr w.seats node (seat_with seat seat.core agent) n other → (before : Seat) × (seat_at w n ≡ Some before) × (other.core ≡ before.core) × (life_of other ≡ life_of before)
-    by_put (inl t) = (seat, ap (λ z. seat_at w z) t.0 ∙ here, ap (λ (z : Seat). z.core) (sym t.1), ap (λ (z : Seat). life_of z) (sym t.1))
-    by_put (inr t) = (other, t.1, refl, refl)
+  pub had : (n : ℕ) (other : Seat) → seat_at x n ≡ Some other → (before : Seat) × (seat_at w n ≡ Some before) × (other.core ≡ before.core) × (life_of other ≡ life_of before)
+  had =
+      agent_keeps (λ ts n other. (before : Seat) × (seat_at w n ≡ Some before) × (other.core ≡ before.core) × (life_of other ≡ life_of before)) w x o (λ k. (o.seat, o.here, refl, refl))
+      (λ n seat there. (seat, there, refl, refl))
 
-module _ (w : WorldState) (k : NetworkStands w) (node : ℕ) (seat : Seat) (agent : AgentState) (least : 1 ≤ node) (here : seat_at w node ≡ Some seat) where
+  -- and each stream is there that was
+  pub had_stream : (place : ℕ) (t : StreamState) → slice_get x.streams place ≡ Some t → slice_get w.streams place ≡ Some t
+  had_stream place t is = subst (λ (y : WorldState). slice_get y.streams place ≡ Some t) o.after is
+
   abbrev asked : Seat
-  asked = seat_with seat seat.core agent
-
-  abbrev x : WorldState
-  x = with_seat w node (seat_with seat seat.core agent)
+  asked = seat_with o.seat o.seat.core o.agent
 
   same_view : (e : StreamEnd) → view_seat e.number (seat_at x e.node) ≡ view_seat e.number (seat_at w e.node)
-  same_view e = by_node (e.node == node) refl where
-    by_node : (b : Bool) → (e.node == node) ≡ b → view_seat e.number (seat_at x e.node) ≡ view_seat e.number (seat_at w e.node)
+  same_view e = subst (λ (y : WorldState). view_seat e.number (seat_at y e.node) ≡ view_seat e.number (seat_at w e.node)) (sym o.after) (by_node (e.node == o.node) refl) where
+    by_node : (b : Bool) → (e.node == o.node) ≡ b → view_seat e.number (seat_at (with_seat w o.node asked) e.node) ≡ view_seat e.number (seat_at w e.node)
     by_node true is =
-        let at : e.node ≡ node = eqb-true e.node node is in
-        ap (λ o. view_seat e.number o) (ap (λ n. seat_at x n) at ∙ put_here w.seats node seat asked here) ∙ sym (ap (λ o. view_seat e.number o) (ap (λ n. seat_at w n) at ∙ here))
-    by_node false is = ap (λ o. view_seat e.number o) (put_elsewhere w.seats node e.node asked least (eqb-false e.node node is))
+        let at : e.node ≡ o.node = eqb-true e.node o.node is in
+        ap (λ z. view_seat e.number z) (ap (λ n. seat_at (with_seat w o.node asked) n) at ∙ put_here w.seats o.node o.seat asked o.here)
+        ∙ sym (ap (λ z. view_seat e.number z) (ap (λ n. seat_at w n) at ∙ o.here))
+    by_node false is = ap (λ z. view_seat e.number z) (put_elsewhere w.seats o.node e.node asked (one_least w x o) (eqb-false e.node o.node is))
 
   end_still : (e : StreamEnd) (p : Party) → EndStands w e p → EndStands x e p
   end_still e p stands = record {
     fits = subst (λ v. Fits v p.stage) (sym (same_view e)) stands.fits;
-    opens = λ other past found is. let h = had w node seat agent least here e.node other found in stands.opens h.0 past h.1 (subst (λ (z : NodeState). past_of z.streams e.number ≡ Some past) h.2 is);
+    opens = λ other past found is. let h = had e.node other found in stands.opens h.0 past h.1 (subst (λ (z : NodeState). past_of z.streams e.number ≡ Some past) h.2 is);
   }
 
-  side_still : (o : Option StreamEnd) (p : Party) → SideStands w o p → SideStands x o p
+  side_still : (e : Option StreamEnd) (p : Party) → SideStands w e p → SideStands x e p
   side_still None p stands = stands
   side_still (Some e) p stands = end_still e p stands
 
-  pub want_stands : NetworkStands x
-  want_stands = record {
-    clear = λ n other found stream. let h = had w node seat agent least here n other found in subst (λ (z : NodeState). IsClear z stream) (sym h.2) (k.clear n h.0 h.1 stream);
-    unseen = λ n other found stream none. let h = had w node seat agent least here n other found in
+  abbrev still : (t : StreamState) → Stands w t → Stands x t
+  still t m = record { talk = m.talk; reached = m.reached; said_is = m.said_is; near = end_still t.near m.talk.near m.near; far = side_still t.far m.talk.far m.far }
+
+  pub one_stands : NetworkStands w → NetworkStands x
+  one_stands k = record {
+    clear = λ n other found stream. let h = had n other found in subst (λ (z : NodeState). IsClear z stream) (sym h.2) (k.clear n h.0 h.1 stream);
+    unseen = λ n other found stream none. let h = had n other found in
+        let before = subst (λ (y : WorldState). NoStream y.streams (record { node = n; life = life_of other; number = stream })) o.after none in
         subst (λ (z : NodeState). view_on z stream ≡ None) (sym h.2)
-        (k.unseen n h.0 h.1 stream (subst (λ life. NoStream w.streams (record { node = n; life = life; number = stream })) h.3 none));
-    streams = λ place t is negotiation. still t (k.streams place t is negotiation);
-  } where
-    still : (t : StreamState) → Stands w t → Stands x t
-    still t m = record { talk = m.talk; reached = m.reached; said_is = m.said_is; near = end_still t.near m.talk.near m.near; far = side_still t.far m.talk.far m.far }
+        (k.unseen n h.0 h.1 stream (subst (λ life. NoStream w.streams (record { node = n; life = life; number = stream })) h.3 before));
+    streams = λ place t is negotiation. still t (k.streams place t (had_stream place t is) negotiation);
+  }
 
   -- a change of the agent of one node leaves each stream as it was, with no move made
-  pub want_goes : (place : ℕ) (t u : StreamState) → slice_get w.streams place ≡ Some t → slice_get w.streams place ≡ Some u → (m : Stands w t) → GoesTo x u m.talk
-  want_goes place t u was there m = subst (λ z. GoesTo x z m.talk) (some_same t u (sym was ∙ there)) (record {
-    stands = record { talk = m.talk; reached = m.reached; said_is = m.said_is; near = end_still t.near m.talk.near m.near; far = side_still t.far m.talk.far m.far };
-    moves = [];
-    ran = refl;
-  })
-
-pub wanted_stands : (w x : WorldState) → NetworkStands w → IsWanted w x → NetworkStands x
-wanted_stands w x k (same e) = subst NetworkStands (sym e) k
-wanted_stands w x k (wanted node seat agent least here e) = subst NetworkStands (sym e) (want_stands w k node seat agent least here)
-
-pub wanted_goes : (w x : WorldState) → NetworkStands w → IsWanted w x → (place : ℕ) (t u : StreamState) → slice_get w.streams place ≡ Some t → slice_get x.streams place ≡ Some u → (m : Stands w t) → GoesTo x u m.talk
-wanted_goes w x k (same e) place t u was there m =
-    subst (λ z. slice_get z.streams place ≡ Some u → GoesTo z u m.talk) (sym e) (λ found. same_goes w place t u was found m) there
-wanted_goes w x k (wanted node seat agent least here e) place t u was there m =
-    subst (λ z. slice_get z.streams place ≡ Some u → GoesTo z u m.talk) (sym e) (λ found. want_goes w k node seat agent least here place t u was found m) there
+  pub one_goes : (place : ℕ) (t u : StreamState) → slice_get w.streams place ≡ Some t → slice_get x.streams place ≡ Some u → (m : Stands w t) → GoesTo x u m.talk
+  one_goes place t u was there m = subst (λ z. GoesTo x z m.talk) (some_same t u (sym was ∙ had_stream place u there)) (record { stands = still t m; moves = []; ran = refl })
 
 -- ---- the first network
 

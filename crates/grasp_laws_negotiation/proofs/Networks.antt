@@ -16,9 +16,10 @@ use Rattle.grasp_laws_node_stories.specs.Stories.{came_by, fault_by, is_bad_rest
 use Rattle.grasp_session.specs.Messages.{Side, Near, other}
 use Rattle.grasp_laws_network.proofs.Growing.{visit_grows}
 use Rattle.grasp_laws_network.proofs.Here.{visits_are_here}
+use Rattle.grasp_laws_network.proofs.Telling.{one_agent, none_one}
 use Rattle.grasp_laws_network.proofs.Queues.{queues_grow}
 use Rattle.grasp_model_network.specs.StreamChanges.{arrived, arrival_by, reached_side, side_named}
-use Rattle.grasp_model_network.specs.Events.{Occurs, visit_of, after_visit, after_none, after_by, after_event, drains, drained_behind}
+use Rattle.grasp_model_network.specs.Events.{Occurs, visit_of, after_visit, after_by, after_event, drains, drained_behind}
 use Rattle.grasp_laws_network.specs.Keeping.{IsLonger, StreamsGrow}
 use Rattle.grasp_model_network.specs.Runs.{IsReached}
 use Rattle.grasp_model_network.specs.Sending.{event_drain}
@@ -28,7 +29,7 @@ use Rattle.grasp_model_network.specs.Visits.{Visit, Choice, MayCome, VisitStep}
 use Rattle.grasp_model_network.specs.World.{WorldState, seat_at, end_of}
 use Rattle.grasp_model_network.specs.declared.event.Event.{Event}
 use Rattle.grasp_model_network.specs.declared.event.Event.TheVariants as event
-use Rattle.grasp_laws_delivery.proofs.AfterSteps.{streams_before, streams_stepped, seats_stepped, none_wanted}
+use Rattle.grasp_laws_delivery.proofs.AfterSteps.{streams_before, streams_stepped, seats_stepped}
 use Rattle.grasp_laws_delivery.proofs.FromReady.{distinct, new_end, numbered_has}
 use Rattle.grasp_laws_delivery.proofs.Heard.Steps.{reached_is}
 use Rattle.grasp_laws_delivery.proofs.Holding.{IsStep, held_reached, parts_keep}
@@ -37,7 +38,7 @@ use Rattle.grasp_laws_delivery.proofs.OnePlace.{Placed, numbered_place, one_talk
 use Rattle.grasp_laws_delivery.proofs.Sides.{one_side}
 use Rattle.grasp_laws_delivery.specs.Pieces.{IsCutInFront}
 use Rattle.grasp_laws_delivery.specs.Ready.{HasGoodEnds, HasGoodNumber, FarWaits}
-use Rattle.grasp_laws_negotiation.proofs.Drained.{drained_stands, wanted_stands, first_stands, same_goes, drained_goes, wanted_goes}
+use Rattle.grasp_laws_negotiation.proofs.Drained.{drained_stands, one_stands, first_stands, same_goes, drained_goes, one_goes}
 use Rattle.grasp_laws_negotiation.proofs.Events.{Premade, harmless_premade, opened_premade, step_is}
 use Rattle.grasp_laws_negotiation.proofs.Harmless.{same_talks, delivered_harmless, told_harmless}
 use Rattle.grasp_laws_negotiation.proofs.NodeMoves.{NodeMove, move_stands, move_goes}
@@ -198,6 +199,7 @@ module _ (l : Grounds) (s : Setting) where
       → NodeMove w (after_visit s w e v c)
   steps w (event.Clock node millis) c v r k o is stepping q = after_quiet l s w r k (event.Clock node millis) c v o is stepping q (same_pre w v) (clock_quiet s w node millis v is)
   steps w (event.Want node length longest peer) c v r k o is stepping q = absurd stepping
+  steps w (event.Return node prefix peer) c v r k o is stepping q = absurd stepping
   steps w (event.Agent node hold) c v r k o is stepping q = after_quiet l s w r k (event.Agent node hold) c v o is stepping q (same_pre w v) (agent_quiet s w node hold v is)
   steps w (event.Api node asa call hold) c v r k o is stepping q =
       after_quiet l s w r k (event.Api node asa call hold) c v o is stepping q (same_pre w v) (call_quiet s w (event.Api node asa call hold) v node (input.Api asa call) is tt)
@@ -210,7 +212,7 @@ module _ (l : Grounds) (s : Setting) where
   pub network_stands : (w : WorldState) → IsReached s w → NetworkStands w
   network_stands w r = parts_keep s NetworkStands (record {
     steps = λ w e c v r k o is stepping q. move_stands w (after_visit s w e v c) (steps w e c v r k o is stepping q) k;
-    wants = λ w e r k fit. wanted_stands w (after_none s w e) k (none_wanted s w e fit);
+    told = λ w x e r t k. one_stands w x (one_agent s w e x t) k;
     drains = λ w node max r k least. drained_stands l s w node max r k least;
   }) (first_stands s) w r
 
@@ -221,6 +223,7 @@ module _ (l : Grounds) (s : Setting) where
   part_goes w (event.Clock node millis) c v r k o is q low place t u was there m =
       let e = event.Clock node millis in move_goes w (after_visit s w e v c) (steps w e c v r k o is tt q) k place t u was there m
   part_goes w (event.Want node length longest peer) c v r k o is q low place t u was there m = absurd (none-some v is)
+  part_goes w (event.Return node prefix peer) c v r k o is q low place t u was there m = absurd (none-some v is)
   part_goes w (event.Agent node hold) c v r k o is q low place t u was there m =
       let e = event.Agent node hold in move_goes w (after_visit s w e v c) (steps w e c v r k o is tt q) k place t u was there m
   part_goes w (event.Api node asa call hold) c v r k o is q low place t u was there m =
@@ -255,7 +258,8 @@ module _ (l : Grounds) (s : Setting) where
     k = network_stands w r
 
     by_visit : (x : Option Visit) → visit_of s w e ≡ x → slice_get (after_by s w e c x).streams place ≡ Some u → GoesTo (after_by s w e c x) u m.talk
-    by_visit None is found = wanted_goes w (after_none s w e) k (none_wanted s w e o.fit) place t u was found m
+    by_visit None is found =
+        none_one s w e (λ x. slice_get x.streams place ≡ Some u → GoesTo x u m.talk) (λ there. same_goes w place t u was there m) (λ x a there. one_goes w x a place t u was there m) found
     by_visit (Some v) is found =
         let low = (visits_are_here s w e v is).member.least in
         let q = held_reached s w e c v r o is in

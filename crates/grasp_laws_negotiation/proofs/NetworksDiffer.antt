@@ -8,7 +8,8 @@ use Rattle.grasp_types.specs.declared.reply.Reply.TheVariants.{Outputs}
 use Rattle.grasp_types.specs.declared.traffic.Input.TheVariants as input
 use Rattle.grasp_laws_network.proofs.EachNode.{drain_steps, nodes_are_sound}
 use Rattle.grasp_laws_network.proofs.Here.{visits_are_here}
-use Rattle.grasp_model_network.specs.Events.{Occurs, visit_of, after_visit, after_none}
+use Rattle.grasp_laws_network.proofs.Telling.{one_agent}
+use Rattle.grasp_model_network.specs.Events.{Occurs, visit_of, after_visit}
 use Rattle.grasp_laws_network.specs.Keeping.{IsHere}
 use Rattle.grasp_model_network.specs.Runs.{IsReached, first_world}
 use Rattle.grasp_model_network.specs.Sending as network
@@ -17,7 +18,7 @@ use Rattle.grasp_model_network.specs.Setting.{Setting}
 use Rattle.grasp_model_network.specs.Visits.{Visit, Choice, MayCome, VisitStep, no_choice}
 use Rattle.grasp_model_network.specs.World.{Seat, WorldState, seat_at}
 use Rattle.grasp_model_network.specs.declared.event.Event.{Event}
-use Rattle.grasp_laws_delivery.proofs.AfterSteps.{seats_stepped, each_seat, each_drained, want_keeps, none_wanted}
+use Rattle.grasp_laws_delivery.proofs.AfterSteps.{seats_stepped, each_seat, each_drained, agent_keeps}
 use Rattle.grasp_laws_delivery.proofs.Holding.{IsStep, parts_keep}
 use Rattle.grasp_laws_negotiation.proofs.Drained.{first_stands}
 use Rattle.grasp_laws_negotiation.proofs.Networks.{network_stands}
@@ -67,6 +68,6 @@ module _ (l : Grounds) (s : Setting) where
   pub all_differ : (w : WorldState) → IsReached s w → AllDiffer w
   all_differ w r = parts_keep s AllDiffer (record {
     steps = λ w e c v r d o is stepping q. event_differs w e c v r d o is stepping;
-    wants = λ w e r d fit. want_keeps (λ ts node seat. SeatDiffers node seat) w (after_none s w e) (λ node seat agent k. k) (none_wanted s w e fit) d;
+    told = λ w x e r t d. agent_keeps (λ ts node seat. SeatDiffers node seat) w x (one_agent s w e x t) (λ k. k) d;
     drains = λ w node max r d least. drain_differs w node max r d least;
   }) (first_differ s) w r

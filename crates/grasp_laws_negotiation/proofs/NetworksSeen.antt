@@ -1,11 +1,10 @@
 -- In every network that events lead to the sessions on the ends of each stream are those of its two sides.
-use Rattle.std.proofs.Common.{◌≡◌, ◌≤◌, ◌%◌, ℕ, length, Option, Some, None, take, refl, sym, subst}
+use Rattle.std.proofs.Common.{◌≡◌, ◌≤◌, ◌%◌, ℕ, length, slice_get, Option, Some, None, take, refl, sym, subst}
 use Rattle.std.proofs.lemmas.Option.{none-some}
-use Rattle.grasp_agent.specs.States.{AgentState}
 use Rattle.grasp_model_node.specs.Begin.{begin}
 use Rattle.grasp_model_node.specs.Draining.{closes, after_drain}
 use Rattle.grasp_model_node.specs.Node.{NodeState}
-use Rattle.grasp_model_network.specs.Events.{Occurs, visit_of, after_visit, after_none}
+use Rattle.grasp_model_network.specs.Events.{Occurs, visit_of, after_visit}
 use Rattle.grasp_model_network.specs.Runs.{IsReached, first_world}
 use Rattle.grasp_model_network.specs.Sending as network
 use Rattle.grasp_model_network.specs.Sending.{seat_with, drained_at, drained_from}
@@ -14,10 +13,11 @@ use Rattle.grasp_model_network.specs.Streams.{StreamEnd, StreamState}
 use Rattle.grasp_model_network.specs.Visits.{Visit, Choice}
 use Rattle.grasp_model_network.specs.World.{Seat, WorldState, seat_at, with_seat}
 use Rattle.grasp_model_network.specs.declared.event.Event.{Event}
-use Rattle.grasp_laws_delivery.proofs.AfterSteps.{IsWanted, same, wanted, none_wanted}
+use Rattle.grasp_laws_network.proofs.Telling.{one_agent}
+use Rattle.grasp_laws_network.specs.Telling.{OneAgent}
 use Rattle.grasp_laws_delivery.proofs.Holding.{IsStep, parts_keep}
 use Rattle.grasp_laws_delivery.specs.Ready.{HasGoodEnds}
-use Rattle.grasp_laws_negotiation.proofs.Drained.{drain_is, had}
+use Rattle.grasp_laws_negotiation.proofs.Drained.{drain_is, had, had_stream}
 use Rattle.grasp_laws_negotiation.proofs.Harmless.{Harmless, handed_harmless}
 use Rattle.grasp_laws_negotiation.proofs.Networks.{network_stands, steps}
 use Rattle.grasp_laws_negotiation.proofs.Standing.{NetworkStands}
@@ -59,21 +59,16 @@ drained_seen l s w node max r each least = by_seat (seat_at w node) refl where
   by_seat None here = each
   by_seat (Some seat) here = drain_seen l s w r each node max seat here least
 
--- ---- a want
+-- ---- another agent
 
-module _ (w : WorldState) (each : TalksSeen w) (node : ℕ) (seat : Seat) (agent : AgentState) (least : 1 ≤ node) (here : seat_at w node ≡ Some seat) where
-  want_seen : TalksSeen (with_seat w node (seat_with seat seat.core agent))
-  want_seen place t is = record {
-    speaks = (each place t is).speaks;
-    near = λ o found. let h = had w node seat agent least here t.near.node o found in
-        subst (λ (z : NodeState). NearAt z t.near.number (near_said t)) (sym h.2) ((each place t is).near h.0 h.1);
-    far = λ e at o found. let h = had w node seat agent least here e.node o found in
-        subst (λ (z : NodeState). FarAt z e.number (near_said t)) (sym h.2) ((each place t is).far e at h.0 h.1);
-  }
-
-wanted_seen : (w x : WorldState) → TalksSeen w → IsWanted w x → TalksSeen x
-wanted_seen w x each (same e) = subst TalksSeen (sym e) each
-wanted_seen w x each (wanted node seat agent least here e) = subst TalksSeen (sym e) (want_seen w each node seat agent least here)
+one_seen : (w x : WorldState) → OneAgent w x → TalksSeen w → TalksSeen x
+one_seen w x o each place t is = record {
+  speaks = (each place t before).speaks;
+  near = λ seat found. let h = had w x o t.near.node seat found in subst (λ (z : NodeState). NearAt z t.near.number (near_said t)) (sym h.2) ((each place t before).near h.0 h.1);
+  far = λ e at seat found. let h = had w x o e.node seat found in subst (λ (z : NodeState). FarAt z e.number (near_said t)) (sym h.2) ((each place t before).far e at h.0 h.1);
+} where
+  before : slice_get w.streams place ≡ Some t
+  before = had_stream w x o place t is
 
 -- ---- every network
 
@@ -91,6 +86,6 @@ step_seen l s w e c v r each o is stepping q =
 pub talks_seen : (l : Grounds) (s : Setting) (w : WorldState) → IsReached s w → TalksSeen w
 talks_seen l s w r = parts_keep s TalksSeen (record {
   steps = λ w e c v r each o is stepping q. step_seen l s w e c v r each o is stepping q;
-  wants = λ w e r each fit. wanted_seen w (after_none s w e) each (none_wanted s w e fit);
+  told = λ w x e r t each. one_seen w x (one_agent s w e x t) each;
   drains = λ w node max r each least. drained_seen l s w node max r each least;
 }) (first_seen s) w r

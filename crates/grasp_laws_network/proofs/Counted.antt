@@ -1,5 +1,5 @@
 -- The count of bytes is that of all datagrams and streams that were sent.
-use Rattle.std.proofs.Common.{◌≡◌, refl, sym, ap, ◌∙◌, arith, ℕ, ◌+◌, ◌*◌, Bool, true, false, cond, List, [], ◌∷◌, ◌++◌, length, fold, take, sum_by, is_some, Option, Some, None}
+use Rattle.std.proofs.Common.{◌≡◌, refl, sym, ap, ◌∙◌, subst, arith, ℕ, ◌+◌, ◌*◌, Bool, true, false, cond, List, [], ◌∷◌, ◌++◌, length, fold, take, sum_by, is_some, Option, Some, None}
 use Rattle.std.proofs.Math.Nat.{add-mul}
 use Rattle.std.proofs.lemmas.List.{length-append}
 use Rattle.std.proofs.lemmas.List.Sums.{sum_by-append, sum_by-cons}
@@ -10,12 +10,12 @@ use Rattle.grasp_model_node.specs.Draining.{closes, after_drain}
 use Rattle.grasp_model_node.specs.Node.{NodeState}
 use Rattle.grasp_model_node.specs.Queue.{Queued, datagram, dial, send, encoding}
 use Rattle.grasp_session.specs.Messages.{Side, Near, Far}
-use Rattle.grasp_types.specs.declared.address.Locator.{Locator}
 use Rattle.grasp_types.specs.declared.message.Message.{Message}
 use Rattle.grasp_types.specs.declared.reply.Reply.{Reply}
 use Rattle.grasp_wire.specs.Laws.{encoded}
 use Rattle.grasp_laws_network.proofs.Reached.{reached_keeps}
-use Rattle.grasp_model_network.specs.EventSteps.{after_agent_call, after_agent, after_arrival, after_clock, wanted_by, wanted_at, after_wanting, after_cut, after_delivery, after_piece}
+use Rattle.grasp_laws_network.proofs.Telling.{none_one}
+use Rattle.grasp_model_network.specs.EventSteps.{after_agent_call, after_agent, after_arrival, after_clock, after_cut, after_delivery, after_piece}
 use Rattle.grasp_model_network.specs.StreamChanges.{arrived, arrival_by, told, Reached, reached_side, side_named, delivered}
 use Rattle.grasp_model_network.specs.Events.{visit_of, after_visit, after_none, after_by, after_event, drains, drained_behind}
 use Rattle.grasp_laws_network.specs.Keeping.{IsCounted, BytesAreCounted}
@@ -23,7 +23,7 @@ use Rattle.grasp_model_network.specs.Notes.{noted}
 use Rattle.grasp_model_network.specs.Routes.{Route, route_of}
 use Rattle.grasp_model_network.specs.Runs.{first_world}
 use Rattle.grasp_model_network.specs.Sending.{gained, having_made, streams_made, seat_with, stepped, posted, dialled, sent_at, having_sent, having_closed, handed_over, drained, drained_at, drained_from, event_drain}
-use Rattle.grasp_model_network.specs.Setting.{Setting, numbered}
+use Rattle.grasp_model_network.specs.Setting.{Setting}
 use Rattle.grasp_model_network.specs.Streams.{StreamEnd, Arrival, StreamState, told_closed, fresh_stream, side_of_end, has_end, with_side, with_said, with_sent, with_ended, with_delivered, with_number, with_far, changed_by, at_end, change_at_end, count_at_end, stream_numbered}
 use Rattle.grasp_model_network.specs.Visits.{Visit, Choice}
 use Rattle.grasp_model_network.specs.World.{Seat, WorldState, seat_at, with_seat, end_of, datagram_bytes, stream_bytes, bytes_sent}
@@ -217,6 +217,7 @@ pub visit_counts : (s : Setting) (w : WorldState) (e : Event) (v : Visit) (c : C
 unfolding after_clock after_agent after_agent_call after_delivery after_arrival after_piece after_cut noted
 visit_counts s w (event.Clock node millis) v c h = stepped_counts w v c.after v.seat.agent h
 visit_counts s w (event.Want node length longest peer) v c h = h
+visit_counts s w (event.Return node prefix peer) v c h = h
 visit_counts s w (event.Agent node hold) v c h =
     also_counts (stepped w v c.after (after_reply v.seat.agent c.reply)) (after_agent w v c) (record { count = refl; datagrams = refl; streams = refl })
     (stepped_counts w v c.after (after_reply v.seat.agent c.reply) h)
@@ -239,18 +240,8 @@ pub behind_counts : (b : Bool) (s : Setting) (w : WorldState) (node : ℕ) → I
 behind_counts true s w node h = drained_counts s w node event_drain h
 behind_counts false s w node h = h
 
-pub wanted_counts : (w : WorldState) (node : ℕ) (seat : Seat) (wanted longest : ℕ) (peer : Option Locator) → IsCounted w → IsCounted (wanted_by w node seat wanted longest peer)
-wanted_counts w node seat wanted longest None h = h
-wanted_counts w node seat wanted longest (Some peer) h = seats_count w (wanted_by w node seat wanted longest (Some peer)).seats h
-
-pub wanting_counts : (s : Setting) (w : WorldState) (node wanted longest peer : ℕ) (o : Option Seat) → IsCounted w → IsCounted (wanted_at s w node wanted longest peer o)
-wanting_counts s w node wanted longest peer None h = h
-wanting_counts s w node wanted longest peer (Some seat) h = wanted_counts w node seat wanted longest (numbered s.peers peer) h
-
 pub none_counts : (s : Setting) (w : WorldState) (e : Event) → IsCounted w → IsCounted (after_none s w e)
-unfolding after_wanting
-none_counts s w (event.Want node wanted longest peer) h = wanting_counts s w node wanted longest peer (seat_at w node) h
-none_counts s w _ h = h
+none_counts s w e h = none_one s w e IsCounted h (λ x o. also_counts w x (subst (λ (y : WorldState). CountsAs w y) (sym o.after) (record { count = refl; datagrams = refl; streams = refl })) h)
 
 pub by_counts : (s : Setting) (w : WorldState) (e : Event) (c : Choice) (o : Option Visit) → IsCounted w → IsCounted (after_by s w e c o)
 by_counts s w e c None h = none_counts s w e h

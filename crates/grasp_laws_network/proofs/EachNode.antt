@@ -1,7 +1,7 @@
 -- What each step keeps is so of each node of a network that events lead to.
 use Rattle.std.proofs.Common.{◌≡◌, ◌≢◌, refl, sym, ap, ◌∙◌, subst, arith, tests, ℕ, zero, suc, ◌-◌, ◌≤◌, ◌==◌, Bool, true, false, cond, List, [], ◌∷◌, map, slice_get, slice_set, take, Option, Some, None}
 use Rattle.std.proofs.lemmas.Option.{none-some, same_Some}
-use Rattle.grasp_agent.specs.Replies.{after_reply, want_reply, after_want}
+use Rattle.grasp_agent.specs.Replies.{after_reply}
 use Rattle.grasp_agent.specs.States.{AgentState}
 use Rattle.grasp_laws_node.proofs.Bounded.Nodes.{nodes_kept}
 use Rattle.grasp_model_node.specs.Begin.{begin}
@@ -9,7 +9,6 @@ use Rattle.grasp_model_node.specs.Draining.{closes, drained, after_drain}
 use Rattle.grasp_model_node.specs.Node.{NodeState, first_node}
 use Rattle.grasp_model_node.specs.BoundedNodes.{IsBoundedNode}
 use Rattle.grasp_model_node.specs.Step.{Coming, NodeStep}
-use Rattle.grasp_types.specs.declared.address.Locator.{Locator}
 use Rattle.grasp_types.specs.declared.reply.ApiAnswer.TheVariants as answer
 use Rattle.grasp_types.specs.declared.reply.Reply.{Reply}
 use Rattle.grasp_types.specs.declared.reply.Reply.TheVariants as reply
@@ -21,12 +20,14 @@ use Rattle.grasp_laws_network.proofs.Others.{put_elsewhere, arrived_keeps, deliv
 use Rattle.grasp_laws_node.proofs.PlansStay.{step_plan}
 use Rattle.grasp_laws_network.proofs.Reached.{reached_keeps}
 use Rattle.grasp_laws_network.proofs.Sent.{sending_keeps_nodes}
-use Rattle.grasp_model_network.specs.EventSteps.{after_agent_call, after_agent, agent_input, after_arrival, after_clock, wanted_by, wanted_at, after_wanting, after_cut, after_delivery, after_piece}
+use Rattle.grasp_laws_network.proofs.Telling.{none_one, one_least}
+use Rattle.grasp_model_network.specs.EventSteps.{after_agent_call, after_agent, agent_input, after_arrival, after_clock, after_cut, after_delivery, after_piece}
 use Rattle.grasp_model_network.specs.StreamChanges.{arrived, told, reached_side, side_named, delivered}
-use Rattle.grasp_model_network.specs.Events.{visit_of, after_visit, after_none, after_by, after_event, drains, drained_behind, IsFit, Occurs}
+use Rattle.grasp_model_network.specs.Events.{visit_of, after_visit, after_by, after_event, drains, drained_behind, Occurs}
 use Rattle.grasp_laws_network.specs.Keeping.{IsHere}
 use Rattle.grasp_laws_network.specs.Laws.{OpeningsAreSteps}
 use Rattle.grasp_laws_network.specs.Nodes.{OfEachNode, HasPlanOf, NodesAreSound}
+use Rattle.grasp_laws_network.specs.Telling.{OneAgent}
 use Rattle.grasp_model_network.specs.Notes.{noted}
 use Rattle.grasp_model_network.specs.Runs.{IsReached, first_seat, first_world, fresh_seat, answered_seat}
 use Rattle.grasp_model_network.specs.Sending as network
@@ -106,6 +107,7 @@ pub visit_each : (P : ℕ → NodeState → Type 0) (s : Setting) (w : WorldStat
 unfolding after_clock after_agent after_agent_call after_delivery after_arrival after_piece after_cut noted
 visit_each P s w (event.Clock node millis) v c keep least p each = stepped_each P w w (after_clock w v c) v c.after v.seat.agent least refl refl p each
 visit_each P s w (event.Want node wanted longest peer) v c keep least p each = each
+visit_each P s w (event.Return node prefix peer) v c keep least p each = each
 visit_each P s w (event.Agent node hold) v c keep least p each =
     stepped_each P w w (after_agent w v c) v c.after (after_reply v.seat.agent c.reply) least refl refl p each
 visit_each P s w (event.Api node asa call hold) v c keep least p each = stepped_each P w w (after_agent_call w v asa call c) v c.after v.seat.agent least refl refl p each
@@ -125,31 +127,18 @@ pub behind_each : (P : ℕ → NodeState → Type 0) (b : Bool) (s : Setting) (w
 behind_each P true s w node keep least each = drained_each P s w node event_drain keep least each
 behind_each P false s w node keep least each = each
 
--- ---- a want
+-- ---- another agent
 
-pub wanted_each : (P : ℕ → NodeState → Type 0) (w : WorldState) (node : ℕ) (seat : Seat) (wanted longest : ℕ) (peer : Option Locator) → 1 ≤ node → seat_at w node ≡ Some seat → OfEachNode P w
-    → OfEachNode P (wanted_by w node seat wanted longest peer)
-wanted_each P w node seat wanted longest None least here each = each
-wanted_each P w node seat wanted longest (Some peer) least here each =
-    put_each P w (wanted_by w node seat wanted longest (Some peer)) node (seat_with seat seat.core (after_want seat.agent wanted longest peer (want_reply seat.agent))) least refl
-    (each node seat here) each
-
-pub wanting_each : (P : ℕ → NodeState → Type 0) (s : Setting) (w : WorldState) (node wanted longest peer : ℕ) (o : Option Seat) → 1 ≤ node → seat_at w node ≡ o → OfEachNode P w
-    → OfEachNode P (wanted_at s w node wanted longest peer o)
-wanting_each P s w node wanted longest peer None least here each = each
-wanting_each P s w node wanted longest peer (Some seat) least here each = wanted_each P w node seat wanted longest (numbered s.peers peer) least here each
-
-pub none_each : (P : ℕ → NodeState → Type 0) (s : Setting) (w : WorldState) (e : Event) → IsFit s w e → OfEachNode P w → OfEachNode P (after_none s w e)
-unfolding after_wanting
-none_each P s w (event.Want node wanted longest peer) fit each = wanting_each P s w node wanted longest peer (seat_at w node) fit.0.least refl each
-none_each P s w _ fit each = each
+pub one_each : (P : ℕ → NodeState → Type 0) (w x : WorldState) → OneAgent w x → OfEachNode P w → OfEachNode P x
+one_each P w x o each =
+    put_each P w x o.node (seat_with o.seat o.seat.core o.agent) (one_least w x o) (ap (λ (y : WorldState). y.seats) o.after) (each o.node o.seat o.here) each
 
 -- ---- an event
 
-pub by_each : (P : ℕ → NodeState → Type 0) (s : Setting) (w : WorldState) (e : Event) (c : Choice) (o : Option Visit) → StepsKeep P → visit_of s w e ≡ o → IsFit s w e → MayCome o c
-    → OfEachNode P w → OfEachNode P (after_by s w e c o)
-by_each P s w e c None keep is fit comes each = none_each P s w e fit each
-by_each P s w e c (Some v) keep is fit comes each = at_node (visits_are_here s w e v is) where
+pub by_each : (P : ℕ → NodeState → Type 0) (s : Setting) (w : WorldState) (e : Event) (c : Choice) (o : Option Visit) → StepsKeep P → visit_of s w e ≡ o → MayCome o c → OfEachNode P w
+    → OfEachNode P (after_by s w e c o)
+by_each P s w e c None keep is comes each = none_one s w e (OfEachNode P) each (λ x o. one_each P w x o each)
+by_each P s w e c (Some v) keep is comes each = at_node (visits_are_here s w e v is) where
   at_node : IsHere w v → OfEachNode P (after_by s w e c (Some v))
   at_node here =
       behind_each P (drains e) s (after_visit s w e v c) v.node keep here.member.least
@@ -157,7 +146,7 @@ by_each P s w e c (Some v) keep is fit comes each = at_node (visits_are_here s w
 
 pub event_each : (P : ℕ → NodeState → Type 0) (s : Setting) (w : WorldState) (e : Event) (c : Choice) → StepsKeep P → Occurs s w e c → OfEachNode P w → OfEachNode P (after_event s w e c)
 unfolding after_event
-event_each P s w e c keep occurs each = by_each P s w e c (visit_of s w e) keep refl occurs.fit occurs.comes each
+event_each P s w e c keep occurs each = by_each P s w e c (visit_of s w e) keep refl occurs.comes each
 
 -- ---- the beginning
 

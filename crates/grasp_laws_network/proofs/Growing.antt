@@ -9,18 +9,19 @@ use Rattle.grasp_model_node.specs.Draining.{closes, after_drain}
 use Rattle.grasp_model_node.specs.Node.{NodeState}
 use Rattle.grasp_model_node.specs.Queue.{Queued, datagram, dial, send, encoding}
 use Rattle.grasp_session.specs.Messages.{Side, Near, Far, other}
-use Rattle.grasp_types.specs.declared.address.Locator.{Locator}
 use Rattle.grasp_types.specs.declared.call.Call.{Call}
 use Rattle.grasp_types.specs.declared.message.Message.{Message}
 use Rattle.grasp_types.specs.declared.reply.Reply.{Reply}
-use Rattle.grasp_model_network.specs.EventSteps.{after_agent_call, after_agent, after_arrival, after_clock, wanted_by, wanted_at, after_wanting, after_cut, after_delivery, answers_in, after_piece}
+use Rattle.grasp_model_network.specs.EventSteps.{after_agent_call, after_agent, after_arrival, after_clock, after_cut, after_delivery, answers_in, after_piece}
 use Rattle.grasp_model_network.specs.StreamChanges.{arrived, arrival_by, told, Reached, reached_side, side_named, delivered}
 use Rattle.grasp_model_network.specs.Events.{visit_of, after_visit, after_none, after_by, after_event, drains, drained_behind}
+use Rattle.grasp_laws_network.proofs.Telling.{none_one}
+use Rattle.grasp_laws_network.specs.Telling.{OneAgent}
 use Rattle.grasp_laws_network.specs.Keeping.{IsLonger, DirectionGrows, StreamGrows, StreamsGrow, WorldGrows, WhatWasSentStays}
 use Rattle.grasp_model_network.specs.Notes.{noted, handles_in, floods_in, floods_read_in, searches_in}
 use Rattle.grasp_model_network.specs.Routes.{Route, route_of}
 use Rattle.grasp_model_network.specs.Sending.{gained, having_made, streams_made, seat_with, stepped, posted, dialled, sent_at, having_sent, having_closed, handed_over, drained, drained_at, drained_from, event_drain}
-use Rattle.grasp_model_network.specs.Setting.{Setting, numbered}
+use Rattle.grasp_model_network.specs.Setting.{Setting}
 use Rattle.grasp_model_network.specs.Streams.{StreamEnd, Arrival, Direction, StreamState, told_closed, fresh_stream, side_of_end, sent_by, next_bytes, with_direction, with_side, with_said, with_sent, with_ended, with_delivered, with_number, with_far, changed_by, change_at_end, count_at_end, stream_numbered}
 use Rattle.grasp_model_network.specs.Visits.{Visit, Choice}
 use Rattle.grasp_model_network.specs.World.{Seat, DiscoveryAnswer, Offered, WorldState, seat_at, with_seat, end_of}
@@ -166,9 +167,9 @@ world_then w x y a b = record {
   handles = longer_then w.handles x.handles y.handles a.handles b.handles;
 }
 
--- with other nodes
-pub seats_grow : (w : WorldState) (seats : List Seat) → WorldGrows w (record w { seats = seats })
-seats_grow w seats = record {
+-- with other nodes and offers
+pub seats_grow : (w : WorldState) (seats : List Seat) (offers settled : List Offered) → WorldGrows w (record w { seats = seats; offers = offers; settled = settled })
+seats_grow w seats offers settled = record {
   datagrams = as_long w.datagrams;
   streams = same_talks w.streams;
   dials = itself w.dials;
@@ -270,7 +271,7 @@ drained_by_grows s w node max (Some seat) = from (begin seat.core seat.core.read
 
   from : (m : NodeState) → WorldGrows w (drained_from s w node seat m max)
   from m =
-      world_then w (put m) (drained_from s w node seat m max) (seats_grow w (put m).seats)
+      world_then w (put m) (drained_from s w node seat m max) (seats_grow w (put m).seats w.offers w.settled)
       (handed_grows s (put m) node seat (take max m.queue) (closes m max))
 
 pub drained_grows : (s : Setting) (w : WorldState) (node max : ℕ) → WorldGrows w (drained s w node max)
@@ -305,19 +306,6 @@ noted_grows w v asa call r = record {
   searches = longer_by w.searches (searches_in v r);
   answers = as_long w.answers;
   handles = longer_by w.handles (handles_in v r);
-}
-
-pub offers_grow : (w : WorldState) (offers : List Offered) → WorldGrows w (record w { offers = offers })
-offers_grow w offers = record {
-  datagrams = as_long w.datagrams;
-  streams = same_talks w.streams;
-  dials = itself w.dials;
-  byte_count = itself w.byte_count;
-  flood_calls = as_long w.flood_calls;
-  floods_read = as_long w.floods_read;
-  searches = as_long w.searches;
-  answers = as_long w.answers;
-  handles = as_long w.handles;
 }
 
 pub answers_grow : (w : WorldState) (answers : List DiscoveryAnswer) → WorldGrows w (record w { answers = w.answers ++ answers })
@@ -364,10 +352,11 @@ pub visit_grows : (s : Setting) (w : WorldState) (e : Event) (v : Visit) (c : Ch
 unfolding after_clock after_agent after_agent_call after_delivery after_arrival after_piece after_cut
 visit_grows s w (event.Clock node millis) v c = stepped_grows w v c.after v.seat.agent
 visit_grows s w (event.Want node length longest peer) v c = same_world w
+visit_grows s w (event.Return node prefix peer) v c = same_world w
 visit_grows s w (event.Agent node hold) v c =
     world_then w (noted (put) v v.seat.agent.asa (next_call v.seat.agent) c.reply) (after_agent w v c)
     (world_then w put (noted put v v.seat.agent.asa (next_call v.seat.agent) c.reply) (stepped_grows w v c.after (after_reply v.seat.agent c.reply)) (noted_grows put v v.seat.agent.asa (next_call v.seat.agent) c.reply))
-    (offers_grow (noted put v v.seat.agent.asa (next_call v.seat.agent) c.reply) (after_agent w v c).offers)
+    (seats_grow (noted put v v.seat.agent.asa (next_call v.seat.agent) c.reply) (after_agent w v c).seats (after_agent w v c).offers (after_agent w v c).settled)
   where
     put : WorldState
     put = stepped w v c.after (after_reply v.seat.agent c.reply)
@@ -387,18 +376,13 @@ pub behind_grows : (b : Bool) (s : Setting) (w : WorldState) (node : ℕ) → Wo
 behind_grows true s w node = drained_grows s w node event_drain
 behind_grows false s w node = same_world w
 
-pub wanted_grows : (w : WorldState) (node : ℕ) (seat : Seat) (wanted longest : ℕ) (peer : Option Locator) → WorldGrows w (wanted_by w node seat wanted longest peer)
-wanted_grows w node seat wanted longest None = same_world w
-wanted_grows w node seat wanted longest (Some peer) = seats_grow w (wanted_by w node seat wanted longest (Some peer)).seats
-
-pub wanting_at_grows : (s : Setting) (w : WorldState) (node wanted longest peer : ℕ) (o : Option Seat) → WorldGrows w (wanted_at s w node wanted longest peer o)
-wanting_at_grows s w node wanted longest peer None = same_world w
-wanting_at_grows s w node wanted longest peer (Some seat) = wanted_grows w node seat wanted longest (numbered s.peers peer)
+-- another agent sends nothing
+pub one_grows : (w x : WorldState) → OneAgent w x → WorldGrows w x
+one_grows w x o =
+    subst (λ (y : WorldState). WorldGrows w y) (sym o.after) (seats_grow w (with_seat w o.node (seat_with o.seat o.seat.core o.agent)).seats o.offers o.settled)
 
 pub none_grows : (s : Setting) (w : WorldState) (e : Event) → WorldGrows w (after_none s w e)
-unfolding after_wanting
-none_grows s w (event.Want node wanted longest peer) = wanting_at_grows s w node wanted longest peer (seat_at w node)
-none_grows s w _ = same_world w
+none_grows s w e = none_one s w e (λ x. WorldGrows w x) (same_world w) (one_grows w)
 
 pub by_grows : (s : Setting) (w : WorldState) (e : Event) (c : Choice) (o : Option Visit) → WorldGrows w (after_by s w e c o)
 by_grows s w e c None = none_grows s w e

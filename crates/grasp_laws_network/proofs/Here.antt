@@ -90,6 +90,7 @@ pub visits_are_here : VisitsAreHere
 unfolding agent_visit datagram_visit arrival_visit piece_visit cut_visit
 visits_are_here s w (event.Clock node millis) v is = clock_here w node millis v (seat_at w node) refl is
 visits_are_here s w (event.Want node length longest peer) v is = absurd (none-some v is)
+visits_are_here s w (event.Return node prefix peer) v is = absurd (none-some v is)
 visits_are_here s w (event.Agent node hold) v is = agent_here w node v (seat_at w node) refl is
 visits_are_here s w (event.Api node asa call hold) v is = visit_here w node (Api asa call) v is
 visits_are_here s w (event.Datagram index hold) v is = datagram_here w v (numbered w.datagrams index) is

@@ -6,11 +6,14 @@ pub mod GoodPlans
 pub mod Growing
 pub mod Here
 pub mod Links
+pub mod Noted
 pub mod Opened
 pub mod Openings
 pub mod Others
 pub mod Queues
 pub mod Reached
+pub mod Returned
 pub mod Routing
 pub mod Sent
 pub mod Staying
+pub mod Telling

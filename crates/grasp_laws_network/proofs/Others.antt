@@ -99,6 +99,7 @@ pub visit_same : (s : Setting) (w : WorldState) (e : Event) (v : Visit) (c : Cho
 unfolding after_clock after_agent after_agent_call after_delivery after_arrival after_piece after_cut noted
 visit_same s w (event.Clock node millis) v c least = noted_same w v c v.seat.agent least
 visit_same s w (event.Want node length longest peer) v c least = same_seats v.node w w refl
+visit_same s w (event.Return node prefix peer) v c least = same_seats v.node w w refl
 visit_same s w (event.Agent node hold) v c least =
     also v.node w (stepped w v c.after (after_reply v.seat.agent c.reply)) (after_agent w v c) refl (noted_same w v c (after_reply v.seat.agent c.reply) least)
 visit_same s w (event.Api node asa call hold) v c least =

@@ -2,6 +2,7 @@
 use Rattle.std.proofs.Common.{◌≡◌, refl, sym, ap, ◌∙◌, subst, ℕ, zero, suc, ◌-◌, ◌≤◌, ◌==◌, Bool, true, false, cond, List, [], ◌∷◌, length, slice_get, slice_set, Option, Some, None, Result, Ok, Err}
 use Rattle.std.proofs.lemmas.List.{length-map, length-set}
 use Rattle.std.proofs.lemmas.Option.{none-some, same_Some}
+use Rattle.grasp_agent.specs.Replies as agent
 use Rattle.grasp_agent.specs.Replies.{want_reply, after_want, new_want}
 use Rattle.grasp_agent.specs.States.{AgentState}
 use Rattle.grasp_agent.specs.declared.want.Want.{Want}
@@ -9,32 +10,25 @@ use Rattle.grasp_agent.specs.declared.want.WantFault.{WantFault}
 use Rattle.grasp_types.specs.declared.address.Locator.{Locator}
 use Rattle.grasp_laws_network.proofs.Others.{put_same, event_same}
 use Rattle.grasp_laws_network.proofs.Reached.{reached_keeps}
-use Rattle.grasp_model_network.specs.EventSteps.{wanted_by, wanted_at, after_wanting}
+use Rattle.grasp_laws_network.proofs.Telling.{none_one}
 use Rattle.grasp_model_network.specs.Events.{visit_of, after_none, after_by, after_event}
 use Rattle.grasp_laws_network.specs.Keeping.{SeatsStay, WantChanges, WantsChangeWants}
+use Rattle.grasp_laws_network.specs.Telling.{OneAgent}
 use Rattle.grasp_model_network.specs.Runs.{first_seat, first_world}
 use Rattle.grasp_model_network.specs.Sending.{seat_with}
 use Rattle.grasp_model_network.specs.Setting.{Setting, numbered}
+use Rattle.grasp_model_network.specs.Telling.{Telling, want_told, after_telling, after_told}
 use Rattle.grasp_model_network.specs.Visits.{Visit, Choice}
 use Rattle.grasp_model_network.specs.World.{Seat, WorldState, seat_at, with_seat}
 use Rattle.grasp_model_network.specs.declared.event.Event.{Event}
-use Rattle.grasp_model_network.specs.declared.event.Event.TheVariants as event
 
 -- ---- as many nodes as before
 
-pub wanted_same : (w : WorldState) (node : ℕ) (seat : Seat) (wanted longest : ℕ) (peer : Option Locator) → length (wanted_by w node seat wanted longest peer).seats ≡ length w.seats
-wanted_same w node seat wanted longest None = refl
-wanted_same w node seat wanted longest (Some peer) =
-    length-set w.seats (node - 1) (seat_with seat seat.core (after_want seat.agent wanted longest peer (want_reply seat.agent)))
-
-pub wanting_same : (s : Setting) (w : WorldState) (node wanted longest peer : ℕ) (o : Option Seat) → length (wanted_at s w node wanted longest peer o).seats ≡ length w.seats
-wanting_same s w node wanted longest peer None = refl
-wanting_same s w node wanted longest peer (Some seat) = wanted_same w node seat wanted longest (numbered s.peers peer)
+pub one_same : (w x : WorldState) → OneAgent w x → length x.seats ≡ length w.seats
+one_same w x o = ap (λ (y : WorldState). length y.seats) o.after ∙ length-set w.seats (o.node - 1) (seat_with o.seat o.seat.core o.agent)
 
 pub none_same : (s : Setting) (w : WorldState) (e : Event) → length (after_none s w e).seats ≡ length w.seats
-unfolding after_wanting
-none_same s w (event.Want node wanted longest peer) = wanting_same s w node wanted longest peer (seat_at w node)
-none_same s w _ = refl
+none_same s w e = none_one s w e (λ x. length x.seats ≡ length w.seats) refl (one_same w)
 
 pub seats_stay_each : (s : Setting) (w : WorldState) (e : Event) (c : Choice) → length (after_event s w e c).seats ≡ length w.seats
 unfolding after_event
@@ -71,6 +65,13 @@ put_here seats node seat other e = by_zero (node == 0) refl where
   by_zero true is = absurd (none-some seat (subst (λ z. cond z None (slice_get seats (node - 1)) ≡ Some seat) is e))
   by_zero false is = rw is (set_here seats (node - 1) seat other (subst (λ z. cond z None (slice_get seats (node - 1)) ≡ Some seat) is e))
 
+-- the agent of a node that was told something is found there
+pub told_here : (w : WorldState) (t : Telling) (seat old : Seat) → seat_at w t.node ≡ Some seat → seat_at w t.node ≡ Some old
+    → seat_at (after_telling w t (Some seat)) t.node ≡ Some (seat_with old old.core (agent.after_event old.agent t.what))
+told_here w t seat old here e =
+    put_here w.seats t.node seat (seat_with seat seat.core (agent.after_event seat.agent t.what)) here
+    ∙ ap (λ (x : Seat). Some (seat_with x x.core (agent.after_event x.agent t.what))) (same_Some seat old (sym here ∙ e))
+
 abbrev want_after : AgentState → ℕ → ℕ → Locator → Result (Unit {0}) WantFault → Option Want
 want_after a wanted longest peer (Ok done) = Some (new_want wanted longest peer)
 want_after a wanted longest peer (Err fault) = a.want
@@ -83,28 +84,28 @@ want_alone a wanted longest peer (Err fault) = refl
 pub nothing_changes : (w : WorldState) (node : ℕ) → WantChanges w w node
 nothing_changes w node = record { others = λ n apart. refl; own = λ seat e. (seat.agent.want, e); rest = refl }
 
-pub wanted_changes : (w : WorldState) (node : ℕ) (seat : Seat) (wanted longest : ℕ) (peer : Option Locator) → 1 ≤ node → seat_at w node ≡ Some seat
-    → WantChanges w (wanted_by w node seat wanted longest peer) node
-wanted_changes w node seat wanted longest None least here = nothing_changes w node
-wanted_changes w node seat wanted longest (Some peer) least here = record {
+pub wanted_changes : (w : WorldState) (node : ℕ) (seat : Seat) (wanted longest : ℕ) (peer : Locator) → 1 ≤ node → seat_at w node ≡ Some seat
+    → WantChanges w (after_telling w (record { node = node; what = agent.wanted wanted longest peer }) (Some seat)) node
+wanted_changes w node seat wanted longest peer least here = record {
   others = (put_same node w (with_seat w node put) put least refl).others;
-  own = λ old e. (want_after seat.agent wanted longest peer (want_reply seat.agent), put_here w.seats node seat put here ∙ ap (λ x. Some x) (same old (same_Some seat old (sym here ∙ e))));
+  own = λ old e. (
+    want_after old.agent wanted longest peer (want_reply old.agent),
+    told_here w (record { node = node; what = agent.wanted wanted longest peer }) seat old here e
+        ∙ ap (λ a. Some (seat_with old old.core a)) (want_alone old.agent wanted longest peer (want_reply old.agent)),
+  );
   rest = refl;
 }
   where
     put : Seat
     put = seat_with seat seat.core (after_want seat.agent wanted longest peer (want_reply seat.agent))
 
-    same : (old : Seat) → seat ≡ old → put ≡ record old { agent = record old.agent { want = want_after seat.agent wanted longest peer (want_reply seat.agent) } }
-    same old e =
-        subst (λ x. put ≡ record x { agent = record x.agent { want = want_after seat.agent wanted longest peer (want_reply seat.agent) } }) e
-        (ap (λ a. seat_with seat seat.core a) (want_alone seat.agent wanted longest peer (want_reply seat.agent)))
-
-pub wanting_changes : (s : Setting) (w : WorldState) (node wanted longest peer : ℕ) (o : Option Seat) → 1 ≤ node → seat_at w node ≡ o
-    → WantChanges w (wanted_at s w node wanted longest peer o) node
-wanting_changes s w node wanted longest peer None least here = nothing_changes w node
-wanting_changes s w node wanted longest peer (Some seat) least here = wanted_changes w node seat wanted longest (numbered s.peers peer) least here
-
 pub wants_change_wants : WantsChangeWants
-unfolding after_event after_wanting
-wants_change_wants s w node wanted longest peer c least = wanting_changes s w node wanted longest peer (seat_at w node) least refl
+unfolding after_event
+wants_change_wants s w node wanted longest peer c least = by_peer (numbered s.peers peer) where
+  by_seat : (to : Locator) (o : Option Seat) → seat_at w node ≡ o → WantChanges w (after_telling w (record { node = node; what = agent.wanted wanted longest to }) o) node
+  by_seat to None here = nothing_changes w node
+  by_seat to (Some seat) here = wanted_changes w node seat wanted longest to least here
+
+  by_peer : (o : Option Locator) → WantChanges w (after_told w (want_told node wanted longest o)) node
+  by_peer None = nothing_changes w node
+  by_peer (Some to) = by_seat to (seat_at w node) refl

@@ -1,6 +1,7 @@
 -- Which prefixes are held, and which may still be accepted (RFC 8992, sections 4.1 and 4.2).
-use Rattle.std.specs.Prelude.{◌≡◌, ℕ, find, ◌&&◌, Bool, true, false, List, Contains, Option, None, Some, slice_get}
+use Rattle.std.specs.Prelude.{◌≡◌, ℕ, find, ◌&&◌, Bool, true, false, List, Contains, Option, None, Some, is_some, slice_get}
 use Rattle.std.specs.List.{list_any}
+use Rattle.grasp_agent.specs.Values.{returned_in}
 use Rattle.grasp_cbor.specs.DataItem.{DataItem}
 use Rattle.grasp_pool.specs.Holdings.{IsFree, IsListed}
 use Rattle.grasp_session.specs.Conversation.{Said, requested}
@@ -12,9 +13,9 @@ use Rattle.grasp_model_network.specs.World.{Seat, Offered, WorldState, seat_at}
 
 -- ---- who offers in a negotiation of prefixes
 
--- a request with this value gives a prefix back. No value does yet
+-- a request with this value gives a prefix back
 abbrev pub is_return : Option DataItem → Bool
-is_return value = false
+is_return value = is_some (returned_in value)
 
 -- who asks for a prefix is offered one, and who gives one back offers it
 abbrev pub offering_by : Bool → Side

@@ -1,8 +1,11 @@
 -- What each event leaves as it is, and what it only adds to.
 use Rattle.std.specs.Prelude.{◌≡◌, ◌≢◌, ◌≤◌, ℕ, List, [], ◌∷◌, ◌++◌, length, Some, None, Option}
+use Rattle.grasp_agent.specs.declared.back.Return.{Return}
 use Rattle.grasp_agent.specs.declared.want.Want.{Want}
 use Rattle.grasp_model_node.specs.Divided.{IsDivided, HasBytes}
+use Rattle.grasp_pool.specs.Holdings.{Holding}
 use Rattle.grasp_session.specs.Conversation.{Said}
+use Rattle.grasp_types.specs.Prefix.{AddressBlock as Prefix}
 use Rattle.grasp_types.specs.declared.traffic.Input.{Input}
 use Rattle.grasp_types.specs.declared.traffic.Input.TheVariants as input
 use Rattle.grasp_model_network.specs.Events.{IsMember, visit_of, after_event, Occurs}
@@ -44,6 +47,19 @@ pub record WantChanges (w x : WorldState) (node : ℕ) : Type 0 where
 abbrev pub WantsChangeWants : Type 0
 WantsChangeWants = (s : Setting) (w : WorldState) (node wanted longest peer : ℕ) (c : Choice) → 1 ≤ node
     → WantChanges w (after_event s w (event.Want node wanted longest peer) c) node
+
+-- ---- returns
+
+-- two networks are the same but for the return and the pool of this node's agent, and for the offers
+pub record ReturnChanges (w x : WorldState) (node : ℕ) : Type 0 where
+  pub others : (n : ℕ) → n ≢ node → seat_at x n ≡ seat_at w n
+  pub own : (seat : Seat) → seat_at w node ≡ Some seat
+      → (pool : Holding) × ((back : Option Return) × (seat_at x node ≡ Some (record seat { agent = record seat.agent { pool = pool; back = back } })))
+  pub rest : x ≡ record w { seats = x.seats; offers = x.offers }
+
+-- a return changes the return and the pool of its node's agent, and the offers, and nothing else
+abbrev pub ReturnsChangeReturns : Type 0
+ReturnsChangeReturns = (s : Setting) (w : WorldState) (node peer : ℕ) (p : Prefix) (c : Choice) → 1 ≤ node → ReturnChanges w (after_event s w (event.Return node p peer) c) node
 
 -- ---- what is queued
 

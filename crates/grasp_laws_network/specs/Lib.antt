@@ -2,4 +2,6 @@ pub mod Authorities
 pub mod Keeping
 pub mod Laws
 pub mod Nodes
+pub mod Noted
+pub mod Telling
 pub mod Views

@@ -1,6 +1,6 @@
 //! What every event leaves as it is, and what it only adds to. They say nothing at run time.
 
-ghost use Rattle.grasp_laws_network.specs.Keeping.{VisitsAreHere, SeatsStay, WantsChangeWants, QueuesGrow, OutcomesAgree, WhatWasSentStays, BytesAreCounted};
+ghost use Rattle.grasp_laws_network.specs.Keeping.{VisitsAreHere, SeatsStay, WantsChangeWants, ReturnsChangeReturns, QueuesGrow, OutcomesAgree, WhatWasSentStays, BytesAreCounted};
 ghost use Rattle.grasp_laws_network.specs.Nodes.{NodesAreSound};
 
 /// An event makes its step at a node that is there, as it stands.
@@ -16,6 +16,11 @@ pub fn seats_stay()
 /// A want changes the want of its node's agent, and nothing else.
 pub fn wants_change_wants()
     ensures { WantsChangeWants }
+{}
+
+/// A return changes the return and the pool of its node's agent, and the offers, and nothing else.
+pub fn returns_change_returns()
+    ensures { ReturnsChangeReturns }
 {}
 
 /// A step that doesn't drain leaves what is queued as it is, and what it queues stands behind it.

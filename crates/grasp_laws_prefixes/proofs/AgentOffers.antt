@@ -1,36 +1,43 @@
 -- What is known of the offers of a network is known still after an agent's own step.
-use Rattle.std.proofs.Common.{◌≡◌, ◌≢◌, refl, sym, ap, ◌∙◌, subst, ℕ, true, false, inl, inr, ◌⊎◌, List, filter, Contains, Option, Some, slice_get}
-use Rattle.std.proofs.lemmas.Bool.{true≢false, cases_eq}
-use Rattle.std.proofs.lemmas.Option.{same_Some}
+use Rattle.std.proofs.Common.{◌≡◌, ◌≢◌, refl, sym, ap, ◌∙◌, subst, ℕ, true, false, inl, inr, ◌⊎◌, List, filter, Contains, Option, None, Some}
+use Rattle.std.proofs.lemmas.Bool.{true≢false}
+use Rattle.std.proofs.lemmas.Option.{none-some, same_Some}
 use Rattle.grasp_agent.proofs.Keeping.{act_stands}
-use Rattle.grasp_agent.proofs.KeepForms.{act_reserved}
-use Rattle.grasp_agent.proofs.Offers.{offer_there}
 use Rattle.grasp_agent.specs.Kept.{IsKept}
+use Rattle.grasp_agent.specs.States.{unsent_of}
 use Rattle.grasp_agent.specs.declared.act.Act.TheVariants as act
-use Rattle.grasp_agent.specs.declared.giving.Giving.{Giving}
+use Rattle.grasp_agent.specs.declared.back.Return.{Return}
 use Rattle.grasp_pool.proofs.Maximal.{cases_prefix}
-use Rattle.grasp_pool.specs.Holdings.{IsFree}
-use Rattle.grasp_session.specs.Messages.{Far}
-use Rattle.grasp_session.specs.Sessions.{SessionState, stream_of, session_at}
+use Rattle.grasp_pool.specs.Holdings.{IsFree, IsListed}
+use Rattle.grasp_session.specs.Messages.{Side, Near, Far}
+use Rattle.grasp_session.specs.Sessions.{SessionState, stream_of}
 use Rattle.grasp_types.specs.Prefix.{AddressBlock as Prefix, span_of}
 use Rattle.grasp_types.specs.declared.session.Handle.{Handle}
-use Rattle.grasp_model_network.specs.Offers.{is_kept, is_offer_of, talk_on, talk_of_handle, offers_after}
+use Rattle.grasp_model_network.specs.Offers.{JustOffered, is_kept, is_offer_of, talk_on, just_offered, offers_after}
 use Rattle.grasp_model_network.specs.Runs.{IsReached}
 use Rattle.grasp_model_network.specs.Sending.{seat_with}
 use Rattle.grasp_model_network.specs.Setting.{Setting}
+use Rattle.grasp_model_network.specs.Streams.{StreamEnd, StreamState, end_at}
 use Rattle.grasp_model_network.specs.World.{Seat, Offered, WorldState, seat_at, end_of}
-use Rattle.grasp_laws_delivery.proofs.OnePlace.{has_it}
-use Rattle.grasp_laws_agents.specs.Giving.{Gives, IsOpenOffer, IsOwnSession, EntryStands}
-use Rattle.grasp_laws_agents.specs.OfferLaws.{WasEntry, was_there, just_decided, MayGoBack, WasOpen, was_gone, was_entry}
-use Rattle.grasp_laws_tables.proofs.Lists.{filter_keeps}
-use Rattle.grasp_laws_prefixes.proofs.AgentSteps.{AgentStep, own_talk}
-use Rattle.grasp_laws_prefixes.proofs.EntryOffers.{one_entry}
-use Rattle.grasp_laws_prefixes.proofs.Listing.{passed, kept_elsewhere, kept_listed, offer_of, no_offer_of, Decides, one_decided, decided_offer, Comes, stayed, decided, comes_from, stays_listed, decided_listed, decides_tell}
+use Rattle.grasp_laws_delivery.proofs.FromReady.{distinct}
+use Rattle.grasp_laws_delivery.proofs.OnePlace.{has_it, one_talk}
+use Rattle.grasp_laws_delivery.proofs.Sides.{one_side}
+use Rattle.grasp_laws_agents.specs.Giving.{Gives, IsOpenOffer, IsOwnSession, OffersIn, in_entry, in_return}
+use Rattle.grasp_laws_agents.specs.OfferLaws.{WasOffered, was_there, just_decided, just_requested, MayGoBack, WasOpen, was_gone, was_offer}
+use Rattle.grasp_laws_negotiation.specs.Streams.{HasItsStream}
+use Rattle.grasp_laws_prefixes.proofs.AgentSteps.{AgentStep, own_talk, own_view}
+use Rattle.grasp_laws_prefixes.proofs.EntryOffers.{not_requested, return_of, one_offer, offers_reserved, unsent_reserved, unsent_unoffered, offering_session}
+use Rattle.grasp_laws_prefixes.proofs.Listed.{still_listed}
+use Rattle.grasp_laws_prefixes.proofs.Listing.{passed, kept_elsewhere, kept_listed, offer_of, no_offer_of, just_listed, Comes, stayed, joined, comes_from, joins, Begins, decides, hands, begins, is_just, is_handed}
+use Rattle.grasp_laws_prefixes.proofs.OneNode.{each_node}
 use Rattle.grasp_laws_prefixes.proofs.OwnSessions.{one_session, IsTalkOf}
-use Rattle.grasp_laws_prefixes.proofs.Places.{place_found, far_stays}
+use Rattle.grasp_laws_prefixes.proofs.Places.{place_found, end_stays}
 use Rattle.grasp_laws_prefixes.proofs.QuietKeeps.{placed_still}
-use Rattle.grasp_laws_prefixes.proofs.Standing.{offer_on, IsFarAt, IsOfferedOn, IsPlaced, OffersAreKnown, PrefixesStand}
+use Rattle.grasp_laws_prefixes.proofs.Standing.{offer_on, offer_unsent, IsEndAt, IsOfferedOn, IsPlaced, OffersAreKnown, PrefixesStand}
 use Rattle.grasp_laws_prefixes.specs.Grounds.{Grounds}
+
+near_far : Near ≡ Far → ⊥
+near_far e = absurd (cc)
 
 module _ (l : Grounds) (s : Setting) (w y : WorldState) (r : IsReached s w) (q : IsReached s y) (a : AgentStep w y) (k : PrefixesStand w) where
   abbrev new : Seat
@@ -48,240 +55,245 @@ module _ (l : Grounds) (s : Setting) (w y : WorldState) (r : IsReached s w) (q :
   gives_now : Gives a.core a.agent
   gives_now = l.give s y q a.visit.node (seat_with a.visit.seat a.core a.agent) a.there
 
-  -- an offer was just decided
-  abbrev pub IsDecided : Handle → Prefix → Type 0
-  IsDecided h p = Decides a.visit.seat.agent.act a.agent.act h p
+  -- it was just offered
+  abbrev pub IsJust : JustOffered → Type 0
+  IsJust j = just_offered a.visit.seat.agent a.agent ≡ Some j
 
-  -- what was decided
-  abbrev pub newly : Handle → Prefix → Offered
-  newly h p = decided_offer w.streams a.visit a.core h p
+  -- the offer that is listed for it
+  abbrev pub newly : JustOffered → Offered
+  newly j = just_listed y.streams a.visit a.core j
 
   -- ---- which offers are listed
 
-  -- why an offer is listed now: it was listed, is kept and isn't one of a prefix that was just decided on; or it was just decided
+  -- why an offer is listed now: it was listed, is kept and isn't of a prefix that was just offered; or it was just offered
   pub data IsListedNow (o : Offered) : Type 0 where
-    was_listed : Contains w.offers o → is_kept a.visit.node a.agent.pool o ≡ true → ((h : Handle) (p : Prefix) → IsDecided h p → is_offer_of a.visit.node p o ≡ false) → IsListedNow o
-    is_new : (h : Handle) (p : Prefix) → IsDecided h p → o ≡ newly h p → IsListedNow o
+    was_listed : Contains w.offers o → is_kept a.visit.node a.agent.pool o ≡ true → ((j : JustOffered) → IsJust j → is_offer_of a.visit.node j.prefix o ≡ false) → IsListedNow o
+    is_new : (j : JustOffered) → IsJust j → o ≡ newly j → IsListedNow o
 
   pub listed_now : (o : Offered) → Contains y.offers o → IsListedNow o
   unfolding offers_after
-  listed_now o h = by_case (comes_from w.streams a.visit a.core a.visit.seat.agent.act a.agent.act (filter (is_kept a.visit.node a.agent.pool) w.offers) o (subst (λ (os : List Offered). Contains os o) a.offers h)) where
-    by_case : Comes w.streams a.visit a.core a.visit.seat.agent.act a.agent.act (filter (is_kept a.visit.node a.agent.pool) w.offers) o → IsListedNow o
-    by_case (stayed old apart) = let f = passed (is_kept a.visit.node a.agent.pool) w.offers o old in was_listed f.0 f.1 apart
-    by_case (decided h p d e) = is_new h p d e
+  listed_now o h =
+      by_case (comes_from y.streams a.visit a.core (just_offered a.visit.seat.agent a.agent) (filter (is_kept a.visit.node a.agent.pool) w.offers) o (subst (λ (os : List Offered). Contains os o) a.offers h)) where
+        by_case : Comes y.streams a.visit a.core (just_offered a.visit.seat.agent a.agent) (filter (is_kept a.visit.node a.agent.pool) w.offers) o → IsListedNow o
+        by_case (stayed old apart) = let f = passed (is_kept a.visit.node a.agent.pool) w.offers o old in was_listed f.0 f.1 apart
+        by_case (joined j is e) = is_new j is e
 
-  still_listed : (o : Offered) → Contains w.offers o → is_kept a.visit.node a.agent.pool o ≡ true → ((h : Handle) (p : Prefix) → IsDecided h p → is_offer_of a.visit.node p o ≡ false) → Contains y.offers o
+  new_listed : (j : JustOffered) → IsJust j → Contains y.offers (newly j)
   unfolding offers_after
-  still_listed o listed kept apart =
-      subst (λ (os : List Offered). Contains os o) (sym a.offers)
-      (stays_listed w.streams a.visit a.core a.visit.seat.agent.act a.agent.act (filter (is_kept a.visit.node a.agent.pool) w.offers) o (filter_keeps (is_kept a.visit.node a.agent.pool) w.offers o listed kept) apart)
+  new_listed j is =
+      subst (λ (os : List Offered). Contains os (newly j)) (sym a.offers)
+      (joins y.streams a.visit a.core (just_offered a.visit.seat.agent a.agent) (filter (is_kept a.visit.node a.agent.pool) w.offers) j is)
 
-  new_listed : (h : Handle) (p : Prefix) → IsDecided h p → Contains y.offers (newly h p)
-  unfolding offers_after
-  new_listed h p d =
-      subst (λ (os : List Offered). Contains os (newly h p)) (sym a.offers)
-      (decided_listed w.streams a.visit a.core a.visit.seat.agent.act a.agent.act (filter (is_kept a.visit.node a.agent.pool) w.offers) h p d)
+  -- ---- what was just offered
 
-  -- ---- what was decided
+  -- the return that has a session now is the one that was to be requested
+  handed_is : (h : Handle) (p : Prefix) (z : Return) → unsent_of a.visit.seat.agent.back ≡ Some p → a.agent.back ≡ Some z → z.session ≡ Some h → z.prefix ≡ p
+  handed_is h p z unsent is on = by_case (a.moves.offered Near h z.prefix (in_return refl z is on refl)) where
+    by_case : WasOffered a.visit.seat.core a.visit.seat.agent a.agent Near h z.prefix → z.prefix ≡ p
+    by_case (was_there (in_entry far place g at of offer)) = absurd (near_far far)
+    by_case (was_there (in_return near u at of e)) = absurd (not_requested a.visit.seat.agent.back u h p unsent at of)
+    by_case (just_decided far place none act session mine unaccepted free) = absurd (near_far far)
+    by_case (just_requested near before session) = same_Some z.prefix p (sym before ∙ unsent)
 
-  -- the entry of what was decided
-  decided_entry : (h : Handle) (p : Prefix) → (d : IsDecided h p) → slice_get a.agent.giving d.place ≡ Some (record { handle = h; offer = Some p; first = false })
-  decided_entry h p d = act_stands a.agent (act.Offer d.place h p) d.is is_kept_now
+  -- the agent offers it
+  just_in : (j : JustOffered) → IsJust j → (side : Side) × OffersIn a.agent side j.handle j.prefix
+  just_in j is = by_case (begins a.visit.seat.agent a.agent j is) where
+    by_case : Begins a.visit.seat.agent a.agent j → (side : Side) × OffersIn a.agent side j.handle j.prefix
+    by_case (decides none place now) =
+        (Far, in_entry refl place (record { handle = j.handle; offer = Some j.prefix; first = false }) (act_stands a.agent (act.Offer place j.handle j.prefix) now is_kept_now) refl refl)
+    by_case (hands unsent session) =
+        let z = return_of a.agent.back j.handle session in
+        (Near, in_return refl z.0 z.1 z.2 (handed_is j.handle j.prefix z.0 unsent z.1 z.2))
 
-  decided_reserved : (h : Handle) (p : Prefix) → IsDecided h p → Contains a.agent.pool.reserved p
-  decided_reserved h p d = act_reserved a.agent d.place h p d.is is_kept_now
+  pub just_reserved : (j : JustOffered) → IsJust j → Contains a.agent.pool.reserved j.prefix
+  just_reserved j is = let i = just_in j is in offers_reserved a.agent i.0 j.handle j.prefix is_kept_now i.1
 
-  -- the stream of a session of before is the one for which an offer in its session is listed
-  talk_is : (h : Handle) (x : SessionState) (place : ℕ) → session_at a.core.sessions h ≡ Some x → IsFarAt w.streams place (end_of a.visit.node a.visit.seat x.stream) → talk_of_handle w.streams a.visit a.core h ≡ Some place
-  talk_is h x place at far =
-      ap (λ (o : Option SessionState). talk_on w.streams a.visit (stream_of o)) at
-      ∙ place_found w.streams (end_of a.visit.node a.visit.seat x.stream) place far.talk (l.ready.apart s w r (end_of a.visit.node a.visit.seat x.stream)) far.stands
-      (has_it far.talk (end_of a.visit.node a.visit.seat x.stream) Far far.far)
+  -- the stream of its session is the one for which it is listed
+  newly_is : (j : JustOffered) (side : Side) (x : SessionState) → IsOwnSession a.core.sessions j.handle side x → (place : ℕ) → IsEndAt y.streams place side (end_of a.visit.node new x.stream)
+      → newly j ≡ offer_on a.visit.node j.prefix place
+  newly_is j side x own place at =
+      ap with_talk
+      (ap (λ (o : Option SessionState). talk_on y.streams a.visit (stream_of o)) own.at
+      ∙ place_found y.streams (end_of a.visit.node new x.stream) place at.talk (l.ready.apart s y q (end_of a.visit.node new x.stream)) at.stands
+      (has_it at.talk (end_of a.visit.node new x.stream) side at.end_is)) where
+        with_talk : Option ℕ → Offered
+        with_talk t = record { node = a.visit.node; prefix = j.prefix; talk = t }
 
-  newly_is : (h : Handle) (p : Prefix) (x : SessionState) (place : ℕ) → session_at a.core.sessions h ≡ Some x → IsFarAt w.streams place (end_of a.visit.node a.visit.seat x.stream) → newly h p ≡ offer_on a.visit.node p place
-  newly_is h p x place at far = ap (λ z. with_talk z) (talk_is h x place at far) where
-    with_talk : Option ℕ → Offered
-    with_talk t = record { node = a.visit.node; prefix = p; talk = t }
+  own_now : (side : Side) (h : Handle) (x : SessionState) → IsOwnSession a.core.sessions h side x → IsTalkOf y a.visit.node new x side
+  own_now side h x own = own_talk l s y q a.visit.node new a.there h side x own
 
-  -- ---- the entries
+  end_now : (side : Side) (x : SessionState) → (t : IsTalkOf y a.visit.node new x side) → IsEndAt y.streams t.place side (end_of a.visit.node new x.stream)
+  end_now side x t = record { talk = t.talk; stands = t.stands; end_is = t.ends }
 
-  -- what an entry offers was listed for its stream, or was just decided
-  pub data CameFrom (g : Giving) (p : Prefix) (stream : ℕ) : Type 0 where
-    was_offered : (o : IsOfferedOn w a.visit.node a.visit.seat stream p) → CameFrom g p stream
-    was_decided : IsDecided g.handle p → (place : ℕ) → IsFarAt w.streams place (end_of a.visit.node a.visit.seat stream) → CameFrom g p stream
+  -- ---- what is offered in live sessions
 
-  came_from : (place : ℕ) (g : Giving) (p : Prefix) → slice_get a.agent.giving place ≡ Some g → g.offer ≡ Some p → (x : SessionState) → IsOwnSession a.core.sessions g.handle Far x → CameFrom g p x.stream
-  came_from place g p at offer x own = by_case (a.moves.entries place g p at offer) where
-    -- a session of before is on the same stream
-    stream_is : (h : Handle) (b : SessionState) → h ≡ g.handle → IsOwnSession a.visit.seat.core.sessions h Far b → b.stream ≡ x.stream
-    stream_is h b same mine =
-        sym (a.moves.streams h b x mine.at mine.owner (ap (λ n. session_at a.core.sessions n) same ∙ own.at))
+  -- what was offered in a session was listed for its stream
+  was_on : (side : Side) (h : Handle) (p : Prefix) → OffersIn a.visit.seat.agent side h p → (x : SessionState) → IsOwnSession a.core.sessions h side x → IsOfferedOn w a.visit.node a.visit.seat side x.stream p
+  was_on side h p o x own =
+      let b = offering_session a.visit.seat.core a.visit.seat.agent side h p gives o in
+      subst (λ n. IsOfferedOn w a.visit.node a.visit.seat side n p) (sym (a.moves.streams h b.0 x b.1.at b.1.owner own.at)) (k.known.offered a.visit.node a.visit.seat a.here side h p o b.0 b.1)
 
-    by_case : WasEntry a.visit.seat.core a.core a.visit.seat.agent a.agent place g p → CameFrom g p x.stream
-    by_case (was_there old h old_at same old_offer) = old_entry (gives.entries old h old_at) where
-      old_entry : EntryStands a.visit.seat.core.sessions a.visit.seat.agent old h → CameFrom g p x.stream
-      old_entry e = was_offered (subst (λ n. IsOfferedOn w a.visit.node a.visit.seat n p) (stream_is h.handle e.session same e.own) (k.known.entries a.visit.node a.visit.seat a.here old h p old_at old_offer e.session e.own))
-    by_case (just_decided none is session mine unaccepted was) = from (own_talk l s w r k a.visit.node a.visit.seat a.here g.handle Far session mine) where
-      from : IsTalkOf w a.visit.node a.visit.seat session Far → CameFrom g p x.stream
-      from t = was_decided (record { none = none; place = place; is = is }) t.place
-          (record { talk = t.talk; stands = t.stands; far = t.ends ∙ ap (λ n. Some (end_of a.visit.node a.visit.seat n)) (stream_is g.handle session refl mine) })
+  -- an offer stays listed, where it is reserved or in doubt and its prefix wasn't just offered
+  still_on : (side : Side) (stream : ℕ) (p : Prefix) → IsListed a.agent.pool p → ((j : JustOffered) → IsJust j → ¬ (j.prefix ≡ p)) → IsOfferedOn w a.visit.node a.visit.seat side stream p
+      → IsOfferedOn y a.visit.node new side stream p
+  still_on side stream p pool differ o = record {
+    place = o.place;
+    at = end_stays w.streams y.streams a.streams o.place side (end_of a.visit.node a.visit.seat stream) o.at;
+    listed = still_listed w y a (offer_on a.visit.node p o.place) o.listed (kept_listed a.visit.node a.agent.pool (offer_on a.visit.node p o.place) pool)
+        (λ j is. no_offer_of a.visit.node j.prefix (offer_on a.visit.node p o.place) (λ e f. differ j is (sym f)));
+  }
 
-  far_now : (stream place : ℕ) → IsFarAt w.streams place (end_of a.visit.node a.visit.seat stream) → IsFarAt y.streams place (end_of a.visit.node new stream)
-  far_now stream place far = far_stays w.streams y.streams a.streams place (end_of a.visit.node a.visit.seat stream) far
+  own_offer : (side : Side) (h : Handle) (p : Prefix) → OffersIn a.agent side h p → (x : SessionState) → IsOwnSession a.core.sessions h side x → IsOfferedOn y a.visit.node new side x.stream p
+  own_offer side h p o x own = by_just (just_offered a.visit.seat.agent a.agent) refl where
+    t : IsTalkOf y a.visit.node new x side
+    t = own_now side h x own
 
-  own_entry : (place : ℕ) (g : Giving) (p : Prefix) → slice_get a.agent.giving place ≡ Some g → g.offer ≡ Some p → (x : SessionState) → IsOwnSession a.core.sessions g.handle Far x
-      → IsOfferedOn y a.visit.node new x.stream p
-  own_entry place g p at offer x own = by_case (came_from place g p at offer x own) where
-    reserved : Contains a.agent.pool.reserved p
-    reserved = (is_kept_now.reserved p).1 (offer_there a.agent.giving place g p at offer)
+    -- what was just offered of this prefix is this offer
+    new_is : (j : JustOffered) → IsJust j → j.prefix ≡ p → IsOfferedOn y a.visit.node new side x.stream p
+    new_is j is e = record {
+      place = t.place;
+      at = end_now side x t;
+      listed = subst (λ z. Contains y.offers z) (newly_is j side x (subst (λ i. IsOwnSession a.core.sessions i side x) handle_is own) t.place (end_now side x t) ∙ ap (λ z. offer_on a.visit.node z t.place) e) (new_listed j is);
+    } where
+      handle_is : h ≡ j.handle
+      handle_is = let i = just_in j is in one_offer a.agent side i.0 h j.handle p is_kept_now o (subst (λ z. OffersIn a.agent i.0 j.handle z) e i.1)
 
-    -- where the offer of this prefix was just decided, it is that of this entry
-    handle_is : (h : Handle) → IsDecided h p → g.handle ≡ h
-    handle_is h d = one_entry a.agent place d.place g (record { handle = h; offer = Some p; first = false }) p is_kept_now at offer (decided_entry h p d) refl
+    old_is : ((j : JustOffered) → IsJust j → ¬ (j.prefix ≡ p)) → IsOfferedOn y a.visit.node new side x.stream p
+    old_is differ = by_case (a.moves.offered side h p o) where
+      by_case : WasOffered a.visit.seat.core a.visit.seat.agent a.agent side h p → IsOfferedOn y a.visit.node new side x.stream p
+      by_case (was_there before) = still_on side x.stream p (inl (offers_reserved a.agent side h p is_kept_now o)) differ (was_on side h p before x own)
+      by_case (just_decided far place none is session mine unaccepted free) = absurd (differ (record { prefix = p; handle = h }) (is_just a.visit.seat.agent a.agent place h p none is) refl)
+      by_case (just_requested near unsent session) = absurd (differ (record { prefix = p; handle = h }) (is_handed a.visit.seat.agent a.agent h p unsent session (a.alone p unsent)) refl)
 
-    new_is : (h : Handle) → IsDecided h p → (at_place : ℕ) → IsFarAt w.streams at_place (end_of a.visit.node a.visit.seat x.stream) → IsOfferedOn y a.visit.node new x.stream p
-    new_is h d at_place far = record {
-      place = at_place;
-      at = far_now x.stream at_place far;
-      listed = subst (λ z. Contains y.offers z) (newly_is h p x at_place (ap (λ n. session_at a.core.sessions n) (sym (handle_is h d)) ∙ own.at) far) (new_listed h p d);
-    }
-
-    old_is : (o : IsOfferedOn w a.visit.node a.visit.seat x.stream p) → ((h : Handle) (z : Prefix) → IsDecided h z → ¬ (z ≡ p)) → IsOfferedOn y a.visit.node new x.stream p
-    old_is o differ = record {
-      place = o.place;
-      at = far_now x.stream o.place o.at;
-      listed = still_listed (offer_on a.visit.node p o.place) o.listed (kept_listed a.visit.node a.agent.pool (offer_on a.visit.node p o.place) (inl reserved))
-          (λ h z d. no_offer_of a.visit.node z (offer_on a.visit.node p o.place) (λ e f. differ h z d (sym f)));
-    }
-
-    by_prefix : (o : IsOfferedOn w a.visit.node a.visit.seat x.stream p) → (h : Handle) (z : Prefix) → IsDecided h z → (z ≡ p) ⊎ (¬ (z ≡ p)) → IsOfferedOn y a.visit.node new x.stream p
-    by_prefix o h z d (inl e) = new_is h (subst (λ n. IsDecided h n) e d) o.place o.at
-    by_prefix o h z d (inr differ) = old_is o (λ i n f e. differ ((one_decided a.visit.seat.agent.act a.agent.act h i z n d f).1 ∙ e))
-
-    by_decision : (o : IsOfferedOn w a.visit.node a.visit.seat x.stream p) → ((h : Handle) × ((z : Prefix) × IsDecided h z)) ⊎ ((h : Handle) (z : Prefix) → ¬ IsDecided h z)
-        → IsOfferedOn y a.visit.node new x.stream p
-    by_decision o (inl d) = by_prefix o d.0 d.1.0 d.1.1 (cases_prefix d.1.0 p)
-    by_decision o (inr none) = old_is o (λ h z d e. none h z d)
-
-    by_case : CameFrom g p x.stream → IsOfferedOn y a.visit.node new x.stream p
-    by_case (was_offered o) = by_decision o (decides_tell a.visit.seat.agent.act a.agent.act)
-    by_case (was_decided d at_place far) = new_is g.handle d at_place far
+    by_just : (o : Option JustOffered) → just_offered a.visit.seat.agent a.agent ≡ o → IsOfferedOn y a.visit.node new side x.stream p
+    by_just None none = old_is (λ j is e. none-some j (sym none ∙ is))
+    by_just (Some j) is = by_prefix (cases_prefix j.prefix p) where
+      by_prefix : (j.prefix ≡ p) ⊎ (¬ (j.prefix ≡ p)) → IsOfferedOn y a.visit.node new side x.stream p
+      by_prefix (inl e) = new_is j is e
+      by_prefix (inr differ) = old_is (λ i f e. differ (ap (λ (z : JustOffered). z.prefix) (same_Some j i (sym is ∙ f)) ∙ e))
 
   -- ---- the sessions that are no longer live
 
-  own_gone : (x : SessionState) (p : Prefix) → Contains a.core.sessions.gone x → x.owner ≡ 1 → x.view.role ≡ Far → IsOpenOffer x.view p → IsOfferedOn y a.visit.node new x.stream p
-  own_gone x p gone own role is_open = by_case (a.moves.doubts x p gone own role is_open) where
-    doubtful : Contains a.agent.pool.doubtful p
-    doubtful = gives_now.gone x p gone own role is_open
+  own_gone : (x : SessionState) (p : Prefix) → Contains a.core.sessions.gone x → x.owner ≡ 1 → IsOpenOffer x.view p → IsOfferedOn y a.visit.node new x.view.role x.stream p
+  own_gone x p gone own is_open = by_case (a.moves.doubts x p gone own is_open) where
+    still : (side : Side) → IsOfferedOn w a.visit.node a.visit.seat side x.stream p → IsOfferedOn y a.visit.node new side x.stream p
+    still side o = still_on side x.stream p (inr (gives_now.gone x p gone own is_open))
+        (λ j is e. is_kept_now.pool.once j.prefix (just_reserved j is) (subst (λ z. Contains a.agent.pool.doubtful z) (sym e) (gives_now.gone x p gone own is_open))) o
 
-    still : IsOfferedOn w a.visit.node a.visit.seat x.stream p → IsOfferedOn y a.visit.node new x.stream p
-    still o = record {
-      place = o.place;
-      at = far_now x.stream o.place o.at;
-      listed = still_listed (offer_on a.visit.node p o.place) o.listed (kept_listed a.visit.node a.agent.pool (offer_on a.visit.node p o.place) (inr doubtful))
-          (λ h z d. no_offer_of a.visit.node z (offer_on a.visit.node p o.place) (λ e f. is_kept_now.pool.once z (decided_reserved h z d) (subst (λ n. Contains a.agent.pool.doubtful n) f doubtful)));
-    }
+    -- the session is that side of its stream which it is
+    side_is : (side : Side) (place : ℕ) → IsEndAt y.streams place side (end_of a.visit.node new x.stream) → side ≡ x.view.role
+    side_is side place at = one_side t.talk e side t.side (distinct l.ready s y q t.place t.talk t.stands) (ap (λ (u : StreamState). end_at u side) (sym same) ∙ at.end_is) t.ends ∙ sym t.role where
+      e : StreamEnd
+      e = end_of a.visit.node (seat_with a.visit.seat a.core a.agent) x.stream
 
-    by_case : WasOpen a.visit.seat.core a.visit.seat.agent x p → IsOfferedOn y a.visit.node new x.stream p
-    by_case (was_gone before) = still (k.known.gone a.visit.node a.visit.seat a.here x p before own role is_open)
-    by_case (was_entry place g session at offer session_at_handle stream) = of_entry (gives.entries place g at) where
-      of_entry : EntryStands a.visit.seat.core.sessions a.visit.seat.agent place g → IsOfferedOn y a.visit.node new x.stream p
-      of_entry e =
-          let same : e.session ≡ session = one_session a.visit.seat.core.sessions g.handle e.session session e.own.at session_at_handle in
-          still (subst (λ n. IsOfferedOn w a.visit.node a.visit.seat n p) (ap (λ (z : SessionState). z.stream) same ∙ sym stream) (k.known.entries a.visit.node a.visit.seat a.here place g p at offer e.session e.own))
+      t : HasItsStream y a.visit.node (seat_with a.visit.seat a.core a.agent) x
+      t = l.streams.each s y q a.visit.node (seat_with a.visit.seat a.core a.agent) a.there x (inr gone)
+
+      same : at.talk ≡ t.talk
+      same =
+          one_talk (end_of a.visit.node new x.stream) y.streams place t.place at.talk t.talk (l.ready.apart s y q (end_of a.visit.node new x.stream)) at.stands (has_it at.talk (end_of a.visit.node new x.stream) side at.end_is)
+          t.stands (has_it t.talk (end_of a.visit.node new x.stream) t.side t.ends)
+
+    by_case : WasOpen a.visit.seat.core a.visit.seat.agent a.agent x p → IsOfferedOn y a.visit.node new x.view.role x.stream p
+    by_case (was_gone before) = still x.view.role (k.known.gone a.visit.node a.visit.seat a.here x p before own is_open)
+    by_case (was_offer side h session o at stream doubt) = by_side (offering_session a.visit.seat.core a.visit.seat.agent side h p gives o) where
+      by_side : (z : SessionState) × IsOwnSession a.visit.seat.core.sessions h side z → IsOfferedOn y a.visit.node new x.view.role x.stream p
+      by_side b =
+          let same : b.0 ≡ session = one_session a.visit.seat.core.sessions h b.0 session b.1.at at in
+          let now = still side (subst (λ n. IsOfferedOn w a.visit.node a.visit.seat side n p) (ap (λ (z : SessionState). z.stream) same ∙ sym stream) (k.known.offered a.visit.node a.visit.seat a.here side h p o b.0 b.1)) in
+          subst (λ i. IsOfferedOn y a.visit.node new i x.stream p) (side_is side now.place now.at) now
+
+  -- ---- what is to be requested
+
+  own_unsent : (p : Prefix) → unsent_of a.agent.back ≡ Some p → Contains y.offers (offer_unsent a.visit.node p)
+  own_unsent p e =
+      still_listed w y a (offer_unsent a.visit.node p) (k.known.unsent a.visit.node a.visit.seat a.here p (a.moves.unsent p e))
+      (kept_listed a.visit.node a.agent.pool (offer_unsent a.visit.node p) (inl (unsent_reserved a.agent p is_kept_now e)))
+      (λ j is. no_offer_of a.visit.node j.prefix (offer_unsent a.visit.node p) (λ g f. none j is (sym f))) where
+        none : (j : JustOffered) → IsJust j → ¬ (j.prefix ≡ p)
+        none j is same = let i = just_in j is in unsent_unoffered a.agent i.0 j.handle p is_kept_now e (subst (λ q. OffersIn a.agent i.0 j.handle q) same i.1)
 
   -- ---- the other nodes
 
-  other_still : (n : ℕ) (seat : Seat) (stream : ℕ) (p : Prefix) → n ≢ a.visit.node → IsOfferedOn w n seat stream p → IsOfferedOn y n seat stream p
-  other_still n seat stream p apart o = record {
+  other_still : (n : ℕ) (seat : Seat) (side : Side) (stream : ℕ) (p : Prefix) → n ≢ a.visit.node → IsOfferedOn w n seat side stream p → IsOfferedOn y n seat side stream p
+  other_still n seat side stream p apart o = record {
     place = o.place;
-    at = far_stays w.streams y.streams a.streams o.place (end_of n seat stream) o.at;
-    listed = still_listed (offer_on n p o.place) o.listed (kept_elsewhere a.visit.node a.agent.pool (offer_on n p o.place) apart) (λ h z d. no_offer_of a.visit.node z (offer_on n p o.place) (λ e f. apart e));
+    at = end_stays w.streams y.streams a.streams o.place side (end_of n seat stream) o.at;
+    listed = still_listed w y a (offer_on n p o.place) o.listed (kept_elsewhere a.visit.node a.agent.pool (offer_on n p o.place) apart) (λ j is. no_offer_of a.visit.node j.prefix (offer_on n p o.place) (λ e f. apart e));
   }
 
   -- ---- each offer
 
-  entry_own : (h : Handle) (p : Prefix) (d : IsDecided h p) → EntryStands a.core.sessions a.agent d.place (record { handle = h; offer = Some p; first = false })
-  entry_own h p d = gives_now.entries d.place (record { handle = h; offer = Some p; first = false }) (decided_entry h p d)
+  just_session : (j : JustOffered) → (is : IsJust j) → (x : SessionState) × IsOwnSession a.core.sessions j.handle (just_in j is).0 x
+  just_session j is = let i = just_in j is in offering_session a.core a.agent i.0 j.handle j.prefix gives_now i.1
 
-  -- what was just decided is for a stream that was there
-  pub newly_placed : (h : Handle) (p : Prefix) → IsDecided h p → IsPlaced w.streams (newly h p)
-  newly_placed h p d = from (came_from d.place (record { handle = h; offer = Some p; first = false }) p (decided_entry h p d) refl e.session e.own) where
-    e : EntryStands a.core.sessions a.agent d.place (record { handle = h; offer = Some p; first = false })
-    e = entry_own h p d
+  -- what was just offered is for a stream that is there
+  newly_placed : (j : JustOffered) → IsJust j → IsPlaced y.streams (newly j)
+  newly_placed j is = from (just_in j is).0 (just_session j is).0 (just_session j is).1 where
+    from : (side : Side) (x : SessionState) → IsOwnSession a.core.sessions j.handle side x → IsPlaced y.streams (newly j)
+    from side x own =
+        let t = own_now side j.handle x own in
+        record {
+          place = t.place;
+          talk = t.talk;
+          is = ap (λ (o : Offered). o.talk) (newly_is j side x own t.place (end_now side x t));
+          stands = t.stands;
+          negotiation = t.negotiation;
+          asked = (own_view l s y q a.visit.node new x side t).was_requested;
+        }
 
-    placed : (place : ℕ) → IsFarAt w.streams place (end_of a.visit.node a.visit.seat e.session.stream) → IsPlaced w.streams (newly h p)
-    placed place far = record { place = place; talk = far.talk; is = talk_is h e.session place e.own.at far; stands = far.stands }
+  -- what was just offered was listed and reserved before; or it was to be requested; or its addresses were free, or were given back
+  pub data NewFrom (j : JustOffered) : Type 0 where
+    from_old : Contains w.offers (newly j) → Contains a.visit.seat.agent.pool.reserved j.prefix → NewFrom j
+    from_unsent : unsent_of a.visit.seat.agent.back ≡ Some j.prefix → NewFrom j
+    from_free : ((address : ℕ) → span_of j.prefix address → IsFree a.visit.seat.agent.pool address ⊎ ((z : Prefix) × span_of z address × MayGoBack a.visit.seat.core a.visit.seat.agent z)) → NewFrom j
 
-    from : CameFrom (record { handle = h; offer = Some p; first = false }) p e.session.stream → IsPlaced w.streams (newly h p)
-    from (was_offered o) = placed o.place o.at
-    from (was_decided d place far) = placed place far
-
-  -- what was just decided was listed and reserved before; or its addresses were free, or were given back
-  pub data NewFrom (h : Handle) (p : Prefix) : Type 0 where
-    from_old : Contains w.offers (newly h p) → Contains a.visit.seat.agent.pool.reserved p → NewFrom h p
-    from_free : ((address : ℕ) → span_of p address → IsFree a.visit.seat.agent.pool address ⊎ ((z : Prefix) × span_of z address × MayGoBack a.visit.seat.core a.visit.seat.agent z)) → NewFrom h p
-
-  pub new_from : (h : Handle) (p : Prefix) → IsDecided h p → NewFrom h p
-  new_from h p d = by_case (a.moves.entries d.place (record { handle = h; offer = Some p; first = false }) p (decided_entry h p d) refl) where
-    e : EntryStands a.core.sessions a.agent d.place (record { handle = h; offer = Some p; first = false })
-    e = entry_own h p d
-
-    old_entry : (old : ℕ) (b : Giving) → slice_get a.visit.seat.agent.giving old ≡ Some b → b.handle ≡ h → b.offer ≡ Some p → EntryStands a.visit.seat.core.sessions a.visit.seat.agent old b → NewFrom h p
-    old_entry old b at same offer stands =
-        let o = k.known.entries a.visit.node a.visit.seat a.here old b p at offer stands.session stands.own in
-        let stream : e.session.stream ≡ stands.session.stream = a.moves.streams b.handle stands.session e.session stands.own.at stands.own.owner (ap (λ n. session_at a.core.sessions n) same ∙ e.own.at) in
+  pub new_from : (j : JustOffered) → IsJust j → NewFrom j
+  new_from j is = by_case (just_in j is).0 (just_session j is).0 (just_session j is).1 (a.moves.offered (just_in j is).0 j.handle j.prefix (just_in j is).1) where
+    by_case : (side : Side) (x : SessionState) → IsOwnSession a.core.sessions j.handle side x → WasOffered a.visit.seat.core a.visit.seat.agent a.agent side j.handle j.prefix → NewFrom j
+    by_case side x own (was_there before) =
+        let o = was_on side j.handle j.prefix before x own in
         from_old
-        (subst (λ z. Contains w.offers z) (sym (newly_is h p e.session o.place e.own.at (subst (λ n. IsFarAt w.streams o.place (end_of a.visit.node a.visit.seat n)) (sym stream) o.at))) o.listed)
-        ((was_kept.reserved p).1 (offer_there a.visit.seat.agent.giving old b p at offer))
+        (subst (λ z. Contains w.offers z) (sym (newly_is j side x own o.place (end_stays w.streams y.streams a.streams o.place side (end_of a.visit.node a.visit.seat x.stream) o.at))) o.listed)
+        (offers_reserved a.visit.seat.agent side j.handle j.prefix was_kept before)
+    by_case side x own (just_decided far place none act session mine unaccepted free) = from_free free
+    by_case side x own (just_requested near unsent session) = from_unsent unsent
 
-    by_case : WasEntry a.visit.seat.core a.core a.visit.seat.agent a.agent d.place (record { handle = h; offer = Some p; first = false }) p → NewFrom h p
-    by_case (was_there old b at same offer) = old_entry old b at same offer (gives.entries old b at)
-    by_case (just_decided none is session mine unaccepted free) = from_free free
-
-  placed_before : (o : Offered) → IsListedNow o → IsPlaced w.streams o
-  placed_before o (was_listed listed kept apart) = k.known.placed o listed
-  placed_before o (is_new h p d e) = subst (λ z. IsPlaced w.streams z) (sym e) (newly_placed h p d)
+  placed : (o : Offered) → IsListedNow o → IsPlaced y.streams o ⊎ (o.talk ≡ None)
+  placed o (was_listed listed kept apart) = placed_still l s w r y.streams a.streams o (k.known.placed o listed)
+  placed o (is_new j is e) = inl (subst (λ z. IsPlaced y.streams z) (sym e) (newly_placed j is))
 
   once : (o p : Offered) → IsListedNow o → IsListedNow p → o.node ≡ p.node → o.prefix ≡ p.prefix → o ≡ p
   once o p (was_listed a0 b0 c0) (was_listed a1 b1 c1) e f = k.known.once o p a0 a1 e f
-  once o p (was_listed a0 b0 c0) (is_new h z d i) e f =
-      absurd (true≢false (sym (offer_of a.visit.node z o (e ∙ ap (λ (x : Offered). x.node) i) (f ∙ ap (λ (x : Offered). x.prefix) i)) ∙ c0 h z d))
-  once o p (is_new h z d i) (was_listed a1 b1 c1) e f =
-      absurd (true≢false (sym (offer_of a.visit.node z p (sym e ∙ ap (λ (x : Offered). x.node) i) (sym f ∙ ap (λ (x : Offered). x.prefix) i)) ∙ c1 h z d))
-  once o p (is_new h z d i) (is_new j n c u) e f =
-      let same = one_decided a.visit.seat.agent.act a.agent.act h j z n d c in
-      i ∙ (ap (λ k. newly k z) same.0 ∙ (ap (λ k. newly j k) same.1 ∙ sym u))
+  once o p (was_listed a0 b0 c0) (is_new j d i) e f =
+      absurd (true≢false (sym (offer_of a.visit.node j.prefix o (e ∙ ap (λ (x : Offered). x.node) i) (f ∙ ap (λ (x : Offered). x.prefix) i)) ∙ c0 j d))
+  once o p (is_new j d i) (was_listed a1 b1 c1) e f =
+      absurd (true≢false (sym (offer_of a.visit.node j.prefix p (sym e ∙ ap (λ (x : Offered). x.node) i) (sym f ∙ ap (λ (x : Offered). x.prefix) i)) ∙ c1 j d))
+  once o p (is_new j d i) (is_new n c u) e f = i ∙ (ap (λ z. newly z) (same_Some j n (sym d ∙ c)) ∙ sym u)
 
-  entries : (n : ℕ) (seat : Seat) → seat_at y n ≡ Some seat → (place : ℕ) (g : Giving) (p : Prefix) → slice_get seat.agent.giving place ≡ Some g → g.offer ≡ Some p
-      → (x : SessionState) → IsOwnSession seat.core.sessions g.handle Far x → IsOfferedOn y n seat x.stream p
-  entries n seat found place g p at offer x own = by_node (cases_eq n a.visit.node) where
-    of_own : n ≡ a.visit.node → new ≡ seat → IsOfferedOn y n seat x.stream p
-    of_own e same =
-        subst (λ m. IsOfferedOn y m seat x.stream p) (sym e)
-        (subst (λ (z : Seat). slice_get z.agent.giving place ≡ Some g → IsOwnSession z.core.sessions g.handle Far x → IsOfferedOn y a.visit.node z x.stream p) same
-        (λ there mine. own_entry place g p there offer x mine) at own)
+  -- what holds of the node of the step as it is now, and of each other node, holds of every node
+  by_node : (P : ℕ → Seat → Type 0) → P a.visit.node new → ((n : ℕ) (seat : Seat) → n ≢ a.visit.node → seat_at w n ≡ Some seat → P n seat) → (n : ℕ) (seat : Seat) → seat_at y n ≡ Some seat → P n seat
+  by_node P = each_node w y a.visit.node new a.there a.others P
 
-    by_node : (n ≡ a.visit.node) ⊎ (n ≡ a.visit.node → ⊥) → IsOfferedOn y n seat x.stream p
-    by_node (inl e) = of_own e (same_Some new seat (sym a.there ∙ (ap (λ m. seat_at y m) (sym e) ∙ found)))
-    by_node (inr apart) = other_still n seat x.stream p apart (k.known.entries n seat (sym (a.others n apart) ∙ found) place g p at offer x own)
+  unsent : (n : ℕ) (seat : Seat) → seat_at y n ≡ Some seat → (p : Prefix) → unsent_of seat.agent.back ≡ Some p → Contains y.offers (offer_unsent n p)
+  unsent n seat found p = by_node (λ m z. unsent_of z.agent.back ≡ Some p → Contains y.offers (offer_unsent m p)) (own_unsent p)
+      (λ m z apart here e. still_listed w y a (offer_unsent m p) (k.known.unsent m z here p e) (kept_elsewhere a.visit.node a.agent.pool (offer_unsent m p) apart)
+      (λ j is. no_offer_of a.visit.node j.prefix (offer_unsent m p) (λ g f. apart g))) n seat found
 
-  gone : (n : ℕ) (seat : Seat) → seat_at y n ≡ Some seat → (x : SessionState) (p : Prefix) → Contains seat.core.sessions.gone x → x.owner ≡ 1 → x.view.role ≡ Far → IsOpenOffer x.view p
-      → IsOfferedOn y n seat x.stream p
-  gone n seat found x p was own role is_open = by_node (cases_eq n a.visit.node) where
-    of_own : n ≡ a.visit.node → new ≡ seat → IsOfferedOn y n seat x.stream p
-    of_own e same =
-        subst (λ m. IsOfferedOn y m seat x.stream p) (sym e)
-        (subst (λ (z : Seat). Contains z.core.sessions.gone x → IsOfferedOn y a.visit.node z x.stream p) same (λ there. own_gone x p there own role is_open) was)
+  offered : (n : ℕ) (seat : Seat) → seat_at y n ≡ Some seat → (side : Side) (h : Handle) (p : Prefix) → OffersIn seat.agent side h p → (x : SessionState) → IsOwnSession seat.core.sessions h side x
+      → IsOfferedOn y n seat side x.stream p
+  offered n seat found side h p o x own = by_node (λ m z. OffersIn z.agent side h p → IsOwnSession z.core.sessions h side x → IsOfferedOn y m z side x.stream p) (λ there mine. own_offer side h p there x mine)
+      (λ m z apart here there mine. other_still m z side x.stream p apart (k.known.offered m z here side h p there x mine)) n seat found o own
 
-    by_node : (n ≡ a.visit.node) ⊎ (n ≡ a.visit.node → ⊥) → IsOfferedOn y n seat x.stream p
-    by_node (inl e) = of_own e (same_Some new seat (sym a.there ∙ (ap (λ m. seat_at y m) (sym e) ∙ found)))
-    by_node (inr apart) = other_still n seat x.stream p apart (k.known.gone n seat (sym (a.others n apart) ∙ found) x p was own role is_open)
+  gone : (n : ℕ) (seat : Seat) → seat_at y n ≡ Some seat → (x : SessionState) (p : Prefix) → Contains seat.core.sessions.gone x → x.owner ≡ 1 → IsOpenOffer x.view p → IsOfferedOn y n seat x.view.role x.stream p
+  gone n seat found x p was own is_open = by_node (λ m z. Contains z.core.sessions.gone x → IsOfferedOn y m z x.view.role x.stream p) (λ there. own_gone x p there own is_open)
+      (λ m z apart here there. other_still m z x.view.role x.stream p apart (k.known.gone m z here x p there own is_open)) n seat found was
 
   pub offers_known : OffersAreKnown y
   offers_known = record {
     once = λ o p h j e f. once o p (listed_now o h) (listed_now p j) e f;
-    placed = λ o h. placed_still w.streams y.streams a.streams o (placed_before o (listed_now o h));
-    entries = entries;
+    placed = λ o h. placed o (listed_now o h);
+    unsent = unsent;
+    offered = offered;
     gone = gone;
   }

@@ -1,14 +1,14 @@
 -- The offers that an agent's own step frees or takes were all that might be accepted.
-use Rattle.std.proofs.Common.{◌≡◌, ◌≢◌, refl, sym, ap, ◌∙◌, subst, ℕ, true, false, inl, inr, ◌⊎◌, List, Contains, Some, slice_get}
+use Rattle.std.proofs.Common.{◌≡◌, ◌≢◌, refl, sym, ap, ◌∙◌, subst, ℕ, true, false, inl, inr, ◌⊎◌, List, Contains, None, Some, slice_get}
 use Rattle.std.proofs.lemmas.Bool.{true≢false}
 use Rattle.std.proofs.lemmas.Option.{same_Some}
-use Rattle.grasp_agent.proofs.Offers.{offer_there}
 use Rattle.grasp_agent.specs.Calls.{objective_name}
-use Rattle.grasp_agent.specs.States.{AgentState}
+use Rattle.grasp_agent.specs.States.{AgentState, unsent_of}
 use Rattle.grasp_model_node.specs.Node.{NodeState}
+use Rattle.grasp_laws_session.proofs.Follows.{other_other}
 use Rattle.grasp_session.specs.Conversation.{Said, strip, requested, accepted_by, ended, turn, spoken}
 use Rattle.grasp_session.specs.Laws.{IsView, Accepting}
-use Rattle.grasp_session.specs.Messages.{Side, Near, Far}
+use Rattle.grasp_session.specs.Messages.{Side, other}
 use Rattle.grasp_session.specs.Sessions.{SessionState}
 use Rattle.grasp_session.specs.Transcript.{Transcript, SayEnd, having_said, known, sent_of, session_of}
 use Rattle.grasp_types.specs.Prefix.{AddressBlock as Prefix}
@@ -17,7 +17,7 @@ use Rattle.grasp_types.specs.declared.message.Verdict.TheVariants.{Accept}
 use Rattle.grasp_types.specs.declared.objective.Objective.{Objective}
 use Rattle.grasp_types.specs.declared.session.Handle.{Handle}
 use Rattle.grasp_types.specs.declared.session.Kind.TheVariants.{Negotiation}
-use Rattle.grasp_laws_network.specs.Authorities.{IsOpenTalk, IsAuthority, is_accepted, has_accepted}
+use Rattle.grasp_laws_network.specs.Authorities.{IsOpenTalk, IsAuthority, is_return, offering_by, taking_side, is_accepted, has_accepted}
 use Rattle.grasp_model_network.specs.Offers.{offers_after}
 use Rattle.grasp_model_network.specs.Runs.{IsReached}
 use Rattle.grasp_model_network.specs.Sending.{seat_with}
@@ -30,7 +30,9 @@ use Rattle.grasp_laws_agents.specs.Owning.{IsOwned}
 use Rattle.grasp_laws_agents.specs.Giving.{IsOpenOffer, IsOwnSession}
 use Rattle.grasp_laws_agents.specs.OfferLaws.{AgentMoves, MayGoBack, IsAcceptance}
 use Rattle.grasp_laws_node.proofs.Consistent.Declines.{handle_state}
-use Rattle.grasp_laws_prefixes.proofs.Givers.{Gave, by_entry, by_gone, gave_there, kept_there}
+use Rattle.grasp_laws_prefixes.proofs.Asked.{request_stays}
+use Rattle.grasp_laws_prefixes.proofs.EntryOffers.{offers_reserved}
+use Rattle.grasp_laws_prefixes.proofs.Givers.{Gave, by_offer, by_gone, gave_there, kept_there, offering_there}
 use Rattle.grasp_laws_prefixes.proofs.OwnSessions.{handle_made, IsSessionAt, session_there, IsViewOf, view_of, IsTalkOf, talk_of}
 use Rattle.grasp_laws_prefixes.proofs.Places.{same_place}
 use Rattle.grasp_laws_prefixes.proofs.Speech.{never_accepted, open_unaccepted, said_acceptance, accepting_open}
@@ -45,16 +47,18 @@ pub record AgentStep (w y : WorldState) : Type 0 where
   pub here : seat_at w visit.node ≡ Some visit.seat
   pub there : seat_at y visit.node ≡ Some (seat_with visit.seat core agent)
   pub others : (n : ℕ) → n ≢ visit.node → seat_at y n ≡ seat_at w n
-  pub offers : y.offers ≡ offers_after w visit core agent
+  pub offers : y.offers ≡ offers_after y.streams w visit core agent
   pub streams : AllStay w.streams y.streams
   pub moves : AgentMoves visit.seat.core core visit.seat.agent agent
+  -- where a return is to be requested, nothing is decided
+  pub alone : (p : Prefix) → unsent_of visit.seat.agent.back ≡ Some p → visit.seat.agent.act ≡ None → agent.act ≡ None
 
 -- an offer of this prefix that may be accepted
 pub record IsOfferOf (w : WorldState) (node : ℕ) (p : Prefix) : Type 0 where
   pub place : ℕ
   pub authority : IsAuthority w (offer_on node p place)
 
-module _ (l : Grounds) (s : Setting) (w : WorldState) (r : IsReached s w) (k : PrefixesStand w) where
+module _ (l : Grounds) (s : Setting) (w : WorldState) (r : IsReached s w) where
   -- ---- a session of agent 1
 
   pub own_talk : (node : ℕ) (seat : Seat) → seat_at w node ≡ Some seat → (h : Handle) (side : Side) (x : SessionState) → IsOwnSession seat.core.sessions h side x → IsTalkOf w node seat x side
@@ -62,11 +66,16 @@ module _ (l : Grounds) (s : Setting) (w : WorldState) (r : IsReached s w) (k : P
       let owned : IsOwned x = l.owned s w r node seat here h.place x (handle_state seat.core.sessions h x own.at).0 in
       talk_of l.streams s w r node seat here x (handle_made seat.core.sessions h x own.at) side own.role (owned.own own.owner).0
 
+  -- what it saw on its stream
+  pub own_view : (node : ℕ) (seat : Seat) (x : SessionState) (side : Side) → (t : IsTalkOf w node seat x side) → IsView side t.talk.said x.view
+  own_view node seat x side t = (l.known s w r t.place t.talk t.stands t.negotiation).views side x.view t.saw
+
+module _ (l : Grounds) (s : Setting) (w : WorldState) (r : IsReached s w) (k : PrefixesStand w) where
   -- an offer that is listed for the stream of a session is for that stream
-  listed_at : (node : ℕ) (seat : Seat) (stream : ℕ) (p : Prefix) (place : ℕ) (t : StreamState) → slice_get w.streams place ≡ Some t → end_at t Far ≡ Some (end_of node seat stream) → IsOfferedOn w node seat stream p
-      → Contains w.offers (offer_on node p place)
-  listed_at node seat stream p place t stands far o =
-      let same : o.place ≡ place = same_place l.ready s w r (end_of node seat stream) o.place place o.at.talk t Far Far o.at.stands o.at.far stands far in
+  listed_at : (node : ℕ) (seat : Seat) (side : Side) (stream : ℕ) (p : Prefix) (place : ℕ) (t : StreamState) → slice_get w.streams place ≡ Some t → end_at t side ≡ Some (end_of node seat stream)
+      → IsOfferedOn w node seat side stream p → Contains w.offers (offer_on node p place)
+  listed_at node seat side stream p place t stands ends o =
+      let same : o.place ≡ place = same_place l.ready s w r (end_of node seat stream) o.place place o.at.talk t side side o.at.stands o.at.end_is stands ends in
       subst (λ n. Contains w.offers (offer_on node p n)) same o.listed
 
   -- ---- an offer that is given back
@@ -75,114 +84,129 @@ module _ (l : Grounds) (s : Setting) (w : WorldState) (r : IsReached s w) (k : P
   given_offer node seat here p g = record {
     place = t.place;
     authority = record {
-      listed = listed_at node seat g.session.stream p t.place t.talk t.stands t.ends (k.known.entries node seat here g.place g.entry p g.at g.offer g.session g.own);
-      kept = record { seat = seat; here = here; listed = inl (((l.kept s w r node seat here).reserved p).1 (offer_there seat.agent.giving g.place g.entry p g.at g.offer)) };
-      live = record { talk = t.talk; here = t.stands; open_still = never_accepted Near t.talk.said (l.in_order s w r t.place t.talk t.stands t.negotiation) unaccepted };
+      listed = listed_at node seat g.side g.session.stream p t.place t.talk t.stands t.ends (k.known.offered node seat here g.side g.handle p g.offers g.session g.own);
+      kept = record { seat = seat; here = here; listed = inl (offers_reserved seat.agent g.side g.handle p (l.kept s w r node seat here) g.offers) };
+      live = record { talk = t.talk; here = t.stands; open_still = never_accepted (taking_side t.talk) t.talk.said (l.in_order s w r t.place t.talk t.stands t.negotiation) unaccepted };
     };
   } where
-    t : IsTalkOf w node seat g.session Far
-    t = own_talk node seat here g.entry.handle Far g.session g.own
+    t : IsTalkOf w node seat g.session g.side
+    t = own_talk l s w r node seat here g.handle g.side g.session g.own
 
-    view : IsView Far t.talk.said g.session.view
-    view = (l.known s w r t.place t.talk t.stands t.negotiation).views Far g.session.view t.saw
+    view : IsView g.side t.talk.said g.session.view
+    view = own_view l s w r node seat g.session g.side t
 
     whole : (turn (known g.session.view) ≡ g.session.view.role) ⊎ (ended (known g.session.view) ≡ true) → known g.session.view ≡ strip t.talk.said
     whole (inl mine) = view.whole (inl (mine ∙ view.role))
     whole (inr over) = view.whole (inr over)
 
-    unaccepted : accepted_by Near (strip t.talk.said) ≡ false
-    unaccepted = ap (λ (c : List Said). accepted_by Near c) (sym (whole g.unaccepted.whole)) ∙ g.unaccepted.no_acceptance Near
+    unaccepted : accepted_by (taking_side t.talk) (strip t.talk.said) ≡ false
+    unaccepted = ap (λ (c : List Said). accepted_by (taking_side t.talk) c) (sym (whole g.unaccepted.whole)) ∙ g.unaccepted.no_acceptance (taking_side t.talk)
 
   -- ---- an offer that is accepted
 
   module _ (node : ℕ) (seat : Seat) (here : seat_at w node ≡ Some seat) (after : NodeState) (p : Prefix) (g : IsAcceptance seat.core after seat.agent p) where
-    pub near : IsTalkOf w node seat g.session Near
-    near = own_talk node seat here g.handle Near g.session g.own
+    pub mine : IsTalkOf w node seat g.session g.side
+    mine = own_talk l s w r node seat here g.handle g.side g.session g.own
 
-    pub peer : (u : Transcript) × (view_at w near.talk Far ≡ Some u)
-    peer = (l.known s w r near.place near.talk near.stands near.negotiation).peer Near g.session.view near.saw g.may
+    pub peer : (u : Transcript) × (view_at w mine.talk (other g.side) ≡ Some u)
+    peer = (l.known s w r mine.place mine.talk mine.stands mine.negotiation).peer g.side g.session.view mine.saw g.may
 
-    accepting : Accepting Near near.talk.said g.session.view peer.0
-    accepting = (l.known s w r near.place near.talk near.stands near.negotiation).accepts Near g.session.view peer.0 near.saw peer.1 g.may
+    accepting : Accepting g.side mine.talk.said g.session.view peer.0
+    accepting = (l.known s w r mine.place mine.talk mine.stands mine.negotiation).accepts g.side g.session.view peer.0 mine.saw peer.1 g.may
 
-    far_view : IsView Far near.talk.said peer.0
-    far_view = (l.known s w r near.place near.talk near.stands near.negotiation).views Far peer.0 peer.1
+    their_view : IsView (other g.side) mine.talk.said peer.0
+    their_view = (l.known s w r mine.place mine.talk mine.stands mine.negotiation).views (other g.side) peer.0 peer.1
 
-    near_view : IsView Near near.talk.said g.session.view
-    near_view = (l.known s w r near.place near.talk near.stands near.negotiation).views Near g.session.view near.saw
+    my_view : IsView g.side mine.talk.said g.session.view
+    my_view = own_view l s w r node seat g.session g.side mine
 
     is_open : IsOpenOffer peer.0 p
-    is_open = accepting_open near.talk.said g.session.view peer.0 p g.own.role far_view accepting g.offer
+    is_open = accepting_open g.side mine.talk.said g.session.view peer.0 p g.own.role their_view accepting g.offer
 
-    name : (requested (strip near.talk.said)).name ≡ objective_name
+    name : (requested (strip mine.talk.said)).name ≡ objective_name
     name =
         let owned : IsOwned g.session = l.owned s w r node seat here g.handle.place g.session (handle_state seat.core.sessions g.handle g.session g.own.at).0 in
-        ap (λ (o : Objective). o.name) (sym near_view.same_request) ∙ (owned.own g.own.owner).1
+        ap (λ (o : Objective). o.name) (sym my_view.same_request) ∙ (owned.own g.own.owner).1
 
-    pub far : IsViewOf w near.talk Far peer.0
-    far = view_of w near.talk Far peer.0 peer.1
+    pub theirs : IsViewOf w mine.talk (other g.side) peer.0
+    theirs = view_of w mine.talk (other g.side) peer.0 peer.1
 
-    there : IsSessionAt w far.at far.session
-    there = session_there l.ready s w r near.place near.talk near.stands Far far.at far.ends far.session far.found
+    there : IsSessionAt w theirs.at theirs.session
+    there = session_there l.ready s w r mine.place mine.talk mine.stands (other g.side) theirs.at theirs.ends theirs.session theirs.found
 
-    seen : IsView Far near.talk.said far.session.view
-    seen = subst (λ u. IsView Far near.talk.said u) (sym far.view) far_view
+    seen : IsView (other g.side) mine.talk.said theirs.session.view
+    seen = subst (λ u. IsView (other g.side) mine.talk.said u) (sym theirs.view) their_view
 
-    open_there : IsOpenOffer far.session.view p
-    open_there = subst (λ u. IsOpenOffer u p) (sym far.view) is_open
+    open_there : IsOpenOffer theirs.session.view p
+    open_there = subst (λ u. IsOpenOffer u p) (sym theirs.view) is_open
 
-    -- the offer is listed at the giver
-    offered_there : Gave there.seat far.session p → IsOfferedOn w far.at.node there.seat far.session.stream p
-    offered_there (by_entry place e at offer own) = k.known.entries far.at.node there.seat there.here place e p at offer far.session own
-    offered_there (by_gone gone own) = k.known.gone far.at.node there.seat there.here far.session p gone own seen.role open_there
+    -- the offer is listed at the other end
+    offered_there : Gave there.seat theirs.session p → IsOfferedOn w theirs.at.node there.seat (other g.side) theirs.session.stream p
+    offered_there (by_offer side h o own) =
+        subst (λ k. IsOfferedOn w theirs.at.node there.seat k theirs.session.stream p) (sym own.role ∙ seen.role) (k.known.offered theirs.at.node there.seat there.here side h p o theirs.session own)
+    offered_there (by_gone gone own) =
+        subst (λ k. IsOfferedOn w theirs.at.node there.seat k theirs.session.stream p) seen.role (k.known.gone theirs.at.node there.seat there.here theirs.session p gone own open_there)
 
-    pub accepted_offer : IsAuthority w (offer_on far.at.node p near.place)
+    pub accepted_offer : IsAuthority w (offer_on theirs.at.node p mine.place)
     accepted_offer = record {
-      listed = listed_at far.at.node there.seat far.session.stream p near.place near.talk near.stands (far.ends ∙ ap (λ e. Some e) there.end_is)
-          (offered_there (gave_there l s w r far.at near.place near.talk near.stands near.negotiation far.session there p seen name open_there));
-      kept = kept_there l s w r far.at near.place near.talk near.stands near.negotiation far.session there p seen name open_there;
+      listed = listed_at theirs.at.node there.seat (other g.side) theirs.session.stream p mine.place mine.talk mine.stands (theirs.ends ∙ ap (λ e. Some e) there.end_is)
+          (offered_there (gave_there l s w r theirs.at (other g.side) mine.place mine.talk mine.stands mine.negotiation theirs.session there p seen name open_there));
+      kept = kept_there l s w r theirs.at (other g.side) mine.place mine.talk mine.stands mine.negotiation theirs.session there p seen name open_there;
       live = record {
-        talk = near.talk;
-        here = near.stands;
-        open_still = never_accepted Near near.talk.said (l.in_order s w r near.place near.talk near.stands near.negotiation) (open_unaccepted Near (strip near.talk.said) accepting.no_end);
+        talk = mine.talk;
+        here = mine.stands;
+        open_still = never_accepted (taking_side mine.talk) mine.talk.said (l.in_order s w r mine.place mine.talk mine.stands mine.negotiation)
+            (open_unaccepted (taking_side mine.talk) (strip mine.talk.said) accepting.no_end);
       };
     }
 
+    -- the other end offers, so this one takes
+    pub takes : taking_side mine.talk ≡ g.side
+    takes =
+        ap (λ k. other k) (offering_there l s w r theirs.at (other g.side) mine.place mine.talk mine.stands mine.negotiation theirs.session there p seen name open_there) ∙ other_other g.side
+
     -- after it the taking side has accepted
-    pub spent : (y : WorldState) → IsReached s y → AllStay w.streams y.streams → (agent : AgentState) → seat_at y node ≡ Some (seat_with seat after agent) → ¬ IsOpenTalk y.streams near.place
-    spent y q stay agent now open_still = true≢false (sym said ∙ (ap (λ (x : StreamState). is_accepted x) (sym same) ∙ open_still.open_still)) where
-      new : Seat
-      new = seat_with seat after agent
+    pub spent : (y : WorldState) → IsReached s y → AllStay w.streams y.streams → (agent : AgentState) → seat_at y node ≡ Some (seat_with seat after agent) → ¬ IsOpenTalk y.streams mine.place
+    spent y q stay agent now open_still =
+        true≢false (sym said ∙ (ap (λ k. has_accepted k of.talk.said) (sym (takes_now ∙ takes)) ∙ (ap (λ (x : StreamState). is_accepted x) (sym same) ∙ open_still.open_still)))
+      where
+        x : SessionState
+        x = g.said.0
 
-      x : SessionState
-      x = g.said.0
+        said_view : x.view ≡ having_said g.session.view g.now (SayEnd Accept)
+        said_view = g.said.1.2
 
-      said_view : x.view ≡ having_said g.session.view g.now (SayEnd Accept)
-      said_view = g.said.1.2
+        kind : x.view.kind ≡ Negotiation
+        kind =
+            let owned : IsOwned g.session = l.owned s w r node seat here g.handle.place g.session (handle_state seat.core.sessions g.handle g.session g.own.at).0 in
+            ap (λ (v : Transcript). v.kind) said_view ∙ (owned.own g.own.owner).0
 
-      kind : x.view.kind ≡ Negotiation
-      kind =
-          let owned : IsOwned g.session = l.owned s w r node seat here g.handle.place g.session (handle_state seat.core.sessions g.handle g.session g.own.at).0 in
-          ap (λ (v : Transcript). v.kind) said_view ∙ (owned.own g.own.owner).0
+        role : x.view.role ≡ g.side
+        role = ap (λ (v : Transcript). v.role) said_view ∙ g.own.role
 
-      role : x.view.role ≡ Near
-      role = ap (λ (v : Transcript). v.role) said_view ∙ g.own.role
+        of : IsTalkOf y node (seat_with seat after agent) x g.side
+        of = talk_of l.streams s y q node (seat_with seat after agent) now x (handle_made after.sessions g.handle x g.said.1.0) g.side role kind
 
-      of : IsTalkOf y node (seat_with seat after agent) x Near
-      of = talk_of l.streams s y q node (seat_with seat after agent) now x (handle_made after.sessions g.handle x g.said.1.0) Near role kind
+        u : Stays y.streams mine.place mine.talk
+        u = stay mine.place mine.talk mine.stands
 
-      u : Stays y.streams near.place near.talk
-      u = stay near.place near.talk near.stands
+        place_is : of.place ≡ mine.place
+        place_is = same_place l.ready s y q (end_of node seat g.session.stream) of.place mine.place of.talk u.after g.side g.side of.stands (of.ends ∙ ap (λ n. Some (end_of node seat n)) g.said.1.1)
+            u.stands (u.ends g.side (end_of node seat g.session.stream) mine.ends)
 
-      place_is : of.place ≡ near.place
-      place_is = same_place l.ready s y q (end_of node seat g.session.stream) of.place near.place of.talk u.after Near Near of.stands (of.ends ∙ ap (λ n. Some (end_of node seat n)) g.said.1.1)
-          u.stands (u.ends Near (end_of node seat g.session.stream) near.ends)
+        there_now : slice_get y.streams mine.place ≡ Some of.talk
+        there_now = ap (λ n. slice_get y.streams n) (sym place_is) ∙ of.stands
 
-      same : open_still.talk ≡ of.talk
-      same = same_Some open_still.talk of.talk (sym open_still.here ∙ (ap (λ n. slice_get y.streams n) (sym place_is) ∙ of.stands))
+        same : open_still.talk ≡ of.talk
+        same = same_Some open_still.talk of.talk (sym open_still.here ∙ there_now)
 
-      own : spoken Near of.talk.said ≡ sent_of x.view.entries
-      own = ((l.known s y q of.place of.talk of.stands of.negotiation).views Near x.view of.saw).own
+        takes_now : taking_side of.talk ≡ taking_side mine.talk
+        takes_now =
+            ap (λ (x : StreamState). taking_side x) (same_Some of.talk u.after (sym there_now ∙ u.stands))
+            ∙ ap (λ (o : Objective). other (offering_by (is_return o.value))) (request_stays l s w r mine.place mine.talk mine.stands mine.negotiation my_view.was_requested y (inl q) u)
 
-      said : has_accepted Near of.talk.said ≡ true
-      said = said_acceptance Near of.talk.said (End (session_of g.session.view) Accept) (sent_of g.session.view.entries) refl (own ∙ ap (λ (v : Transcript). sent_of v.entries) said_view)
+        own : spoken g.side of.talk.said ≡ sent_of x.view.entries
+        own = ((l.known s y q of.place of.talk of.stands of.negotiation).views g.side x.view of.saw).own
+
+        said : has_accepted g.side of.talk.said ≡ true
+        said = said_acceptance g.side of.talk.said (End (session_of g.session.view) Accept) (sent_of g.session.view.entries) refl (own ∙ ap (λ (v : Transcript). sent_of v.entries) said_view)

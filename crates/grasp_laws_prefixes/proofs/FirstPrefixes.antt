@@ -3,7 +3,6 @@ use Rattle.std.proofs.Common.{◌≡◌, refl, sym, ap, ◌∙◌, subst, arith,
 use Rattle.std.proofs.lemmas.Bool.{eqb-false, cases_order}
 use Rattle.std.proofs.lemmas.List.Elements.{All-contains}
 use Rattle.std.proofs.lemmas.Option.{none-some, slice_get_within, get_or_from_slice_get}
-use Rattle.grasp_agent.proofs.Offers.{offer_there}
 use Rattle.grasp_pool.specs.Functions.{pool_of}
 use Rattle.grasp_pool.specs.Holdings.{Holding, IsFree}
 use Rattle.grasp_pool.specs.Roots.{block_of, IsRootAddress}
@@ -18,6 +17,7 @@ use Rattle.grasp_model_network.specs.Runs.{first_seat, first_world}
 use Rattle.grasp_model_network.specs.Setting.{Member, Setting}
 use Rattle.grasp_model_network.specs.Visits.{no_choice}
 use Rattle.grasp_model_network.specs.World.{Seat, Offered, seat_at}
+use Rattle.grasp_laws_prefixes.proofs.EntryOffers.{offers_reserved, unsent_reserved}
 use Rattle.grasp_laws_prefixes.proofs.Listing.{none_in}
 use Rattle.grasp_laws_prefixes.proofs.Standing.{PrefixesStand}
 use Rattle.grasp_laws_prefixes.specs.Grounds.{Grounds}
@@ -91,9 +91,9 @@ module _ (s : Setting) (good : IsGoodSetting s) where
     known = record {
       once = λ o p h j e f. absurd (none_offered o h);
       placed = λ o h. absurd (none_offered o h);
-      entries = λ node seat here place g p at offer x own.
-          absurd (none_reserved node seat here p (((l.kept s (first_world s) (first_reached s good) node seat here).reserved p).1 (offer_there seat.agent.giving place g p at offer)));
-      gone = λ node seat here x p gone own role is_open. absurd (none_doubtful node seat here p ((l.give s (first_world s) (first_reached s good) node seat here).gone x p gone own role is_open));
+      unsent = λ node seat here p e. absurd (none_reserved node seat here p (unsent_reserved seat.agent p (l.kept s (first_world s) (first_reached s good) node seat here) e));
+      offered = λ node seat here side h p o x own. absurd (none_reserved node seat here p (offers_reserved seat.agent side h p (l.kept s (first_world s) (first_reached s good) node seat here) o));
+      gone = λ node seat here x p gone own is_open. absurd (none_doubtful node seat here p ((l.give s (first_world s) (first_reached s good) node seat here).gone x p gone own is_open));
     };
     held = first_held;
     authorities = record {

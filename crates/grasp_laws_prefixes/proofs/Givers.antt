@@ -1,9 +1,9 @@
--- What an open offer of a giver is at its node: that of an entry, or in doubt.
+-- What an open offer is at its node: that of an agent of prefixes, or in doubt.
 use Rattle.std.proofs.Common.{◌≡◌, refl, sym, ap, ◌∙◌, subst, ℕ, Bool, true, false, inl, inr, ◌⊎◌, Contains, Option, Some, None, slice_get}
 use Rattle.std.proofs.lemmas.Bool.{true≢false, cases_eq}
 use Rattle.std.proofs.lemmas.Option.{same_Some}
-use Rattle.grasp_agent.proofs.Offers.{offer_there}
 use Rattle.grasp_agent.specs.Calls.{objective_name}
+use Rattle.grasp_agent.specs.declared.back.Return.{Return}
 use Rattle.grasp_agent.specs.declared.giving.Giving.{Giving}
 use Rattle.grasp_pool.specs.Holdings.{IsFree, IsListed}
 use Rattle.grasp_laws_session.proofs.Trailing.{trails_legal}
@@ -11,7 +11,7 @@ use Rattle.grasp_session.proofs.Facts.{at_handle}
 use Rattle.grasp_session.specs.Conversation.{strip, requested, has_offered, IsLegal}
 use Rattle.grasp_session.specs.Laws.{IsView}
 use Rattle.grasp_session.specs.Made.{AreFresh, IsFresh}
-use Rattle.grasp_session.specs.Messages.{Far}
+use Rattle.grasp_session.specs.Messages.{Side, Near, Far}
 use Rattle.grasp_session.specs.Runs.{WasMade}
 use Rattle.grasp_session.specs.Says.{IsAt}
 use Rattle.grasp_session.specs.Sessions.{SessionState}
@@ -19,25 +19,27 @@ use Rattle.grasp_session.specs.Transcript.{Transcript, known, request_of}
 use Rattle.grasp_types.specs.Prefix.{AddressBlock as Prefix, span_of}
 use Rattle.grasp_types.specs.declared.objective.Objective.{Objective}
 use Rattle.grasp_types.specs.declared.session.Handle.{Handle}
-use Rattle.grasp_laws_network.specs.Authorities.{Holds, Keeps}
+use Rattle.grasp_laws_network.specs.Authorities.{Holds, Keeps, is_return, offering_by, offering_side}
 use Rattle.grasp_model_network.specs.Runs.{IsReached}
 use Rattle.grasp_model_network.specs.Setting.{Setting}
 use Rattle.grasp_model_network.specs.Streams.{StreamEnd, StreamState}
 use Rattle.grasp_laws_network.specs.Views.{session_of_end}
 use Rattle.grasp_model_network.specs.World.{Seat, WorldState, seat_at}
+use Rattle.grasp_laws_agents.proofs.Sides.{sides}
 use Rattle.grasp_laws_agents.specs.GoingOn.{IsOwnedGone}
 use Rattle.grasp_laws_agents.specs.Owning.{IsOwned}
-use Rattle.grasp_laws_agents.specs.Giving.{IsOpenOffer, IsOwnSession, OfferStands, EntryStands, is_offering}
+use Rattle.grasp_laws_agents.specs.Giving.{HasOffered, IsOpenOffer, IsOwnSession, OfferStands, OffersIn, in_entry, in_return, IsOffersSession, of_entry, of_return, EntryStands, ReturnStands, is_offering}
 use Rattle.grasp_laws_delivery.proofs.Worlds.{reached_in_order}
 use Rattle.grasp_laws_negotiation.specs.Negotiations.{IsNegotiation}
+use Rattle.grasp_laws_prefixes.proofs.EntryOffers.{offers_reserved}
 use Rattle.grasp_laws_prefixes.proofs.OwnSessions.{one_session, IsSessionAt, session_there, IsViewOf, view_of}
 use Rattle.grasp_laws_prefixes.proofs.Speech.{deciding_closed, same_requested}
 use Rattle.grasp_laws_prefixes.specs.Grounds.{Grounds}
 use Rattle.grasp_laws_prefixes.specs.Apart.{IsSetAside, OffersAreSetAside}
 
--- the session that made it: that of an entry with this offer, or one that is no longer live
+-- the session that made it: one in which the agent offers this prefix, or one that is no longer live
 pub data Gave (seat : Seat) (x : SessionState) (p : Prefix) : Type 0 where
-  by_entry : (place : ℕ) (g : Giving) → slice_get seat.agent.giving place ≡ Some g → g.offer ≡ Some p → IsOwnSession seat.core.sessions g.handle Far x → Gave seat x p
+  by_offer : (side : Side) (h : Handle) → OffersIn seat.agent side h p → IsOwnSession seat.core.sessions h side x → Gave seat x p
   by_gone : Contains seat.core.sessions.gone x → x.owner ≡ 1 → Gave seat x p
 
 -- a listener that has only heard the request has offered nothing
@@ -45,14 +47,10 @@ fresh_offers : (v : Transcript) → IsFresh v → has_offered v.role (known v) �
 fresh_offers v f = ap (λ (u : Transcript). has_offered u.role (known u)) f.fresh
 
 module _ (l : Grounds) (s : Setting) (w : WorldState) (r : IsReached s w) where
-  module _ (node : ℕ) (seat : Seat) (here : seat_at w node ≡ Some seat) (x : SessionState) (p : Prefix) (role : x.view.role ≡ Far) (name : (request_of x.view).name ≡ objective_name) (legal : IsLegal (known x.view))
-      (is_open : IsOpenOffer x.view p) where
-    has_not : has_offered Far (known x.view) ≡ false → ⊥
-    has_not e = true≢false (sym is_open.offered.made ∙ (ap (λ k. has_offered k (known x.view)) role ∙ e))
-
+  module _ (node : ℕ) (seat : Seat) (here : seat_at w node ≡ Some seat) (x : SessionState) (p : Prefix) (name : (request_of x.view).name ≡ objective_name) (legal : IsLegal (known x.view)) (is_open : IsOpenOffer x.view p) where
     -- an entry of this session has this offer
-    of_entry : (place : ℕ) (g : Giving) → slice_get seat.agent.giving place ≡ Some g → IsOwnSession seat.core.sessions g.handle Far x → Gave seat x p
-    of_entry place g at own = by_entry place g at (offer_is (is_offering seat.agent.act place) g.offer stands.offer) own where
+    entry_gave : (place : ℕ) (g : Giving) → slice_get seat.agent.giving place ≡ Some g → IsOwnSession seat.core.sessions g.handle Far x → Gave seat x p
+    entry_gave place g at own = by_offer Far g.handle (in_entry refl place g at refl (offer_is (is_offering seat.agent.act place) g.offer stands.offer)) own where
       stands : EntryStands seat.core.sessions seat.agent place g
       stands = (l.give s w r node seat here).entries place g at
 
@@ -63,21 +61,40 @@ module _ (l : Grounds) (s : Setting) (w : WorldState) (r : IsReached s w) where
       still_open = subst (λ (z : SessionState). IsOpenOffer z.view p) (sym same) is_open
 
       offer_is : (b : Bool) (o : Option Prefix) → OfferStands b o stands.session.view → o ≡ Some p
-      offer_is true o d = absurd (deciding_closed stands.session.view p (subst (λ (z : SessionState). IsLegal (known z.view)) (sym same) legal) d still_open)
+      offer_is true o d = absurd (deciding_closed stands.session.view p (subst (λ (z : SessionState). IsLegal (known z.view)) (sym same) legal) d.0 still_open)
       offer_is false None none = absurd (none p still_open)
       offer_is false (Some q) has = sym has.offer ∙ still_open.offered.offer
+
+    -- the return of this session is of this prefix
+    return_gave : (z : Return) (h : Handle) → seat.agent.back ≡ Some z → z.session ≡ Some h → IsOwnSession seat.core.sessions h Near x → Gave seat x p
+    return_gave z h is on own = by_offer Near h (in_return refl z is on same) own where
+      stands : ReturnStands seat.core.sessions h z.prefix
+      stands = (l.give s w r node seat here).back z h is on
+
+      at : stands.session ≡ x
+      at = one_session seat.core.sessions h stands.session x stands.own.at own.at
+
+      same : z.prefix ≡ p
+      same = same_Some z.prefix p (sym (subst (λ (u : SessionState). HasOffered u.view z.prefix) at stands.offer).offer ∙ is_open.offered.offer)
+
+    own_gave : (h : Handle) (side : Side) → IsOwnSession seat.core.sessions h side x → IsOffersSession seat.agent side h → Gave seat x p
+    own_gave h side own (of_entry far place g at on) =
+        entry_gave place g at (subst (λ k. IsOwnSession seat.core.sessions k Far x) (sym on) (subst (λ k. IsOwnSession seat.core.sessions h k x) far own))
+    own_gave h side own (of_return near z is on) = return_gave z h is on (subst (λ k. IsOwnSession seat.core.sessions h k x) near own)
 
     own_live : (place : ℕ) → IsAt seat.core.sessions place x → x.owner ≡ 1 → Gave seat x p
     own_live place at own =
         let h : Handle = record { place = place; number = x.number } in
-        let mine : IsOwnSession seat.core.sessions h Far x = record { at = at_handle seat.core.sessions h x at refl; owner = own; role = role } in
-        let e = (l.give s w r node seat here).live h x p mine is_open in
-        of_entry e.0 e.1.0 e.1.1 (subst (λ k. IsOwnSession seat.core.sessions k Far x) (sym e.1.2) mine)
+        let mine : IsOwnSession seat.core.sessions h x.view.role x = record { at = at_handle seat.core.sessions h x at refl; owner = own; role = refl } in
+        own_gave h x.view.role mine ((l.give s w r node seat here).live h x.view.role x p mine is_open)
 
     untaken_live : (place : ℕ) → IsAt seat.core.sessions place x → x.owner ≡ 0 → ⊥
     untaken_live place at own =
         let fresh : AreFresh seat.core.sessions = ((reached_in_order l.ties s w r).sound node seat here).1.fresh in
         true≢false (sym is_open.offered.made ∙ fresh_offers x.view (fresh place x at own))
+
+    untaken_gone : (x.view.role ≡ Far) × (has_offered Far (known x.view) ≡ false) → ⊥
+    untaken_gone none = true≢false (sym is_open.offered.made ∙ (ap (λ k. has_offered k (known x.view)) none.0 ∙ none.1))
 
     -- the session is agent 1's
     pub gave : WasMade seat.core.sessions x → Gave seat x p
@@ -95,35 +112,45 @@ module _ (l : Grounds) (s : Setting) (w : WorldState) (r : IsReached s w) where
 
       by_owner : (x.owner ≡ 1) ⊎ (x.owner ≡ 1 → ⊥) → (x.owner ≡ 0) ⊎ (x.owner ≡ 0 → ⊥) → Gave seat x p
       by_owner (inl own) u = by_gone gone own
-      by_owner (inr foreign) (inl untaken) = absurd (has_not (owned.untaken untaken).1)
+      by_owner (inr foreign) (inl untaken) = absurd (untaken_gone (owned.untaken untaken))
       by_owner (inr foreign) (inr taken) = absurd (owned.foreign taken foreign name)
 
+  gave_owner : (seat : Seat) (x : SessionState) (p : Prefix) → Gave seat x p → x.owner ≡ 1
+  gave_owner seat x p (by_offer side h o own) = own.owner
+  gave_owner seat x p (by_gone gone own) = own
+
   -- the node has reserved it, or has it in doubt
-  pub gave_listed : (node : ℕ) (seat : Seat) → seat_at w node ≡ Some seat → (x : SessionState) (p : Prefix) → x.view.role ≡ Far → IsOpenOffer x.view p → Gave seat x p → IsListed seat.agent.pool p
-  gave_listed node seat here x p role is_open (by_entry place g at offer own) = inl (((l.kept s w r node seat here).reserved p).1 (offer_there seat.agent.giving place g p at offer))
-  gave_listed node seat here x p role is_open (by_gone gone own) = inr ((l.give s w r node seat here).gone x p gone own role is_open)
+  gave_listed : (node : ℕ) (seat : Seat) → seat_at w node ≡ Some seat → (x : SessionState) (p : Prefix) → IsOpenOffer x.view p → Gave seat x p → IsListed seat.agent.pool p
+  gave_listed node seat here x p is_open (by_offer side h o own) = inl (offers_reserved seat.agent side h p (l.kept s w r node seat here) o)
+  gave_listed node seat here x p is_open (by_gone gone own) = inr ((l.give s w r node seat here).gone x p gone own is_open)
 
   -- what is reserved or in doubt isn't held there
-  pub listed_unheld : (node : ℕ) (seat : Seat) → seat_at w node ≡ Some seat → (p : Prefix) → IsListed seat.agent.pool p → (a : ℕ) → span_of p a → ¬ IsFree seat.agent.pool a
+  listed_unheld : (node : ℕ) (seat : Seat) → seat_at w node ≡ Some seat → (p : Prefix) → IsListed seat.agent.pool p → (a : ℕ) → span_of p a → ¬ IsFree seat.agent.pool a
   listed_unheld node seat here p listed a i free = (l.kept s w r node seat here).pool.held p a listed i free
 
   -- ---- what is offered is set aside
 
   -- of a session at this end that saw this
-  module _ (e : StreamEnd) (place : ℕ) (t : StreamState) (stands : slice_get w.streams place ≡ Some t) (negotiation : IsNegotiation t) (x : SessionState) (there : IsSessionAt w e x) (p : Prefix)
-      (view : IsView Far t.said x.view) (name : (requested (strip t.said)).name ≡ objective_name) (is_open : IsOpenOffer x.view p) where
+  module _ (e : StreamEnd) (side : Side) (place : ℕ) (t : StreamState) (stands : slice_get w.streams place ≡ Some t) (negotiation : IsNegotiation t) (x : SessionState) (there : IsSessionAt w e x) (p : Prefix)
+      (view : IsView side t.said x.view) (name : (requested (strip t.said)).name ≡ objective_name) (is_open : IsOpenOffer x.view p) where
     pub gave_there : Gave there.seat x p
     gave_there =
-        gave e.node there.seat there.here x p view.role (ap (λ (o : Objective). o.name) view.same_request ∙ name)
-        (trails_legal Far (known x.view) (strip t.said) (l.in_order s w r place t stands negotiation).legal view.trails) is_open there.made
+        gave e.node there.seat there.here x p (ap (λ (o : Objective). o.name) view.same_request ∙ name)
+        (trails_legal side (known x.view) (strip t.said) (l.in_order s w r place t stands negotiation).legal view.trails) is_open there.made
 
     pub kept_there : Keeps w e.node p
-    kept_there = record { seat = there.seat; here = there.here; listed = gave_listed e.node there.seat there.here x p view.role is_open gave_there }
+    kept_there = record { seat = there.seat; here = there.here; listed = gave_listed e.node there.seat there.here x p is_open gave_there }
+
+    -- this side is the one that offers
+    pub offering_there : offering_side t ≡ side
+    offering_there =
+        ap (λ (o : Objective). offering_by (is_return o.value)) (sym (view.same_request ∙ same_requested t.said))
+        ∙ (sides there.seat.core there.seat.agent (l.give s w r e.node there.seat there.here) x p there.made (gave_owner there.seat x p gave_there) is_open.offered ∙ view.role)
 
   pub set_aside : OffersAreSetAside w
-  set_aside place e v p giver is_open = by_view (view_of w giver.talk Far v giver.saw) where
-    view : IsView Far giver.talk.said v
-    view = (l.known s w r place giver.talk giver.stands giver.negotiation).views Far v giver.saw
+  set_aside place e v p giver is_open = by_view (view_of w giver.talk (offering_side giver.talk) v giver.saw) where
+    view : IsView (offering_side giver.talk) giver.talk.said v
+    view = (l.known s w r place giver.talk giver.stands giver.negotiation).views (offering_side giver.talk) v giver.saw
 
     name : (requested (strip giver.talk.said)).name ≡ objective_name
     name = ap (λ (o : Objective). o.name) (same_requested giver.talk.said) ∙ giver.objective
@@ -135,10 +162,13 @@ module _ (l : Grounds) (s : Setting) (w : WorldState) (r : IsReached s w) where
           let same : h.seat ≡ kept.seat = same_Some h.seat kept.seat (sym h.here ∙ kept.here) in
           listed_unheld e.node kept.seat kept.here p kept.listed a i (subst (λ (z : Seat). IsFree z.agent.pool a) same h.free)
 
-    by_view : IsViewOf w giver.talk Far v → IsSetAside w e.node p
-    by_view z = aside (kept_there e place giver.talk giver.stands giver.negotiation z.session there p (subst (λ u. IsView Far giver.talk.said u) (sym z.view) view) name (subst (λ u. IsOpenOffer u p) (sym z.view) is_open)) where
-      at : z.at ≡ e
-      at = same_Some z.at e (sym z.ends ∙ giver.end_is)
+    by_view : IsViewOf w giver.talk (offering_side giver.talk) v → IsSetAside w e.node p
+    by_view z =
+        aside
+        (kept_there e (offering_side giver.talk) place giver.talk giver.stands giver.negotiation z.session there p (subst (λ u. IsView (offering_side giver.talk) giver.talk.said u) (sym z.view) view) name
+        (subst (λ u. IsOpenOffer u p) (sym z.view) is_open)) where
+          at : z.at ≡ e
+          at = same_Some z.at e (sym z.ends ∙ giver.end_is)
 
-      there : IsSessionAt w e z.session
-      there = session_there l.ready s w r place giver.talk giver.stands Far e giver.end_is z.session (ap (λ k. session_of_end w (Some k)) (sym at) ∙ z.found)
+          there : IsSessionAt w e z.session
+          there = session_there l.ready s w r place giver.talk giver.stands (offering_side giver.talk) e giver.end_is z.session (ap (λ k. session_of_end w (Some k)) (sym at) ∙ z.found)

@@ -1,69 +1,104 @@
 -- An address that is in hand stays so where no agent did anything.
-use Rattle.std.proofs.Common.{◌≡◌, refl, sym, ap, ◌∙◌, subst, arith, ℕ, ◌-◌, ◌<◌, ◌≤◌, ◌==◌, Bool, true, false, cond, inl, inr, ◌⊎◌, List, Contains, length, Some, None, get_or, slice_get}
+use Rattle.std.proofs.Common.{◌≡◌, refl, sym, ap, ◌∙◌, subst, arith, ℕ, ◌-◌, ◌<◌, ◌≤◌, ◌==◌, Bool, true, false, cond, inl, inr, ◌⊎◌, List, Contains, length, Option, Some, None, get_or, slice_get}
 use Rattle.std.proofs.lemmas.Bool.{eqb-true}
 use Rattle.std.proofs.lemmas.Option.{slice_get-get_or, same_Some}
-use Rattle.grasp_agent.proofs.Offers.{offer_there}
-use Rattle.grasp_agent.specs.declared.giving.Giving.{Giving}
+use Rattle.grasp_agent.specs.States.{unsent_of}
+use Rattle.grasp_agent.specs.declared.back.Return.{Return}
 use Rattle.grasp_pool.specs.Holdings.{Holding, IsFree, IsListed}
+use Rattle.grasp_session.specs.Conversation.{Said, requested}
 use Rattle.grasp_session.specs.Laws.{SilentUnseen}
-use Rattle.grasp_session.specs.Messages.{Near, Far}
+use Rattle.grasp_session.specs.Messages.{Side, other}
 use Rattle.grasp_session.specs.Sessions.{SessionState}
 use Rattle.grasp_types.specs.Prefix.{AddressBlock as Prefix, span_of}
-use Rattle.grasp_types.specs.declared.objective.Objective.{Objective}
+use Rattle.grasp_types.specs.declared.session.Handle.{Handle}
 use Rattle.grasp_laws_network.proofs.Here.{numbered_within}
-use Rattle.grasp_laws_network.specs.Authorities.{Holds, IsOpenTalk, has_accepted}
+use Rattle.grasp_laws_network.specs.Authorities.{Holds, IsOpenTalk, has_accepted, is_return, offering_by}
 use Rattle.grasp_model_network.specs.Plans.{IsNode}
 use Rattle.grasp_model_network.specs.Runs.{IsReached}
 use Rattle.grasp_model_network.specs.Setting.{Setting}
 use Rattle.grasp_model_network.specs.Streams.{StreamState}
-use Rattle.grasp_model_network.specs.World.{Seat, Offered, WorldState, seat_at, end_of, life_of}
-use Rattle.grasp_laws_agents.proofs.GoingOn.{heard_alike}
+use Rattle.grasp_model_network.specs.World.{Seat, Offered, WorldState, seat_at}
+use Rattle.grasp_laws_agents.proofs.GoingOn.{nothing_heard}
 use Rattle.grasp_laws_agents.proofs.Going.{StillOwn, own_on}
-use Rattle.grasp_laws_agents.specs.Giving.{HasOffered, IsOwnSession}
-use Rattle.grasp_laws_prefixes.proofs.Networks.{NothingSaid}
+use Rattle.grasp_laws_agents.specs.Giving.{HasOffered, IsOwnSession, OffersIn}
+use Rattle.grasp_laws_agents.specs.GoingOn.{OnlyHeard}
+use Rattle.grasp_laws_prefixes.proofs.EntryOffers.{offers_reserved, unsent_reserved, same_offers}
 use Rattle.grasp_laws_prefixes.proofs.OwnSessions.{handle_made, end_with}
-use Rattle.grasp_laws_prefixes.proofs.Places.{far_stays}
-use Rattle.grasp_laws_prefixes.proofs.Standing.{offer_on, IsFarAt, SeatGoesOn, WorldGoesOn}
+use Rattle.grasp_laws_prefixes.proofs.Safe.{stand}
+use Rattle.grasp_laws_prefixes.proofs.Standing.{offer_on, offer_unsent, SeatGoesOn, WorldGoesOn, NothingSaid}
 use Rattle.grasp_laws_prefixes.specs.Grounds.{Grounds}
 use Rattle.grasp_laws_negotiation.specs.Negotiations.{NegotiationsAreTalks}
 use Rattle.grasp_laws_prefixes.proofs.Speaking.{accepted_back}
-use Rattle.grasp_laws_prefixes.proofs.Talking.{IsGiver, GivesAt, gives_at, AcceptedBy, EndAccepted, open_on}
+use Rattle.grasp_laws_prefixes.proofs.Talking.{IsGiver, giver_on, GivesAt, gives_at, AcceptedBy, open_on}
 use Rattle.grasp_laws_prefixes.specs.Hands.{IsInHand}
 
 -- ---- an address in hand
 
--- an entry of this session offers the prefix; or the session is no longer live, and its last offer is in doubt
-pub data GivesIt (seat : Seat) (x : SessionState) (p : Prefix) : Type 0 where
-  by_entry : (place : ℕ) (g : Giving) → slice_get seat.agent.giving place ≡ Some g → g.offer ≡ Some p → IsOwnSession seat.core.sessions g.handle Far x → GivesIt seat x p
-  in_doubt : Contains seat.agent.pool.doubtful p → Contains seat.core.sessions.gone x → HasOffered x.view p → GivesIt seat x p
+-- the agent offers the prefix in this session, of which it is this side; or the session is no longer live, and its last offer is in doubt
+pub data GivesIt (seat : Seat) (side : Side) (x : SessionState) (p : Prefix) : Type 0 where
+  by_offer : (h : Handle) → OffersIn seat.agent side h p → IsOwnSession seat.core.sessions h side x → GivesIt seat side x p
+  in_doubt : Contains seat.agent.pool.doubtful p → Contains seat.core.sessions.gone x → HasOffered x.view p → GivesIt seat side x p
 
--- the address lies in an offer of a session, which may still be accepted
+-- the address lies in an offer of a session at this node, which may still be accepted
+pub record IsGivenAt (w : WorldState) (a node : ℕ) (seat : Seat) : Type 0 where
+  pub side : Side
+  pub place : ℕ
+  pub session : SessionState
+  pub prefix : Prefix
+  pub giver : IsGiver w node seat side place session
+  pub gives : GivesIt seat side session prefix
+  pub span : span_of prefix a
+  pub listed : Contains w.offers (offer_on node prefix place)
+  pub open_still : IsOpenTalk w.streams place
+
 pub record IsGiven (w : WorldState) (a : ℕ) : Type 0 where
   pub node : ℕ
   pub seat : Seat
   pub here : seat_at w node ≡ Some seat
-  pub session : SessionState
+  pub given : IsGivenAt w a node seat
+
+-- the address lies in a prefix that a node is to return and hasn't requested to yet
+pub record IsUnsentAt (w : WorldState) (a : ℕ) : Type 0 where
+  pub node : ℕ
+  pub seat : Seat
+  pub here : seat_at w node ≡ Some seat
   pub prefix : Prefix
-  pub giver : IsGiver w node seat session
-  pub gives : GivesIt seat session prefix
+  pub unsent : unsent_of seat.agent.back ≡ Some prefix
   pub span : span_of prefix a
-  pub listed : Contains w.offers (offer_on node prefix giver.place)
-  pub open_still : IsOpenTalk w.streams giver.place
 
+-- a node holds the address, or it lies in an offer that may still be accepted, or in what is to be returned
 abbrev pub IsKeptIn : WorldState → ℕ → Type 0
-IsKeptIn w a = ((node : ℕ) × Holds w node a) ⊎ IsGiven w a
+IsKeptIn w a = ((node : ℕ) × Holds w node a) ⊎ (IsGiven w a ⊎ IsUnsentAt w a)
 
--- an address that a node holds, or that lies in a session's offer that may still be accepted, is in hand
+-- what a session's offer that may still be accepted gives, its node has reserved or in doubt
+pub gives_listed : (l : Grounds) (s : Setting) (w : WorldState) → IsReached s w → (node : ℕ) (seat : Seat) → seat_at w node ≡ Some seat → (side : Side) (x : SessionState) (p : Prefix) → GivesIt seat side x p
+    → IsListed seat.agent.pool p
+gives_listed l s w r node seat here side x p (by_offer h offers own) = inl (offers_reserved seat.agent side h p (l.kept s w r node seat here) offers)
+gives_listed l s w r node seat here side x p (in_doubt doubtful gone offered) = inr doubtful
+
+-- an address that a node holds, or that lies in a session's offer that may still be accepted or in what is to be returned, is in hand
 pub kept_in_hand : (l : Grounds) (s : Setting) (w : WorldState) → IsReached s w → (a : ℕ) → IsKeptIn w a → IsInHand w a
 kept_in_hand l s w r a (inl h) = inl h
-kept_in_hand l s w r a (inr g) = inr (record {
-  offer = offer_on g.node g.prefix g.giver.place;
-  authority = record { listed = g.listed; kept = record { seat = g.seat; here = g.here; listed = listed g.gives }; live = g.open_still };
-  span = g.span;
+kept_in_hand l s w r a (inr (inl g)) = inr (record {
+  offer = offer_on g.node g.given.prefix g.given.place;
+  authority = record {
+    listed = g.given.listed;
+    kept = record { seat = g.seat; here = g.here; listed = gives_listed l s w r g.node g.seat g.here g.given.side g.given.session g.given.prefix g.given.gives };
+    live = g.given.open_still;
+  };
+  span = g.given.span;
+})
+kept_in_hand l s w r a (inr (inr u)) = inr (record {
+  offer = offer_unsent u.node u.prefix;
+  authority = record {
+    listed = (stand l s w r).known.unsent u.node u.seat u.here u.prefix u.unsent;
+    kept = record { seat = u.seat; here = u.here; listed = inl reserved };
+    live = record { seat = u.seat; here = u.here; reserved = reserved };
+  };
+  span = u.span;
 }) where
-  listed : GivesIt g.seat g.session g.prefix → IsListed g.seat.agent.pool g.prefix
-  listed (by_entry place e at offer own) = inl (((l.kept s w r g.node g.seat g.here).reserved g.prefix).1 (offer_there g.seat.agent.giving place e g.prefix at offer))
-  listed (in_doubt doubtful gone offered) = inr doubtful
+  reserved : Contains u.seat.agent.pool.reserved u.prefix
+  reserved = unsent_reserved u.seat.agent u.prefix (l.kept s w r u.node u.seat u.here) u.unsent
 
 -- ---- the same nodes
 
@@ -85,6 +120,10 @@ seat_there w y count node seat here = (get_or y.seats (node - 1) seat, by_zero (
 
 -- ---- where no agent did anything
 
+-- a session of which nothing was heard
+pub same_heard : (x : SessionState) → OnlyHeard x x
+same_heard x = record { number = refl; owner = refl; stream = refl; view = nothing_heard x.view }
+
 module _ (l : Grounds) (talks : NegotiationsAreTalks) (unseen : SilentUnseen) (s : Setting) (w y : WorldState) (r : IsReached s w) (g : WorldGoesOn w y) (count : length y.seats ≡ length w.seats) where
   new_seat : (node : ℕ) (seat : Seat) → seat_at w node ≡ Some seat → (new : Seat) × (seat_at y node ≡ Some new) × SeatGoesOn seat new
   new_seat node seat here =
@@ -98,90 +137,78 @@ module _ (l : Grounds) (talks : NegotiationsAreTalks) (unseen : SilentUnseen) (s
       record { seat = n.0; here = n.1; free = subst (λ (p : Holding). IsFree p a) (sym n.2.pool) h.free }
 
   -- a session that had accepted had so before
-  end_before : (q : IsReached s y) (u : StreamState) → AcceptedBy l s y q u → EndAccepted w u.near
-  end_before q u a =
-      let b = g.seats u.near.node a.seat a.here in
+  accepted_before : (side : Side) (u : StreamState) → AcceptedBy y side u → AcceptedBy w side u
+  accepted_before side u a =
+      let b = g.seats a.node a.seat a.here in
       record {
+        node = a.node;
         seat = b.0;
         here = b.1;
         stream = a.stream;
-        ends = a.ends ∙ ap (λ n. end_with u.near.node n a.stream) b.2.life;
-        accepted = accepted_back b.0.core.sessions a.seat.core.sessions b.2.sessions a.stream a.accepted;
+        ends = a.ends ∙ ap (λ n. Some (end_with a.node n a.stream)) b.2.life;
+        accepted = accepted_back b.0.core.sessions a.seat.core.sessions b.2.sessions side a.stream a.accepted;
       }
 
-  -- what a session that goes on gave, it gives
-  record NewGiver (node : ℕ) (new : Seat) (p : Prefix) (place : ℕ) : Type 0 where
-    session : SessionState
-    giver : IsGiver y node new session
-    place_is : giver.place ≡ place
-    gives : GivesIt new session p
+  module _ (a node : ℕ) (seat new : Seat) (goes : SeatGoesOn seat new) (h : IsGivenAt w a node seat) where
+    -- what a session that goes on gave, it gives
+    abbrev NewGiver : Type 0
+    NewGiver = (z : SessionState) × IsGiver y node new h.side h.place z × GivesIt new h.side z h.prefix
 
-  module _ (node : ℕ) (seat new : Seat) (goes : SeatGoesOn seat new) (x : SessionState) (p : Prefix) (old : IsGiver w node seat x) where
-    at_end : (stream : ℕ) → stream ≡ x.stream → IsFarAt y.streams old.place (end_of node new stream)
-    at_end stream same =
-        subst (λ e. IsFarAt y.streams old.place e) (sym (ap (λ n. end_with node n stream) goes.life ∙ ap (λ n. end_with node (life_of seat) n) same))
-        (far_stays w.streams y.streams g.streams old.place (end_of node seat x.stream) old.at)
+    new_giver : GivesIt seat h.side h.session h.prefix → NewGiver
+    new_giver (in_doubt doubtful gone offered) = (
+      h.session,
+      giver_on w y g.streams node seat new goes.life h.side h.place h.session h.session (same_heard h.session) (inr (goes.sessions.gone h.session gone)) h.giver,
+      in_doubt (subst (λ (k : Holding). Contains k.doubtful h.prefix) (sym goes.pool) doubtful) (goes.sessions.gone h.session gone) offered,
+    )
+    new_giver (by_offer k offers own) = from (own_on seat.core.sessions new.core.sessions k h.side h.session goes.sessions own) where
+      from : StillOwn new.core.sessions k h.side h.session → NewGiver
+      from t = (
+        t.session,
+        giver_on w y g.streams node seat new goes.life h.side h.place h.session t.session t.over (handle_made new.core.sessions k t.session t.own.at) h.giver,
+        by_offer k (same_offers new.agent seat.agent h.side k h.prefix (sym goes.giving) (sym goes.back) offers) t.own,
+      )
 
-    new_giver : GivesIt seat x p → NewGiver node new p old.place
-    new_giver (in_doubt doubtful gone offered) = record {
-      session = x;
-      giver = record { made = inr (goes.sessions.gone x gone); owner = old.owner; role = old.role; kind = old.kind; name = old.name; place = old.place; at = at_end x.stream refl };
-      place_is = refl;
-      gives = in_doubt (subst (λ (h : Holding). Contains h.doubtful p) (sym goes.pool) doubtful) (goes.sessions.gone x gone) offered;
-    }
-    new_giver (by_entry place e at offer own) = from (own_on seat.core.sessions new.core.sessions e.handle Far x goes.sessions own) where
-      from : StillOwn new.core.sessions e.handle Far x → NewGiver node new p old.place
-      from t =
-          let alike = heard_alike x.view t.session.view t.over.view in
-          record {
-            session = t.session;
-            giver = record {
-              made = handle_made new.core.sessions e.handle t.session t.own.at;
-              owner = t.own.owner;
-              role = t.own.role;
-              kind = alike.kind ∙ old.kind;
-              name = ap (λ (o : Objective). o.name) alike.request ∙ old.name;
-              place = old.place;
-              at = at_end t.session.stream t.over.stream;
-            };
-            place_is = refl;
-            gives = by_entry place e (ap (λ (xs : List Giving). slice_get xs place) goes.giving ∙ at) offer t.own;
-          }
+    still_open : (here : seat_at w node ≡ Some seat) (there : seat_at y node ≡ Some new) (z : SessionState) → IsGiver y node new h.side h.place z → IsReached s y ⊎ NothingSaid w y → IsOpenTalk y.streams h.place
+    still_open here there z giver (inl q) =
+        from (open_on l talks unseen s w y r q g.streams h.place h.side h.session z (gives_at l s w r node seat here h.side h.place h.session h.giver) now h.open_still
+        (λ e. inl (accepted_before (other h.side) now.talk e))) where
+          now : GivesAt y h.place h.side z
+          now = gives_at l s y q node new there h.side h.place z giver
 
-  module _ (a : ℕ) (h : IsGiven w a) where
-    still_open : (new : Seat) (n : NewGiver h.node new h.prefix h.giver.place) → seat_at y h.node ≡ Some new → IsReached s y ⊎ NothingSaid w y → IsOpenTalk y.streams n.giver.place
-    still_open new n here (inl q) = from (open_on l talks unseen s w y r q g.streams h.giver.place h.session n.session before now h.open_still (λ e. inl (end_before q now.talk e))) where
-      before : GivesAt w h.giver.place h.session
-      before = gives_at l s w r h.node h.seat h.here h.session h.giver
+          from : IsOpenTalk y.streams h.place ⊎ ⊥ → IsOpenTalk y.streams h.place
+          from (inl o) = o
+          from (inr none) = absurd none
+    still_open here there z giver (inr said) =
+        let u = said h.place h.open_still.talk h.open_still.here in
+        record {
+          talk = u.0;
+          here = u.1.0;
+          open_still = ap (λ (c : List Said). has_accepted (other (offering_by (is_return (requested c).value))) c) u.1.1 ∙ h.open_still.open_still;
+        }
 
-      now : GivesAt y h.giver.place n.session
-      now = subst (λ k. GivesAt y k n.session) n.place_is (gives_at l s y q h.node new here n.session n.giver)
-
-      from : IsOpenTalk y.streams h.giver.place ⊎ ⊥ → IsOpenTalk y.streams n.giver.place
-      from (inl o) = subst (λ k. IsOpenTalk y.streams k) (sym n.place_is) o
-      from (inr none) = absurd none
-    still_open new n here (inr said) =
-        let u = said h.giver.place h.open_still.talk h.open_still.here in
-        subst (λ k. IsOpenTalk y.streams k) (sym n.place_is) (record { talk = u.0; here = u.1.0; open_still = ap (has_accepted Near) u.1.1 ∙ h.open_still.open_still })
-
-    still_given : IsReached s y ⊎ NothingSaid w y → IsGiven y a
-    still_given said = from (new_seat h.node h.seat h.here) where
-      from : (new : Seat) × (seat_at y h.node ≡ Some new) × SeatGoesOn h.seat new → IsGiven y a
-      from t =
-          let n = new_giver h.node h.seat t.0 t.2 h.session h.prefix h.giver h.gives in
-          record {
-            node = h.node;
-            seat = t.0;
-            here = t.1;
-            session = n.session;
+    still_given : seat_at w node ≡ Some seat → seat_at y node ≡ Some new → IsReached s y ⊎ NothingSaid w y → IsGiven y a
+    still_given here there said =
+        let n = new_giver h.gives in
+        record {
+          node = node;
+          seat = new;
+          here = there;
+          given = record {
+            side = h.side;
+            place = h.place;
+            session = n.0;
             prefix = h.prefix;
-            giver = n.giver;
-            gives = n.gives;
+            giver = n.1;
+            gives = n.2;
             span = h.span;
-            listed = subst (λ k. Contains y.offers (offer_on h.node h.prefix k)) (sym n.place_is) (subst (λ (os : List Offered). Contains os (offer_on h.node h.prefix h.giver.place)) (sym g.offers) h.listed);
-            open_still = still_open t.0 n t.1 said;
-          }
+            listed = subst (λ (os : List Offered). Contains os (offer_on node h.prefix h.place)) (sym g.offers) h.listed;
+            open_still = still_open here there n.0 n.1 said;
+          };
+        }
 
   pub quiet_kept : IsReached s y ⊎ NothingSaid w y → (a : ℕ) → IsKeptIn w a → IsKeptIn y a
   quiet_kept said a (inl h) = inl (h.0, still_held h.0 a h.1)
-  quiet_kept said a (inr h) = inr (still_given a h said)
+  quiet_kept said a (inr (inl h)) = let n = new_seat h.node h.seat h.here in inr (inl (still_given a h.node h.seat n.0 n.2 h.given h.here n.1 said))
+  quiet_kept said a (inr (inr u)) =
+      let n = new_seat u.node u.seat u.here in
+      inr (inr (record { node = u.node; seat = n.0; here = n.1; prefix = u.prefix; unsent = ap (λ (o : Option Return). unsent_of o) n.2.back ∙ u.unsent; span = u.span }))

@@ -3,6 +3,7 @@ pub mod AgentOffers
 pub mod AgentPools
 pub mod AgentSteps
 pub mod Appearing
+pub mod Asked
 pub mod EntryOffers
 pub mod FirstHeld
 pub mod FirstPrefixes
@@ -13,6 +14,9 @@ pub mod Listing
 pub mod Listings
 pub mod Losing
 pub mod Networks
+pub mod NewOpen
+pub mod Offering
+pub mod OneNode
 pub mod OwnCalls
 pub mod OwnKept
 pub mod OwnSessions
@@ -21,9 +25,11 @@ pub mod Places
 pub mod Polling
 pub mod QuietKeeps
 pub mod QuietSteps
+pub mod Returned
 pub mod Safe
 pub mod Speaking
 pub mod Speech
 pub mod Standing
 pub mod Staying
 pub mod Talking
+pub mod ToldKept

@@ -3,8 +3,9 @@ use Rattle.std.proofs.Common.{◌≡◌, ◌≢◌, refl, sym, ap, ◌∙◌, su
 use Rattle.std.proofs.lemmas.Bool.{and_parts, eqb-true, eq-eqb, ne_eqb, not-true, and_from, or_right, or_left}
 use Rattle.std.proofs.lemmas.List.Elements.{Contains-append_left, Contains-append_right, Contains-append_cases, Contains-push, Contains-push_cases}
 use Rattle.std.proofs.lemmas.List.Folds.{list_any_at}
-use Rattle.std.proofs.lemmas.Option.{none-some}
+use Rattle.std.proofs.lemmas.Option.{none-some, same_Some}
 use Rattle.std.specs.List.{list_any}
+use Rattle.grasp_agent.specs.States.{AgentState, back_session, unsent_of}
 use Rattle.grasp_agent.specs.declared.act.Act.{Act}
 use Rattle.grasp_agent.specs.declared.act.Act.TheVariants as act
 use Rattle.grasp_laws_tables.proofs.Lists.{filter_keeps}
@@ -12,7 +13,7 @@ use Rattle.grasp_model_node.specs.Node.{NodeState}
 use Rattle.grasp_pool.specs.Holdings.{Holding, IsListed}
 use Rattle.grasp_types.specs.Prefix.{AddressBlock as Prefix}
 use Rattle.grasp_types.specs.declared.session.Handle.{Handle}
-use Rattle.grasp_model_network.specs.Offers.{is_same_prefix, is_listed, is_kept, is_offer_of, talk_of_handle, with_decision}
+use Rattle.grasp_model_network.specs.Offers.{JustOffered, is_same_prefix, is_listed, is_kept, is_offer_of, put_offer, talk_of_handle, just_handed, just_offered, with_offer}
 use Rattle.grasp_model_network.specs.Streams.{StreamState}
 use Rattle.grasp_model_network.specs.Visits.{Visit}
 use Rattle.grasp_model_network.specs.World.{Offered}
@@ -93,78 +94,86 @@ no_offer_of node p o none = by_test (is_offer_of node p o) refl where
       absurd (none (eqb-true o.node node a.0) (sym (same_prefix p o.prefix a.1)))
   by_test false e = refl
 
--- ---- what was just decided
+-- ---- an offer that is put in the list
 
--- an offer of this prefix in this session was just decided
-pub record Decides (old new : Option Act) (h : Handle) (p : Prefix) : Type 0 where
-  pub none : old ≡ None
-  pub place : ℕ
-  pub is : new ≡ Some (act.Offer place h p)
+abbrev offer_for : ℕ → Prefix → Option ℕ → Offered
+offer_for node p talk = record { node = node; prefix = p; talk = talk }
 
--- what was decided is one offer
-pub one_decided : (old new : Option Act) (h k : Handle) (p q : Prefix) → Decides old new h p → Decides old new k q → (h ≡ k) × (p ≡ q)
-one_decided old new h k p q a b = (handles a.place b.place h k p q (sym a.is ∙ b.is), prefixes a.place b.place h k p q (sym a.is ∙ b.is)) where
-  handles : (i j : ℕ) (h k : Handle) (p q : Prefix) → ◌≡◌ {A = Option Act} (Some (act.Offer i h p)) (Some (act.Offer j k q)) → h ≡ k
-  handles i j h k p q e = cc
+-- what is listed then was so and isn't of this node and prefix, or it is what was put
+pub put_from : (os : List Offered) (node : ℕ) (p : Prefix) (talk : Option ℕ) (o : Offered) → Contains (put_offer os node p talk) o
+    → (Contains os o × (is_offer_of node p o ≡ false)) ⊎ (o ≡ offer_for node p talk)
+put_from os node p talk o h = by_case (Contains-push_cases (filter (λ x. not (is_offer_of node p x)) os) (offer_for node p talk) o h) where
+  by_case : Contains (filter (λ x. not (is_offer_of node p x)) os) o ⊎ (offer_for node p talk ≡ o)
+      → (Contains os o × (is_offer_of node p o ≡ false)) ⊎ (o ≡ offer_for node p talk)
+  by_case (inl old) = let f = passed (λ x. not (is_offer_of node p x)) os o old in inl (f.0, not-true (is_offer_of node p o) f.1)
+  by_case (inr e) = inr (sym e)
 
-  prefixes : (i j : ℕ) (h k : Handle) (p q : Prefix) → ◌≡◌ {A = Option Act} (Some (act.Offer i h p)) (Some (act.Offer j k q)) → p ≡ q
-  prefixes i j h k p q e = cc
+pub put_keeps : (os : List Offered) (node : ℕ) (p : Prefix) (talk : Option ℕ) (o : Offered) → Contains os o → is_offer_of node p o ≡ false → Contains (put_offer os node p talk) o
+put_keeps os node p talk o h apart =
+    Contains-append_left (filter (λ x. not (is_offer_of node p x)) os) (offer_for node p talk ∷ []) o
+    (filter_keeps (λ x. not (is_offer_of node p x)) os o h (ap not apart))
+
+pub put_has : (os : List Offered) (node : ℕ) (p : Prefix) (talk : Option ℕ) → Contains (put_offer os node p talk) (offer_for node p talk)
+put_has os node p talk = Contains-push (filter (λ x. not (is_offer_of node p x)) os) (offer_for node p talk)
+
+-- ---- what was just offered
 
 module _ (ts : List StreamState) (v : Visit) (n : NodeState) where
   -- the offer that is listed for it
-  abbrev pub decided_offer : Handle → Prefix → Offered
-  decided_offer h p = record { node = v.node; prefix = p; talk = talk_of_handle ts v n h }
+  abbrev pub just_listed : JustOffered → Offered
+  just_listed j = record { node = v.node; prefix = j.prefix; talk = talk_of_handle ts v n j.handle }
 
-  -- an offer that is listed was so and isn't of the prefix that was just decided, or it is what was just decided
-  pub data Comes (old new : Option Act) (kept : List Offered) (o : Offered) : Type 0 where
-    stayed : Contains kept o → ((h : Handle) (p : Prefix) → Decides old new h p → is_offer_of v.node p o ≡ false) → Comes old new kept o
-    decided : (h : Handle) (p : Prefix) → Decides old new h p → o ≡ decided_offer h p → Comes old new kept o
+  -- an offer that is listed was so and isn't of the prefix that was just offered, or it is what was just offered
+  pub data Comes (just : Option JustOffered) (kept : List Offered) (o : Offered) : Type 0 where
+    stayed : Contains kept o → ((j : JustOffered) → just ≡ Some j → is_offer_of v.node j.prefix o ≡ false) → Comes just kept o
+    joined : (j : JustOffered) → just ≡ Some j → o ≡ just_listed j → Comes just kept o
 
-  undecided : (old : Act) (new : Option Act) (h : Handle) (p : Prefix) → Decides (Some old) new h p → ⊥
-  undecided old new h p d = none-some old (sym d.none)
+  pub comes_from : (just : Option JustOffered) (kept : List Offered) (o : Offered) → Contains (with_offer kept ts v n just) o → Comes just kept o
+  comes_from None kept o h = stayed h (λ j e. absurd (none-some j e))
+  comes_from (Some j) kept o h = by_case (put_from kept v.node j.prefix (talk_of_handle ts v n j.handle) o h) where
+    by_case : (Contains kept o × (is_offer_of v.node j.prefix o ≡ false)) ⊎ (o ≡ just_listed j) → Comes (Some j) kept o
+    by_case (inl f) = stayed f.0 (λ i e. subst (λ (z : JustOffered). is_offer_of v.node z.prefix o ≡ false) (same_Some j i e) f.1)
+    by_case (inr e) = joined j refl e
 
-  pub comes_from : (old new : Option Act) (kept : List Offered) (o : Offered) → Contains (with_decision kept ts v n old new) o → Comes old new kept o
-  comes_from (Some old) new kept o h = stayed h (λ k p d. absurd (undecided old new k p d))
-  comes_from None None kept o h = stayed h (λ k p d. absurd (none-some (act.Offer d.place k p) d.is))
-  comes_from None (Some (act.Offer place k p)) kept o h = by_case (Contains-push_cases (filter (λ x. not (is_offer_of v.node p x)) kept) (decided_offer k p) o h) where
-    by_case : Contains (filter (λ x. not (is_offer_of v.node p x)) kept) o ⊎ (decided_offer k p ≡ o) → Comes None (Some (act.Offer place k p)) kept o
-    by_case (inl old) =
-        let f = passed (λ x. not (is_offer_of v.node p x)) kept o old in
-        stayed f.0 (λ h q d. subst (λ z. is_offer_of v.node z o ≡ false) (one_decided None (Some (act.Offer place k p)) k h p q (record { none = refl; place = place; is = refl }) d).1 (not-true (is_offer_of v.node p o) f.1))
-    by_case (inr e) = decided k p (record { none = refl; place = place; is = refl }) (sym e)
-  comes_from None (Some (act.Counter k length)) kept o h = stayed h (λ j p d. absurd (differ d.place j p d.is)) where
-    differ : (place : ℕ) (j : Handle) (p : Prefix) → ◌≡◌ {A = Option Act} (Some (act.Counter k length)) (Some (act.Offer place j p)) → ⊥
-    differ place j p e = cc
-  comes_from None (Some (act.Accept k q)) kept o h = stayed h (λ j p d. absurd (differ d.place j p d.is)) where
-    differ : (place : ℕ) (j : Handle) (p : Prefix) → ◌≡◌ {A = Option Act} (Some (act.Accept k q)) (Some (act.Offer place j p)) → ⊥
-    differ place j p e = cc
-  comes_from None (Some (act.Decline k reason)) kept o h = stayed h (λ j p d. absurd (differ d.place j p d.is)) where
-    differ : (place : ℕ) (j : Handle) (p : Prefix) → ◌≡◌ {A = Option Act} (Some (act.Decline k reason)) (Some (act.Offer place j p)) → ⊥
-    differ place j p e = cc
+  pub stays_listed : (just : Option JustOffered) (kept : List Offered) (o : Offered) → Contains kept o → ((j : JustOffered) → just ≡ Some j → is_offer_of v.node j.prefix o ≡ false)
+      → Contains (with_offer kept ts v n just) o
+  stays_listed None kept o h apart = h
+  stays_listed (Some j) kept o h apart = put_keeps kept v.node j.prefix (talk_of_handle ts v n j.handle) o h (apart j refl)
 
-  pub stays_listed : (old new : Option Act) (kept : List Offered) (o : Offered) → Contains kept o → ((h : Handle) (p : Prefix) → Decides old new h p → is_offer_of v.node p o ≡ false)
-      → Contains (with_decision kept ts v n old new) o
-  stays_listed None (Some (act.Offer place k p)) kept o h apart =
-      Contains-append_left (filter (λ x. not (is_offer_of v.node p x)) kept) (decided_offer k p ∷ []) o
-      (filter_keeps (λ x. not (is_offer_of v.node p x)) kept o h (ap not (apart k p (record { none = refl; place = place; is = refl }))))
-  stays_listed _ _ kept o h apart = h
+  pub joins : (just : Option JustOffered) (kept : List Offered) (j : JustOffered) → just ≡ Some j → Contains (with_offer kept ts v n just) (just_listed j)
+  joins just kept j is = subst (λ x. Contains (with_offer kept ts v n x) (just_listed j)) (sym is) (put_has kept v.node j.prefix (talk_of_handle ts v n j.handle))
 
-  pub decided_listed : (old new : Option Act) (kept : List Offered) (h : Handle) (p : Prefix) → Decides old new h p → Contains (with_decision kept ts v n old new) (decided_offer h p)
-  decided_listed old new kept h p d =
-      subst (λ x. Contains (with_decision kept ts v n x new) (decided_offer h p)) (sym d.none)
-      (subst (λ x. Contains (with_decision kept ts v n None x) (decided_offer h p)) (sym d.is) (Contains-push (filter (λ x. not (is_offer_of v.node p x)) kept) (decided_offer h p)))
+-- ---- what begins an offer
 
--- an offer was decided just now, or none was
-pub decides_tell : (old new : Option Act) → ((h : Handle) × ((p : Prefix) × Decides old new h p)) ⊎ ((h : Handle) (p : Prefix) → ¬ Decides old new h p)
-decides_tell (Some old) new = inr (λ h p d. none-some old (sym d.none))
-decides_tell None None = inr (λ h p d. none-some (act.Offer d.place h p) d.is)
-decides_tell None (Some (act.Offer place k p)) = inl (k, (p, record { none = refl; place = place; is = refl }))
-decides_tell None (Some (act.Counter k length)) = inr (λ h p d. differ d.place h p d.is) where
-  differ : (place : ℕ) (j : Handle) (p : Prefix) → ◌≡◌ {A = Option Act} (Some (act.Counter k length)) (Some (act.Offer place j p)) → ⊥
-  differ place j p e = cc
-decides_tell None (Some (act.Accept k q)) = inr (λ h p d. differ d.place h p d.is) where
-  differ : (place : ℕ) (j : Handle) (p : Prefix) → ◌≡◌ {A = Option Act} (Some (act.Accept k q)) (Some (act.Offer place j p)) → ⊥
-  differ place j p e = cc
-decides_tell None (Some (act.Decline k reason)) = inr (λ h p d. differ d.place h p d.is) where
-  differ : (place : ℕ) (j : Handle) (p : Prefix) → ◌≡◌ {A = Option Act} (Some (act.Decline k reason)) (Some (act.Offer place j p)) → ⊥
-  differ place j p e = cc
+-- what was just offered was just decided, or it is the return whose session has just begun
+pub data Begins (a b : AgentState) (j : JustOffered) : Type 0 where
+  decides : a.act ≡ None → (place : ℕ) → b.act ≡ Some (act.Offer place j.handle j.prefix) → Begins a b j
+  hands : unsent_of a.back ≡ Some j.prefix → back_session b.back ≡ Some j.handle → Begins a b j
+
+pub begins : (a b : AgentState) (j : JustOffered) → just_offered a b ≡ Some j → Begins a b j
+begins a b j e = by_acts a.act b.act refl refl e where
+  by_parts : (x : Option Prefix) (y : Option Handle) → unsent_of a.back ≡ x → back_session b.back ≡ y → just_handed x y ≡ Some j → Begins a b j
+  by_parts (Some p) (Some h) unsent session f =
+      let same = same_Some (record { prefix = p; handle = h }) j f in
+      hands (unsent ∙ ap (λ (z : JustOffered). Some z.prefix) same) (session ∙ ap (λ (z : JustOffered). Some z.handle) same)
+  by_parts _ _ unsent session f = absurd (none-some j f)
+
+  by_acts : (old new : Option Act) → a.act ≡ old → b.act ≡ new → just_offered (record a { act = old }) (record b { act = new }) ≡ Some j → Begins a b j
+  by_acts None (Some (act.Offer place h p)) none is f =
+      decides none place (is ∙ ap (λ (z : JustOffered). Some (act.Offer place z.handle z.prefix)) (same_Some (record { prefix = p; handle = h }) j f))
+  by_acts _ _ none is f = by_parts (unsent_of a.back) (back_session b.back) refl refl f
+
+-- what was just decided was just offered
+pub is_just : (a b : AgentState) (place : ℕ) (h : Handle) (p : Prefix) → a.act ≡ None → b.act ≡ Some (act.Offer place h p) → just_offered a b ≡ Some (record { prefix = p; handle = h })
+is_just a b place h p none is =
+    ap (λ x. just_offered (record a { act = x }) b) none ∙ ap (λ x. just_offered (record a { act = None }) (record b { act = x })) is
+
+-- and so was the return whose session has just begun, where nothing was decided with it
+pub is_handed : (a b : AgentState) (h : Handle) (p : Prefix) → unsent_of a.back ≡ Some p → back_session b.back ≡ Some h → (a.act ≡ None → b.act ≡ None) → just_offered a b ≡ Some (record { prefix = p; handle = h })
+is_handed a b h p unsent session alone = by_act a.act refl where
+  handed : just_handed (unsent_of a.back) (back_session b.back) ≡ Some (record { prefix = p; handle = h })
+  handed = ap (λ x. just_handed x (back_session b.back)) unsent ∙ ap (λ y. just_handed (Some p) y) session
+
+  by_act : (o : Option Act) → a.act ≡ o → just_offered (record a { act = o }) b ≡ Some (record { prefix = p; handle = h })
+  by_act (Some old) is = handed
+  by_act None is = ap (λ x. just_offered (record a { act = None }) (record b { act = x })) (alone is) ∙ handed

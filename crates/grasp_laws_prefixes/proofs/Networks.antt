@@ -1,5 +1,5 @@
 -- What each step of a network keeps is so of every network that events lead to.
-use Rattle.std.proofs.Common.{◌≡◌, refl, ap, ◌∙◌, ℕ, ◌≤◌, inl, inr, ◌⊎◌, All, List, [], ◌∷◌, length, slice_get, take, Option, Some, None}
+use Rattle.std.proofs.Common.{◌≡◌, refl, ap, ◌∙◌, ℕ, inl, inr, ◌⊎◌, All, List, [], ◌∷◌, length, slice_get, take, Option, Some, None}
 use Rattle.std.proofs.lemmas.List.Elements.{All-nil, All-cons}
 use Rattle.grasp_model_node.specs.Begin.{begin}
 use Rattle.grasp_model_node.specs.Draining.{closes, after_drain}
@@ -7,10 +7,10 @@ use Rattle.grasp_model_node.specs.Node.{NodeState}
 use Rattle.grasp_laws_network.proofs.Going.{reached_more}
 use Rattle.grasp_laws_network.proofs.Here.{visits_are_here}
 use Rattle.grasp_laws_network.proofs.Others.{visit_same, drained_same}
-use Rattle.grasp_laws_network.proofs.Staying.{wanting_changes, none_same}
+use Rattle.grasp_laws_network.specs.Telling.{Tells}
 use Rattle.grasp_model_network.proofs.Facts.{first_reached}
-use Rattle.grasp_model_network.specs.EventSteps.{after_agent, wanted_at, after_wanting}
-use Rattle.grasp_model_network.specs.Events.{Occurs, IsFit, visit_of, after_visit, after_none, after_event}
+use Rattle.grasp_model_network.specs.EventSteps.{after_agent}
+use Rattle.grasp_model_network.specs.Events.{Occurs, visit_of, after_visit, after_event}
 use Rattle.grasp_model_network.specs.GoodSetting.{IsGoodSetting}
 use Rattle.grasp_model_network.specs.Runs.{Happening, IsRun, IsReached, first_world, worlds_from}
 use Rattle.grasp_model_network.specs.Sending as network
@@ -24,18 +24,14 @@ use Rattle.grasp_model_network.specs.declared.event.Event.TheVariants as event
 use Rattle.grasp_laws_delivery.proofs.Holding.{IsStep, parts_keep}
 use Rattle.grasp_laws_prefixes.proofs.AgentSteps.{AgentStep}
 use Rattle.grasp_laws_prefixes.proofs.OwnSteps.{IsCall, own_step}
-use Rattle.grasp_laws_prefixes.proofs.QuietSteps.{others_go_on, drains_go_on, wants_go_on}
-use Rattle.grasp_laws_prefixes.proofs.Standing.{WorldGoesOn}
+use Rattle.grasp_laws_prefixes.proofs.QuietSteps.{others_go_on, drains_go_on}
+use Rattle.grasp_laws_prefixes.proofs.Standing.{NothingSaid, WorldGoesOn}
 use Rattle.grasp_laws_prefixes.specs.Grounds.{Grounds}
 use Rattle.grasp_laws_negotiation.proofs.Harmless.{handed_harmless}
 
 -- ---- where nothing is said
 
--- each stream is at its place, and nothing was said on it
-abbrev pub NothingSaid : WorldState → WorldState → Type 0
-NothingSaid w y = (place : ℕ) (t : StreamState) → slice_get w.streams place ≡ Some t → (u : StreamState) × ((slice_get y.streams place ≡ Some u) × (u.said ≡ t.said))
-
-same_said : (w y : WorldState) → y.streams ≡ w.streams → NothingSaid w y
+pub same_said : (w y : WorldState) → y.streams ≡ w.streams → NothingSaid w y
 same_said w y e place t stands = (t, (ap (λ (ts : List StreamState). slice_get ts place) e ∙ stands, refl))
 
 drain_says : (s : Setting) (w : WorldState) (node max : ℕ) (o : Option Seat) → NothingSaid w (drained_at s w node max o)
@@ -51,22 +47,13 @@ drained_says : (s : Setting) (w : WorldState) (node max : ℕ) → NothingSaid w
 unfolding network.drained
 drained_says s w node max = drain_says s w node max (seat_at w node)
 
-want_says : (s : Setting) (w : WorldState) (node wanted longest peer : ℕ) (o : Option Seat) → 1 ≤ node → seat_at w node ≡ o → NothingSaid w (wanted_at s w node wanted longest peer o)
-want_says s w node wanted longest peer None least here = same_said w w refl
-want_says s w node wanted longest peer (Some seat) least here =
-    same_said w (wanted_at s w node wanted longest peer (Some seat)) (ap (λ (z : WorldState). z.streams) (wanting_changes s w node wanted longest peer (Some seat) least here).rest)
-
-none_says : (s : Setting) (w : WorldState) (e : Event) → IsFit s w e → NothingSaid w (after_none s w e)
-unfolding after_wanting
-none_says s w (event.Want node wanted longest peer) fit = want_says s w node wanted longest peer (seat_at w node) fit.0.least refl
-none_says s w _ fit = same_said w w refl
-
 -- ---- each step
 
--- what is kept where no agent did anything, and by an agent's own step
+-- what is kept where no agent did anything, by an agent's own step, and where an agent is told something
 pub record StepsKeep (s : Setting) (P : WorldState → Type 0) : Type 0 where
   pub quiet : (w y : WorldState) → IsReached s w → WorldGoesOn w y → length y.seats ≡ length w.seats → IsReached s y ⊎ NothingSaid w y → P w → P y
   pub agent : (w y : WorldState) → IsReached s w → IsReached s y → (a : AgentStep w y) → IsCall w y a → P w → P y
+  pub told : (w x : WorldState) (e : Event) → IsReached s w → Tells s w e x → P w → P x
 
 module _ (l : Grounds) (s : Setting) (P : WorldState → Type 0) (k : StepsKeep s P) where
   -- a step that isn't an agent's own
@@ -80,6 +67,7 @@ module _ (l : Grounds) (s : Setting) (P : WorldState → Type 0) (k : StepsKeep 
   steps : (w : WorldState) (e : Event) (c : Choice) (v : Visit) → IsReached s w → P w → Occurs s w e c → visit_of s w e ≡ Some v → IsStep e → IsReached s (after_visit s w e v c) → P (after_visit s w e v c)
   steps w (event.Clock node millis) c v r p o is step q = others w (event.Clock node millis) c v r is q (others_go_on l s w (event.Clock node millis) c v r o is tt) p
   steps w (event.Want node length longest peer) c v r p o is step q = absurd step
+  steps w (event.Return node prefix peer) c v r p o is step q = absurd step
   steps w (event.Agent node hold) c v r p o is step q = own w (after_agent w v c) r q (own_step l s w node hold c v r o is) p
   steps w (event.Api node asa call hold) c v r p o is step q = others w (event.Api node asa call hold) c v r is q (others_go_on l s w (event.Api node asa call hold) c v r o is tt) p
   steps w (event.Datagram index hold) c v r p o is step q = others w (event.Datagram index hold) c v r is q (others_go_on l s w (event.Datagram index hold) c v r o is tt) p
@@ -92,7 +80,7 @@ module _ (l : Grounds) (s : Setting) (P : WorldState → Type 0) (k : StepsKeep 
   pub is_kept : P (first_world s) → (w : WorldState) → IsReached s w → P w
   is_kept first w r = parts_keep s P (record {
     steps = λ x e c v u p o is step q. steps x e c v u p o is step q;
-    wants = λ x e u p fit. k.quiet x (after_none s x e) u (wants_go_on l s x e fit) (none_same s x e) (inr (none_says s x e fit)) p;
+    told = k.told;
     drains = λ x node max u p least. k.quiet x (network.drained s x node max) u (drains_go_on l s x node max u least) (drained_same s x node max least).count (inr (drained_says s x node max)) p;
   }) first w r
 

@@ -1,8 +1,21 @@
 -- The step of an agent's own call.
-use Rattle.std.proofs.Common.{◌≡◌, refl, ap, ◌∙◌, subst, ℕ, ◌-◌, Bool, slice_set, Option, Some}
+use Rattle.std.proofs.Common.{◌≡◌, refl, sym, ap, ◌∙◌, subst, ℕ, ◌-◌, Bool, true, inl, inr, ◌⊎◌, slice_set, Option, None, Some}
+use Rattle.std.proofs.lemmas.Bool.{true≢false}
+use Rattle.std.proofs.lemmas.Option.{none-some}
+use Rattle.grasp_agent.specs.Kept.{IsKept}
 use Rattle.grasp_agent.specs.Replies.{after_reply}
+use Rattle.grasp_agent.specs.States.{AgentState, is_returning, unsent_of}
+use Rattle.grasp_agent.specs.declared.back.Return.{Return}
+use Rattle.grasp_agent.specs.declared.duty.Duty.{Duty}
+use Rattle.grasp_agent.specs.declared.duty.Duty.TheVariants as duty
+use Rattle.grasp_laws_agent.proofs.LawMoves.{moves_are_made}
+use Rattle.grasp_laws_agent.proofs.LawStays.{nothing_else_moves}
+use Rattle.grasp_laws_agent.specs.Moves as move
+use Rattle.grasp_laws_agent.specs.Moves.{Move, IsNext, Happens, Effect, NothingMoves}
 use Rattle.grasp_model_node.specs.Step.{Coming, NodeStep}
+use Rattle.grasp_types.specs.Prefix.{AddressBlock as Prefix}
 use Rattle.grasp_types.specs.declared.reply.Reply.{Reply}
+use Rattle.grasp_types.specs.declared.session.Handle.{Handle}
 use Rattle.grasp_laws_network.proofs.Here.{visits_are_here}
 use Rattle.grasp_laws_network.proofs.Others.{put_elsewhere}
 use Rattle.grasp_laws_network.proofs.Staying.{put_here}
@@ -22,6 +35,40 @@ use Rattle.grasp_laws_prefixes.proofs.AgentSteps.{AgentStep}
 use Rattle.grasp_laws_prefixes.proofs.Places.{step_stays}
 use Rattle.grasp_laws_prefixes.specs.Grounds.{Grounds}
 
+-- ---- where a return is to be requested, nothing is decided
+
+is_sent : (b : Option Return) (p : Prefix) → unsent_of b ≡ Some p → is_returning b ≡ true
+is_sent None p e = absurd (none-some p e)
+is_sent (Some z) p e = by_session z.session e where
+  by_session : (o : Option Handle) → unsent_of (Some (record z { session = o })) ≡ Some p → is_returning (Some (record z { session = o })) ≡ true
+  by_session None f = refl
+  by_session (Some h) f = absurd (none-some p f)
+
+none_decided : (a : AgentState) (r : Reply) (p : Prefix) → IsKept a → unsent_of a.back ≡ Some p → a.act ≡ None → (after_reply a r).act ≡ None
+none_decided a r p kept unsent none = by_move (nothing_else_moves a r) where
+  no_duty : (d : Duty) → IsNext a d → ⊥
+  no_duty d n = true≢false (sym (is_sent a.back p unsent) ∙ n.sent)
+
+  idle : (m : Move) → Happens a r m → Effect a m (after_reply a r) → (after_reply a r).act ≡ None
+  idle (move.comes_in h) is e = e.3 ∙ none
+  idle (move.starts h) is e = e.3 ∙ none
+  idle (move.is_refused x) is e = e.3 ∙ none
+  idle (move.considers h o) is e = absurd (no_duty (duty.Want h) is.0)
+  idle (move.finishes h o) is e = e.3 ∙ none
+  idle (move.hands h) is e = e.3 ∙ none
+  idle (move.is_unsent x) is e = e.2 ∙ none
+  idle (move.hears h o) is e = e.2 ∙ none
+  idle (move.is_made c) is e = e.3
+  idle (move.is_dropped c) is e = e.2
+  idle (move.gives place g o) is e = absurd (no_duty (duty.Give place g.handle) is.0)
+  idle (move.leaves place g o) is e = e.2 ∙ none
+
+  by_move : ((m : Move) × Happens a r m) ⊎ NothingMoves a (after_reply a r) → (after_reply a r).act ≡ None
+  by_move (inl m) = idle m.0 m.1 (moves_are_made a r m.0 kept m.1)
+  by_move (inr n) = n.act ∙ none
+
+-- ---- the step
+
 agent_call : (s : Setting) (w : WorldState) (node : ℕ) (hold : Bool) (v : Visit) → visit_of s w (event.Agent node hold) ≡ Some v → v.input ≡ agent_input v.seat.agent
 unfolding agent_visit
 agent_call s w node hold v is = agent_given node v (seat_at w node) is
@@ -30,8 +77,8 @@ agent_seats : (w : WorldState) (v : Visit) (c : Choice) → (after_agent w v c).
 unfolding after_agent noted stepped
 agent_seats w v c = refl
 
-agent_offers : (w : WorldState) (v : Visit) (c : Choice) → (after_agent w v c).offers ≡ offers_after w v c.after (after_reply v.seat.agent c.reply)
-unfolding after_agent
+agent_offers : (w : WorldState) (v : Visit) (c : Choice) → (after_agent w v c).offers ≡ offers_after (after_agent w v c).streams w v c.after (after_reply v.seat.agent c.reply)
+unfolding after_agent noted
 agent_offers w v c = refl
 
 -- the call of a step, and what it leaves
@@ -56,6 +103,7 @@ module _ (l : Grounds) (s : Setting) where
       offers = agent_offers w v c;
       streams = step_stays l.ready s w r (event.Agent node hold) v c is tt;
       moves = l.move s w r v.node v.seat here.stands v.now c.coming c.reply c.after called;
+      alone = λ p unsent none. none_decided v.seat.agent c.reply p (l.kept s w r v.node v.seat here.stands) unsent none;
     },
     record { now = v.now; coming = c.coming; reply = c.reply; agent_is = refl; steps = called },
   ) where

@@ -28,7 +28,7 @@ use Rattle.grasp_laws_negotiation.proofs.Events.{Premade, harmless_premade, open
 use Rattle.grasp_laws_negotiation.proofs.Harmless.{Harmless, same_talks, delivered_harmless, told_harmless, handed_harmless}
 use Rattle.grasp_laws_negotiation.proofs.Steps.{every_at}
 use Rattle.grasp_laws_negotiation.proofs.StreamsMade.{with_voices, made_stays, one_place}
-use Rattle.grasp_laws_prefixes.proofs.Standing.{IsFarAt, AllStay}
+use Rattle.grasp_laws_prefixes.proofs.Standing.{IsEndAt, AllStay}
 
 -- ---- one place for an end
 
@@ -90,6 +90,7 @@ module _ (ready : StreamsAreReady) (s : Setting) (w : WorldState) (r : IsReached
 
   step_before : (e : Event) (v : Visit) (c : Choice) → visit_of s w e ≡ Some v → IsStep e → Premade w.streams (streams_before s w e v c) v.node v.seat v.input
   step_before (event.Want node length longest peer) v c is step = absurd step
+  step_before (event.Return node prefix peer) v c is step = absurd step
   step_before (event.Arrive stream hold) v c is step = arrival_before stream v c hold is
   step_before (event.Bytes stream far count hold) v c is step =
       quiet_before v (streams_before s w (event.Bytes stream far count hold) v c) (delivered_harmless w count (reached_side w stream (side_named far)))
@@ -132,9 +133,9 @@ handed_stay s w node seat qs streams place t stands =
     let m = (handed_harmless s w node seat qs streams).forth place t stands in
     record { after = m.after; stands = m.stands; ends = like_ends t m.after m.like; newer = []; said = m.like.said }
 
--- ---- where a stream was opened
+-- ---- the ends of a stream
 
-pub far_stays : (ts us : List StreamState) → AllStay ts us → (place : ℕ) (e : StreamEnd) → IsFarAt ts place e → IsFarAt us place e
-far_stays ts us stay place e at =
+pub end_stays : (ts us : List StreamState) → AllStay ts us → (place : ℕ) (side : Side) (e : StreamEnd) → IsEndAt ts place side e → IsEndAt us place side e
+end_stays ts us stay place side e at =
     let u = stay place at.talk at.stands in
-    record { talk = u.after; stands = u.stands; far = u.ends Far e at.far }
+    record { talk = u.after; stands = u.stands; end_is = u.ends side e at.end_is }

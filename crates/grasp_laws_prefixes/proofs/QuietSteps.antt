@@ -1,7 +1,5 @@
--- A step that isn't an agent's own, a drain and a want leave what every agent offers.
-use Rattle.std.proofs.Common.{◌≡◌, refl, sym, ap, ◌∙◌, subst, ℕ, ◌-◌, ◌≤◌, ◌==◌, Bool, true, false, inl, inr, List, [], ◌∷◌, fold, take, slice_set, Option, Some, None}
-use Rattle.std.proofs.lemmas.Bool.{eqb-true, eqb-false}
-use Rattle.std.proofs.lemmas.Option.{same_Some}
+-- A step that isn't an agent's own and a drain leave what every agent offers.
+use Rattle.std.proofs.Common.{◌≡◌, refl, sym, ap, ◌∙◌, subst, ℕ, ◌-◌, ◌≤◌, inl, inr, List, [], ◌∷◌, fold, take, slice_set, Option, Some, None}
 use Rattle.grasp_model_node.specs.Begin.{begin}
 use Rattle.grasp_model_node.specs.Draining.{closes, after_drain}
 use Rattle.grasp_model_node.specs.Draining as core
@@ -17,11 +15,10 @@ use Rattle.grasp_laws_network.proofs.EachNode.{drain_steps}
 use Rattle.grasp_laws_network.proofs.Here.{visits_are_here}
 use Rattle.grasp_laws_network.proofs.Others.{arrived_keeps, delivered_keeps, told_keeps}
 use Rattle.grasp_laws_network.proofs.Sent.{sending_keeps_nodes}
-use Rattle.grasp_laws_network.proofs.Staying.{wanting_changes}
-use Rattle.grasp_model_network.specs.EventSteps.{after_agent_call, after_arrival, after_clock, wanted_at, after_wanting, after_cut, datagram_visit, after_delivery, after_piece}
+use Rattle.grasp_model_network.specs.EventSteps.{after_agent_call, after_arrival, after_clock, after_cut, datagram_visit, after_delivery, after_piece}
 use Rattle.grasp_model_network.specs.StreamChanges.{arrived, told, Reached, reached_side, side_named, delivered}
-use Rattle.grasp_model_network.specs.Events.{visit_of, after_visit, after_none, IsFit, Occurs}
-use Rattle.grasp_laws_network.specs.Keeping.{IsHere, WantChanges}
+use Rattle.grasp_model_network.specs.Events.{visit_of, after_visit, IsFit, Occurs}
+use Rattle.grasp_laws_network.specs.Keeping.{IsHere}
 use Rattle.grasp_model_network.specs.Notes.{noted}
 use Rattle.grasp_model_network.specs.Routes.{Route, route_of}
 use Rattle.grasp_model_network.specs.Runs.{IsReached}
@@ -45,12 +42,14 @@ use Rattle.grasp_laws_prefixes.specs.Grounds.{Grounds}
 -- a step, and not one of an agent of prefixes
 abbrev pub IsOthersStep : Event → Type 0
 IsOthersStep (event.Want node length longest peer) = ⊥
+IsOthersStep (event.Return node prefix peer) = ⊥
 IsOthersStep (event.Agent node hold) = ⊥
 IsOthersStep (event.Drain node max) = ⊥
 IsOthersStep _ = Unit {0}
 
 steps_so : (e : Event) → IsOthersStep e → IsStep e
 steps_so (event.Want node length longest peer) o = absurd o
+steps_so (event.Return node prefix peer) o = absurd o
 steps_so (event.Agent node hold) o = absurd o
 steps_so (event.Drain node max) o = absurd o
 steps_so _ o = tt
@@ -116,6 +115,7 @@ told_offers w (Some x) = refl
 step_offers : (s : Setting) (w : WorldState) (e : Event) (v : Visit) (c : Choice) → IsOthersStep e → (after_visit s w e v c).offers ≡ w.offers
 unfolding after_clock after_agent_call after_delivery after_arrival after_piece after_cut noted stepped
 step_offers s w (event.Want node length longest peer) v c o = absurd o
+step_offers s w (event.Return node prefix peer) v c o = absurd o
 step_offers s w (event.Agent node hold) v c o = absurd o
 step_offers s w (event.Arrive stream hold) v c o = arrived_offers w v (s.arrives_as v.node stream) c.reply (stream_numbered w.streams stream)
 step_offers s w (event.Bytes stream far count hold) v c o = delivered_offers w count (reached_side w stream (side_named far))
@@ -125,10 +125,10 @@ step_offers s w _ v c o = refl
 
 -- ---- one node goes on, and the others are the same
 
-seat_still : (seat : Seat) → SeatGoesOn seat seat
-seat_still seat = record { life = refl; pool = refl; giving = refl; sessions = same_sessions seat.core.sessions }
+pub seat_still : (seat : Seat) → SeatGoesOn seat seat
+seat_still seat = record { life = refl; pool = refl; giving = refl; back = refl; sessions = same_sessions seat.core.sessions }
 
-goes_on_from : (w y : WorldState) (node : ℕ) (seat new : Seat) → 1 ≤ node → seat_at w node ≡ Some seat → y.seats ≡ slice_set w.seats (node - 1) new → y.offers ≡ w.offers → AllStay w.streams y.streams → SeatGoesOn seat new
+pub goes_on_from : (w y : WorldState) (node : ℕ) (seat new : Seat) → 1 ≤ node → seat_at w node ≡ Some seat → y.seats ≡ slice_set w.seats (node - 1) new → y.offers ≡ w.offers → AllStay w.streams y.streams → SeatGoesOn seat new
     → WorldGoesOn w y
 goes_on_from w y node seat new least here seats offers talks goes = record { offers = offers; seats = each; streams = talks } where
   each : (n : ℕ) (other : Seat) → seat_at y n ≡ Some other → (before : Seat) × (seat_at w n ≡ Some before) × SeatGoesOn before other
@@ -153,6 +153,7 @@ module _ (l : Grounds) (s : Setting) where
         life = refl;
         pool = refl;
         giving = refl;
+        back = refl;
         sessions = l.goes_on.steps s w r v.node v.seat here.stands v.now v.input c.coming c.reply c.after (step_others s w e v others o.fit is) step.steps;
       })
 
@@ -187,6 +188,7 @@ module _ (l : Grounds) (s : Setting) where
         life = refl;
         pool = refl;
         giving = refl;
+        back = refl;
         sessions = l.goes_on.steps s w r node seat here seat.core.reading (input.Drain max) no_choice.coming (reply.Outputs (core.drained (begin seat.core seat.core.reading) max))
             (after_drain (begin seat.core seat.core.reading) max) tt (drain_steps seat.core max no_choice.coming);
       })
@@ -200,33 +202,3 @@ module _ (l : Grounds) (s : Setting) where
   pub drains_go_on : (w : WorldState) (node max : ℕ) → IsReached s w → 1 ≤ node → WorldGoesOn w (network.drained s w node max)
   unfolding network.drained
   drains_go_on w node max r least = drained_by w node max (seat_at w node) r least refl
-
-  -- ---- a want
-
-  wanted_by : (w : WorldState) (node wanted longest peer : ℕ) (o : Option Seat) → 1 ≤ node → seat_at w node ≡ o → WorldGoesOn w (wanted_at s w node wanted longest peer o)
-  wanted_by w node wanted longest peer None least here = world_still w
-  wanted_by w node wanted longest peer (Some seat) least here =
-      from (wanted_at s w node wanted longest peer (Some seat)) (wanting_changes s w node wanted longest peer (Some seat) least here)
-    where
-      from : (y : WorldState) → WantChanges w y node → WorldGoesOn w y
-      from y changes = record {
-        offers = ap (λ (z : WorldState). z.offers) changes.rest;
-        seats = each;
-        streams = same_stay w.streams y.streams (ap (λ (z : WorldState). z.streams) changes.rest);
-      } where
-        each : (n : ℕ) (new : Seat) → seat_at y n ≡ Some new → (before : Seat) × (seat_at w n ≡ Some before) × SeatGoesOn before new
-        each n new found = by_node (n == node) refl where
-          own : n ≡ node → (before : Seat) × (seat_at w n ≡ Some before) × SeatGoesOn before new
-          own e =
-              let c = changes.own seat here in
-              let same : record seat { agent = record seat.agent { want = c.0 } } ≡ new = same_Some (record seat { agent = record seat.agent { want = c.0 } }) new (sym c.1 ∙ (ap (λ k. seat_at y k) (sym e) ∙ found)) in
-              (seat, ap (λ k. seat_at w k) e ∙ here, subst (λ z. SeatGoesOn seat z) same (record { life = refl; pool = refl; giving = refl; sessions = same_sessions seat.core.sessions }))
-
-          by_node : (b : Bool) → (n == node) ≡ b → (before : Seat) × (seat_at w n ≡ Some before) × SeatGoesOn before new
-          by_node true e = own (eqb-true n node e)
-          by_node false e = (new, sym (changes.others n (eqb-false n node e)) ∙ found, seat_still new)
-
-  pub wants_go_on : (w : WorldState) (e : Event) → IsFit s w e → WorldGoesOn w (after_none s w e)
-  unfolding after_wanting
-  wants_go_on w (event.Want node wanted longest peer) fit = wanted_by w node wanted longest peer (seat_at w node) fit.0.least refl
-  wants_go_on w _ fit = world_still w

@@ -7,6 +7,7 @@ use Rattle.grasp_laws_prefixes.proofs.FirstPrefixes.{first_stands}
 use Rattle.grasp_laws_prefixes.proofs.Givers.{set_aside}
 use Rattle.grasp_laws_prefixes.proofs.Networks.{is_kept, in_run}
 use Rattle.grasp_laws_prefixes.proofs.QuietKeeps.{quiet_keeps}
+use Rattle.grasp_laws_prefixes.proofs.Returned.{told_keeps}
 use Rattle.grasp_laws_prefixes.proofs.Standing.{PrefixesStand}
 use Rattle.grasp_laws_prefixes.specs.Apart.{PrefixesAreSafe, PrefixesStayApart}
 use Rattle.grasp_laws_prefixes.specs.Grounds.{Grounds}
@@ -14,8 +15,9 @@ use Rattle.grasp_laws_prefixes.specs.Grounds.{Grounds}
 module _ (l : Grounds) (s : Setting) where
   pub stand : (w : WorldState) → IsReached s w → PrefixesStand w
   stand w r = is_kept l s PrefixesStand (record {
-    quiet = λ x y p g count said k. quiet_keeps l s x y p g k;
+    quiet = λ x y p g count said k. quiet_keeps l s x p y said g k;
     agent = λ x y p q a c k. agent_keeps l s x y p q a k;
+    told = λ x y e p t k. told_keeps l s x y e p t k;
   }) (first_stands s r.good l) w r
 
   safe : (w : WorldState) → IsReached s w → PrefixesAreSafe w

@@ -1,7 +1,6 @@
 -- What a conversation tells of acceptances, and of the last offer of a side.
 use Rattle.std.proofs.Common.{◌≡◌, refl, sym, ap, ◌∙◌, subst, Bool, true, false, cond, ◌&&◌, ◌||◌, List, [], ◌∷◌, ◌++◌, Some}
 use Rattle.std.proofs.lemmas.Bool.{true≢false, false≢true, and_right}
-use Rattle.grasp_agent.specs.Values.{offered_in}
 use Rattle.grasp_laws_session.proofs.Follows.{other_other, not_begun, follows_open}
 use Rattle.grasp_laws_session.proofs.Offers.{accepted_ended}
 use Rattle.grasp_laws_session.proofs.Views.{is_side-other}
@@ -15,7 +14,7 @@ use Rattle.grasp_types.specs.declared.message.Message.TheVariants.{ReqNeg, ReqSy
 use Rattle.grasp_types.specs.declared.objective.Objective.{Objective}
 use Rattle.grasp_laws_network.specs.Authorities.{has_accepted}
 use Rattle.grasp_laws_agents.proofs.GoingOn.{trails_offered}
-use Rattle.grasp_laws_agents.specs.Giving.{IsOpenOffer, IsDeciding}
+use Rattle.grasp_laws_agents.specs.Giving.{IsOpenOffer, IsDeciding, offered_by}
 
 -- ---- acceptances
 
@@ -100,16 +99,16 @@ deciding_closed v p l d o = true≢false (sym (turn_answered v.role (known v) l 
 -- ---- what trails
 
 -- an end that may accept leaves the other end's offer open
-pub accepting_open : (said : List Said) (v u : Transcript) (p : Prefix) → v.role ≡ Near → IsView Far said u → Accepting Near said v u → offered_in (peer_offer v).value ≡ Some p → IsOpenOffer u p
-accepting_open said v u p near far a o = record {
+pub accepting_open : (side : Side) (said : List Said) (v u : Transcript) (p : Prefix) → v.role ≡ side → IsView (other side) said u → Accepting side said v u → offered_by (other side) (peer_offer v).value ≡ Some p → IsOpenOffer u p
+accepting_open side said v u p own theirs a o = record {
   offered = record {
-    made = subst (λ k. has_offered k (known u) ≡ true) (sym far.role) (trails_offered Far (known u) (strip said) far.trails ∙ a.made);
-    offer = ap (λ (x : Objective). offered_in x.value) same ∙ o;
+    made = subst (λ k. has_offered k (known u) ≡ true) (sym theirs.role) (trails_offered (other side) (known u) (strip said) theirs.trails ∙ a.made);
+    offer = ap (λ k. offered_by k (my_offer u).value) theirs.role ∙ (ap (λ (x : Objective). offered_by (other side) x.value) same ∙ o);
   };
-  unanswered = subst (λ k. answered k (known u) ≡ false) (sym far.role) a.no_answer;
+  unanswered = subst (λ k. answered k (known u) ≡ false) (sym theirs.role) a.no_answer;
 } where
   same : my_offer u ≡ peer_offer v
-  same = ap (λ k. newest_offer_by k (known u)) far.role ∙ (sym a.same_offer ∙ ap (λ k. newest_offer_by (other k) (known v)) (sym near))
+  same = ap (λ k. newest_offer_by k (known u)) theirs.role ∙ (sym a.same_offer ∙ ap (λ k. newest_offer_by (other k) (known v)) (sym own))
 
 -- ---- the request
 

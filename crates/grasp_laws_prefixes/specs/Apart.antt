@@ -1,18 +1,17 @@
 -- Prefixes that are held by different nodes of a network never overlap, and an offer of unknown outcome stays reserved (RFC 8992, sections 4.1 and 4.2).
 use Rattle.std.specs.Prelude.{◌≡◌, ◌≢◌, ℕ, All, List, Some, slice_get}
 use Rattle.grasp_agent.specs.Calls.{objective_name}
-use Rattle.grasp_laws_network.specs.Authorities.{Holds, Keeps, IsAuthority}
+use Rattle.grasp_laws_network.specs.Authorities.{Holds, Keeps, IsAuthority, offering_side}
 use Rattle.grasp_model_network.specs.GoodSetting.{IsGoodSetting}
 use Rattle.grasp_model_network.specs.Runs.{Happening, IsRun, IsReached, first_world, worlds_from}
 use Rattle.grasp_model_network.specs.Setting.{Setting}
-use Rattle.grasp_model_network.specs.Streams.{StreamEnd, StreamState}
+use Rattle.grasp_model_network.specs.Streams.{StreamEnd, StreamState, end_at}
 use Rattle.grasp_laws_network.specs.Views.{view_at}
 use Rattle.grasp_model_network.specs.World.{Offered, WorldState}
 use Rattle.grasp_laws_agents.specs.Giving.{IsOpenOffer}
 use Rattle.grasp_laws_negotiation.specs.Negotiations.{IsNegotiation}
 use Rattle.grasp_pool.specs.Spans.{Apart}
 use Rattle.grasp_session.specs.Conversation.{requested}
-use Rattle.grasp_session.specs.Messages.{Far}
 use Rattle.grasp_session.specs.Transcript.{Transcript}
 use Rattle.grasp_types.specs.Prefix.{AddressBlock as Prefix, span_of}
 
@@ -26,23 +25,23 @@ pub record AuthoritiesApart (w : WorldState) : Type 0 where
   pub held : (o : Offered) → IsAuthority w o → (node a : ℕ) → span_of o.prefix a → ¬ Holds w node a
   pub others : (o p : Offered) → IsAuthority w o → IsAuthority w p → ¬ (o ≡ p) → Apart o.prefix p.prefix
 
--- a negotiation of PrefixManager with this far end, the giver, and what that end saw
-pub record IsGiverAt (w : WorldState) (place : ℕ) (e : StreamEnd) (v : Transcript) : Type 0 where
+-- a negotiation of PrefixManager with this end at its offering side, and what that end saw
+pub record IsOffererAt (w : WorldState) (place : ℕ) (e : StreamEnd) (v : Transcript) : Type 0 where
   pub talk : StreamState
   pub stands : slice_get w.streams place ≡ Some talk
   pub negotiation : IsNegotiation talk
   pub objective : (requested talk.said).name ≡ objective_name
-  pub end_is : talk.far ≡ Some e
-  pub saw : view_at w talk Far ≡ Some v
+  pub end_is : end_at talk (offering_side talk) ≡ Some e
+  pub saw : view_at w talk (offering_side talk) ≡ Some v
 
 -- the node has the prefix reserved or in doubt, and holds no address of it
 pub record IsSetAside (w : WorldState) (node : ℕ) (p : Prefix) : Type 0 where
   pub kept : Keeps w node p
   pub unheld : (a : ℕ) → span_of p a → ¬ Holds w node a
 
--- what a giver offered by a step, after which it kept no step and no end of the other end, is set aside there
+-- what the offering end offered, after which it kept no step and no end of the other end, is set aside there
 abbrev pub OffersAreSetAside : WorldState → Type 0
-OffersAreSetAside w = (place : ℕ) (e : StreamEnd) (v : Transcript) (p : Prefix) → IsGiverAt w place e v → IsOpenOffer v p → IsSetAside w e.node p
+OffersAreSetAside w = (place : ℕ) (e : StreamEnd) (v : Transcript) (p : Prefix) → IsOffererAt w place e v → IsOpenOffer v p → IsSetAside w e.node p
 
 pub record PrefixesAreSafe (w : WorldState) : Type 0 where
   pub held : HeldApart w

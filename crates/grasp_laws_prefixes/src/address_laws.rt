@@ -33,7 +33,8 @@ pub fn nothing_is_lost()
     calls_mean();
 }
 
-/// Each offer that is listed is for a stream, a node has one of a prefix, and what is offered in a session is listed for its stream.
+/// Each offer that is listed is for a stream, or for none as yet, and a node has one of a prefix. What is to be returned is listed, and
+/// what is offered in a session is listed for its stream.
 pub fn offers_are_known()
     ensures { OffersAreKnown }
 {

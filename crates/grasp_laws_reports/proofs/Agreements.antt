@@ -16,12 +16,13 @@ use Rattle.grasp_script.specs.Answers.{by_word, outcome_words, answer_words, rep
 use Rattle.grasp_script.specs.Reports.{report_words}
 use Rattle.grasp_model_network.specs.declared.report.Report.{Report}
 use Rattle.grasp_model_network.specs.declared.report.Report.TheVariants as report
+use Rattle.grasp_agent.specs.declared.back.ReturnFault.TheVariants as back
 use Rattle.grasp_agent.specs.declared.want.WantFault.TheVariants.{Busy}
 use Rattle.grasp_laws_reports.specs.Laws.{AgreedWordsTell}
 use Rattle.grasp_laws_reports.specs.Outcomes.{reply_in}
 
 -- the first letter of the first word
-first : List (List ℕ) → ℕ
+unfoldable pub first : List (List ℕ) → ℕ
 first [] = 0
 first ([] ∷ words) = 0
 first ((letter ∷ word) ∷ words) = letter
@@ -75,6 +76,7 @@ unfolding first
 agreed_report (report.Reply r) by words e = let h = agreed_reply r by words e in (h.0, (λ i. Some (h.1 i)), h.2)
 agreed_report (report.Agent call r) by words e = let h = agreed_reply r by words e in (h.0, (λ i. Some (h.1 i)), h.2)
 agreed_report (report.Want (Err (Busy least longest))) by words e = let z : ◌≡◌ {A = ℕ} 98 101 = ap first e in absurd (omega arith)
+agreed_report (report.Return (Err (back.Busy prefix))) by words e = absurd (omega (arith, ap length e))
 agreed_report _ by words e = absurd (omega (arith, ap length e))
 
 pub agreed_words_tell : AgreedWordsTell

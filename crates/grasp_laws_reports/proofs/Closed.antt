@@ -4,18 +4,18 @@ use Rattle.std.proofs.lemmas.Bool.{true≢false}
 use Rattle.std.proofs.lemmas.Option.{none-some, same_Some}
 use Rattle.grasp_agent.specs.Replies.{after_reply}
 use Rattle.grasp_session.specs.Messages.{Side, Near, Far}
-use Rattle.grasp_types.specs.declared.address.Locator.{Locator}
 use Rattle.grasp_types.specs.declared.reply.Reply.{Reply}
-use Rattle.grasp_model_network.specs.EventSteps.{after_agent_call, after_agent, after_arrival, after_clock, wanted_by, wanted_at, after_wanting, after_cut, after_delivery, after_piece}
+use Rattle.grasp_laws_network.proofs.Telling.{none_one}
+use Rattle.grasp_model_network.specs.EventSteps.{after_agent_call, after_agent, after_arrival, after_clock, after_cut, after_delivery, after_piece}
 use Rattle.grasp_model_network.specs.StreamChanges.{arrived, arrival_by, told, Reached, reached_at, reached_in, reached_side, side_named, delivered}
-use Rattle.grasp_model_network.specs.Events.{visit_of, after_visit, after_none, after_by, after_event, drains, drained_behind}
+use Rattle.grasp_model_network.specs.Events.{visit_of, after_visit, after_by, after_event, drains, drained_behind}
 use Rattle.grasp_model_network.specs.Notes.{noted}
 use Rattle.grasp_model_network.specs.Runs.{IsReached}
 use Rattle.grasp_model_network.specs.Sending.{event_drain}
-use Rattle.grasp_model_network.specs.Setting.{Setting, numbered}
+use Rattle.grasp_model_network.specs.Setting.{Setting}
 use Rattle.grasp_model_network.specs.Streams.{StreamEnd, Arrival, StreamState, told_closed, is_reached, is_waiting, end_at, side_at, stream_numbered, change_at_end, with_delivered, with_far}
 use Rattle.grasp_model_network.specs.Visits.{Visit, Choice}
-use Rattle.grasp_model_network.specs.World.{Seat, WorldState, seat_at, end_of}
+use Rattle.grasp_model_network.specs.World.{WorldState, end_of}
 use Rattle.grasp_model_network.specs.declared.event.Event.{Event}
 use Rattle.grasp_model_network.specs.declared.event.Event.TheVariants as event
 use Rattle.grasp_laws_delivery.proofs.FromReady.{distinct}
@@ -113,6 +113,7 @@ module _ (ready : StreamsAreReady) (s : Setting) (w : WorldState) (r : IsReached
   visit_stay : (e : Event) (v : Visit) (c : Choice) → visit_of s w e ≡ Some v → StreamsStay w.streams (after_visit s w e v c).streams
   unfolding after_clock after_agent after_agent_call after_delivery after_arrival after_piece after_cut noted
   visit_stay (event.Want node wanted longest peer) v c is = same_stay w.streams
+  visit_stay (event.Return node prefix peer) v c is = same_stay w.streams
   visit_stay (event.Agent node hold) v c is = stepped_stay w w v c.after (after_reply v.seat.agent c.reply) (same_stay w.streams)
   visit_stay (event.Arrive stream hold) v c is =
       stepped_stay w (arrived w v (s.arrives_as v.node stream) c.reply (stream_numbered w.streams stream)) v c.after v.seat.agent
@@ -128,21 +129,8 @@ module _ (ready : StreamsAreReady) (s : Setting) (w : WorldState) (r : IsReached
   behind_stay true x node = drained_stay s x node event_drain
   behind_stay false x node = same_stay x.streams
 
-  wanted_stay : (node : ℕ) (seat : Seat) (wanted longest : ℕ) (peer : Option Locator) → StreamsStay w.streams (wanted_by w node seat wanted longest peer).streams
-  wanted_stay node seat wanted longest None = same_stay w.streams
-  wanted_stay node seat wanted longest (Some peer) = same_stay w.streams
-
-  wanting_stay : (node wanted longest peer : ℕ) (o : Option Seat) → StreamsStay w.streams (wanted_at s w node wanted longest peer o).streams
-  wanting_stay node wanted longest peer None = same_stay w.streams
-  wanting_stay node wanted longest peer (Some seat) = wanted_stay node seat wanted longest (numbered s.peers peer)
-
-  none_stay : (e : Event) → StreamsStay w.streams (after_none s w e).streams
-  unfolding after_wanting
-  none_stay (event.Want node wanted longest peer) = wanting_stay node wanted longest peer (seat_at w node)
-  none_stay _ = same_stay w.streams
-
   by_stay : (e : Event) (c : Choice) (o : Option Visit) → visit_of s w e ≡ o → StreamsStay w.streams (after_by s w e c o).streams
-  by_stay e c None is = none_stay e
+  by_stay e c None is = none_one s w e (λ x. StreamsStay w.streams x.streams) (same_stay w.streams) (λ x o. subst (λ (y : WorldState). StreamsStay w.streams y.streams) (sym o.after) (same_stay w.streams))
   by_stay e c (Some v) is =
       stay_then w.streams (after_visit s w e v c).streams (drained_behind (drains e) s (after_visit s w e v c) v.node).streams (visit_stay e v c is)
       (behind_stay (drains e) (after_visit s w e v c) v.node)

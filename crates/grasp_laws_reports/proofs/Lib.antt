@@ -1,6 +1,7 @@
 pub mod Agreements
 pub mod Closed
 pub mod Closing
+pub mod FloodReads
 pub mod LongerRuns
 pub mod OnlyPolls
 pub mod Onward

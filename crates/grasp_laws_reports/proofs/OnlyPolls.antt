@@ -1,5 +1,5 @@
 -- A report that tells an agreement is that of a poll.
-use Rattle.std.proofs.Common.{◌≡◌, refl, ap, subst, ℕ, ◌+◌, Bool, true, false, cond, List, Option, Some, None, Result, Ok, Err}
+use Rattle.std.proofs.Common.{◌≡◌, refl, ap, ◌∙◌, subst, ℕ, ◌+◌, Bool, true, false, cond, List, Option, Some, None, Result, Ok, Err}
 use Rattle.std.proofs.lemmas.Option.{none-some, same_Some}
 use Rattle.grasp_model_node.specs.Begin.{begin}
 use Rattle.grasp_model_node.specs.FloodCalls.{find_of, found_as}
@@ -18,6 +18,7 @@ use Rattle.grasp_types.specs.declared.address.Address.{Address}
 use Rattle.grasp_types.specs.declared.call.Call.{Call}
 use Rattle.grasp_types.specs.declared.call.Call.TheVariants as call
 use Rattle.grasp_types.specs.declared.objective.Objective.{Objective}
+use Rattle.grasp_types.specs.declared.reply.ApiAnswer.{ApiAnswer}
 use Rattle.grasp_types.specs.declared.reply.ApiAnswer.TheVariants as answer
 use Rattle.grasp_types.specs.declared.reply.Reply.{Reply}
 use Rattle.grasp_types.specs.declared.reply.Reply.TheVariants as reply
@@ -59,10 +60,10 @@ not_found : (f : Find) (p : Progress) → answer.Polled p ≡ found_as f → ⊥
 not_found (find.Found locators) p e = cc
 not_found _ p e = cc
 
-not_opened : (ignored full : Bool) (p : Progress) → reply.Api (answer.Polled p) ≡ cond ignored reply.Taken (cond full reply.Turned reply.Taken) → ⊥
-not_opened true full p e = cc
-not_opened false true p e = cc
-not_opened false false p e = cc
+not_opened : (ignored full : Bool) (a : ApiAnswer) → reply.Api a ≡ cond ignored reply.Taken (cond full reply.Turned reply.Taken) → ⊥
+not_opened true full a e = cc
+not_opened false true a e = cc
+not_opened false false a e = cc
 
 not_done : (p : Progress) → answer.Polled p ≡ answer.Done → ⊥
 not_done p e = cc
@@ -77,6 +78,20 @@ polled_by n asa (call.Synchronize name loops timeout peer) p m = absurd (not_sta
 polled_by n asa (call.GetFlood name) p m = let e : answer.Polled p ≡ answer.Floods _ = m.2 in absurd (cc)
 polled_by n asa _ p m = absurd (not_done p m.2)
 
+-- a call of this agent, which may be answered so
+pub record IsCallWith (n : NodeState) (i : Input) (a : ApiAnswer) : Type 0 where
+  pub asa : ℕ
+  pub made : Call
+  pub is : i ≡ input.Api asa made
+  pub may : MayCall n asa made (Ok a)
+
+-- only a call is answered so
+pub calls_only : (n after : NodeState) (i : Input) (x : Coming) (a : ApiAnswer) → Acts n i x (reply.Api a) after → IsCallWith n i a
+calls_only n after (input.Api asa it) x a acts = record { asa = asa; made = it; is = refl; may = acts.0 }
+calls_only n after (input.Opened stream from) x a acts = absurd (not_opened (is_ignored n stream) (is_full n.streams) a acts.0)
+calls_only n after (input.Closed stream) x a acts = let e : reply.Api a ≡ reply.Taken = acts.0 in absurd (cc)
+calls_only n after _ x a acts = absurd acts
+
 -- a poll of this agent
 record IsPoll (i : Input) : Type 0 where
   asa : ℕ
@@ -84,20 +99,20 @@ record IsPoll (i : Input) : Type 0 where
   is : i ≡ input.Api asa (call.Poll handle)
 
 polls_only : (n after : NodeState) (i : Input) (x : Coming) (p : Progress) → Acts n i x (reply.Api (answer.Polled p)) after → IsPoll i
-polls_only n after (input.Api asa it) x p a = let h = polled_by n asa it p a.0 in record { asa = asa; handle = h.0; is = ap (λ c. input.Api asa c) h.1 }
-polls_only n after (input.Opened stream from) x p a = absurd (not_opened (is_ignored n stream) (is_full n.streams) p a.0)
-polls_only n after (input.Closed stream) x p a = let e : reply.Api (answer.Polled p) ≡ reply.Taken = a.0 in absurd (cc)
-polls_only n after _ x p a = absurd a
+polls_only n after i x p a =
+    let k = calls_only n after i x (answer.Polled p) a in
+    let h = polled_by n k.asa k.made p k.may in record { asa = k.asa; handle = h.0; is = k.is ∙ ap (λ c. input.Api k.asa c) h.1 }
 
 -- ---- the report of an event
 
-none_told : (w : WorldState) (e : Event) (r : Reply) → reply_in (report_none w e) ≡ Some r → ⊥
+pub none_told : (w : WorldState) (e : Event) (r : Reply) → reply_in (report_none w e) ≡ Some r → ⊥
 none_told w (event.Clock node millis) r is = none-some r is
 none_told w _ r is = none-some r is
 
-visit_told : (e : Event) (v : Visit) (c : Choice) (r : Reply) → reply_in (report_visit e v c) ≡ Some r → Some c.reply ≡ Some r
+pub visit_told : (e : Event) (v : Visit) (c : Choice) (r : Reply) → reply_in (report_visit e v c) ≡ Some r → Some c.reply ≡ Some r
 visit_told (event.Clock node millis) v c r is = absurd (none-some r is)
 visit_told (event.Want node wanted longest peer) v c r is = absurd (none-some r is)
+visit_told (event.Return node prefix peer) v c r is = absurd (none-some r is)
 visit_told (event.Drain node max) v c r is = absurd (none-some r is)
 visit_told _ v c r is = is
 

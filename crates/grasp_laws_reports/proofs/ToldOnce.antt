@@ -55,6 +55,7 @@ call_puts : (s : Setting) (w : WorldState) (e : Event) (v : Visit) (c : Choice) 
 unfolding after_clock after_agent after_agent_call after_delivery after_arrival after_piece after_cut noted stepped
 call_puts s w (event.Clock node millis) v c asa it is own = record { agent = v.seat.agent; seats = refl }
 call_puts s w (event.Want node wanted longest peer) v c asa it is own = absurd (none-some v is)
+call_puts s w (event.Return node prefix peer) v c asa it is own = absurd (none-some v is)
 call_puts s w (event.Agent node hold) v c asa it is own = record { agent = after_reply v.seat.agent c.reply; seats = refl }
 call_puts s w (event.Api node agent call hold) v c asa it is own = record { agent = v.seat.agent; seats = refl }
 call_puts s w (event.Datagram index hold) v c asa it is own = record { agent = v.seat.agent; seats = refl }

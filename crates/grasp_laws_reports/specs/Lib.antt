@@ -1,3 +1,4 @@
 pub mod Agree
+pub mod Floods
 pub mod Laws
 pub mod Outcomes

@@ -79,4 +79,5 @@ reply_in (report.Agent made r) = Some r
 reply_in report.Nothing = None
 reply_in (report.Reading millis) = None
 reply_in (report.Want taken) = None
+reply_in (report.Return taken) = None
 reply_in (report.Sent outputs) = None

@@ -1,10 +1,12 @@
 //! Laws of what the agents of a network are told of their sessions, of clock readings and of closed streams, of the words that tell an
-//! agreement, and that the events determine a run. No code runs here.
+//! agreement or floods, and that the events determine a run. No code runs here.
 #![tactic(auto)]
 
+mod flood_laws;
 mod outcome_laws;
 mod run_laws;
 
+pub use flood_laws::floods_reports_tell;
 pub use outcome_laws::{
     agreed_reports_tell, agreed_words_tell, cuts_are_final, outcomes_are_told_once,
     polls_tell_outcomes, readings_never_fall,

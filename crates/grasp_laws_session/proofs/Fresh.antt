@@ -28,7 +28,7 @@ use Rattle.grasp_laws_session.proofs.Runs.{set_some, some_state, none_live}
 pub none_fresh : NoneAreFresh
 none_fresh p x e = absurd (none_live 64 p x e)
 
-my_turn_keeps : (v : Transcript) (m : Message) → is_mine v ≡ true → receive_going v m ≡ Kept → is_last m ≡ true
+pub my_turn_keeps : (v : Transcript) (m : Message) → is_mine v ≡ true → receive_going v m ≡ Kept → is_last m ≡ true
 my_turn_keeps v (ReqNeg n o) e f = absurd (cc)
 my_turn_keeps v (Negotiate n o) e f =
     let k = and_parts (is_negotiation v.kind) (is_awaited v n && is_good_step v o)

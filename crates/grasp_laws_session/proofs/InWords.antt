@@ -19,11 +19,11 @@ use Rattle.grasp_laws_session.specs.InWords.{TurnIsParity, TurnsAreParity, since
 use Rattle.grasp_laws_session.proofs.Bounds.{going_test}
 
 -- what holds of each opening and is kept by each thing that is said, kept or marked
-record KeptByDeeds (P : Transcript → Type 0) : Type 0 where
-  opens : (kind : Kind) (role : Side) (timeout now session : ℕ) (o : Objective) → P (opening kind role timeout now session o)
-  says : (v : Transcript) (now : ℕ) (s : Saying) → P v → P (having_said v now s)
-  hears : (v : Transcript) (now : ℕ) (m : Message) → receive_going v m ≡ Kept → P v → P (with_kept v now m)
-  marks : (v : Transcript) (mark : Mark) → P v → P (with_mark v mark)
+pub record KeptByDeeds (P : Transcript → Type 0) : Type 0 where
+  pub opens : (kind : Kind) (role : Side) (timeout now session : ℕ) (o : Objective) → P (opening kind role timeout now session o)
+  pub says : (v : Transcript) (now : ℕ) (s : Saying) → P v → P (having_said v now s)
+  pub hears : (v : Transcript) (now : ℕ) (m : Message) → receive_going v m ≡ Kept → P v → P (with_kept v now m)
+  pub marks : (v : Transcript) (mark : Mark) → P v → P (with_mark v mark)
 
 module _ (P : Transcript → Type 0) (k : KeptByDeeds P) where
   by_said : (v : Transcript) (now : ℕ) (s : Saying) (c : Option SessionRefused) → P v → P (after_said v now s c)
@@ -50,7 +50,7 @@ module _ (P : Transcript → Type 0) (k : KeptByDeeds P) where
   by_deeds v [] p = p
   by_deeds v (d ∷ ds) p = by_deeds (after_deed v d) ds (by_deed v d p)
 
-  by_built : (v : Transcript) → IsBuilt v → P v
+  pub by_built : (v : Transcript) → IsBuilt v → P v
   by_built v b =
       subst P (sym b.built)
       (by_deeds (opening b.kind b.role b.timeout b.now b.session b.objective) b.deeds (k.opens b.kind b.role b.timeout b.now b.session b.objective))

@@ -26,5 +26,6 @@ pub mod Standing
 pub mod Streams
 pub mod Trailing
 pub mod Turns
+pub mod Unstepped
 pub mod Views
 pub mod Words

@@ -3,3 +3,4 @@ pub mod InWords
 pub mod Moves
 pub mod Sample
 pub mod Turns
+pub mod Unstepped

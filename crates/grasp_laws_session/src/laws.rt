@@ -13,6 +13,7 @@ ghost use Rattle.grasp_session.specs.Runs.{CallsAreInOrder, CallsGoOn, NumbersAr
 ghost use Rattle.grasp_laws_session.specs.Expiry.{ExpiryEnds, ExpiryGoesOn, ExpiryStops};
 ghost use Rattle.grasp_session.specs.Made.{NoneAreReached, CallsTouchOne, LiveComesFirst, ViewsAreBuilt, NoneAreFresh, FreshStay};
 ghost use Rattle.grasp_laws_session.specs.InWords.{TurnsAreParity, DeadlinesAreLargest};
+ghost use Rattle.grasp_laws_session.specs.Unstepped.{UnsteppedHearNone};
 ghost use Rattle.grasp_session.specs.Says.{StartsSay, ChecksSay, OldestIsLeast};
 
 /// A conversation is legal exactly where it is the beginning of a negotiation of whole turns, also where invalid
@@ -161,6 +162,11 @@ pub fn calls_touch_one()
 pub fn untaken_are_fresh()
     ensures none { NoneAreFresh }
     ensures stay { FreshStay }
+{}
+
+/// A listener that has made no step has the turn, and knows no offer of the other end but the request.
+pub fn unstepped_hear_none()
+    ensures { UnsteppedHearNone }
 {}
 
 /// So many calls of `expire_one` as there are places leave none that is due; and where it first answers `None`, these

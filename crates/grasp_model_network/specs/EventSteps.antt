@@ -1,10 +1,10 @@
 -- The step of a node that each event makes, and the network after it.
 use Rattle.std.specs.Prelude.{ℕ, Bool, true, false, Option, None, Some, if◌then◌else◌, List, [], ◌∷◌, ◌++◌, Ok, Result, length}
 use Rattle.grasp_session.specs.Messages.{Side, other}
-use Rattle.grasp_model_network.specs.Sending.{stepped, gained, seat_with}
+use Rattle.grasp_model_network.specs.Sending.{stepped, gained}
 use Rattle.grasp_model_network.specs.Streams.{StreamState, next_bytes, stream_numbered, is_waiting}
 use Rattle.grasp_model_network.specs.Visits.{Visit, Choice, visit, visit_seat}
-use Rattle.grasp_model_network.specs.World.{WorldState, SentDatagram, DiscoveryAnswer, Seat, seat_at, with_seat}
+use Rattle.grasp_model_network.specs.World.{WorldState, SentDatagram, DiscoveryAnswer, Seat, seat_at}
 use Rattle.grasp_model_network.specs.StreamChanges.{Reached, reached_side, arrived, delivered, told}
 use Rattle.grasp_model_network.specs.Setting.{Member, Setting, numbered, member_at}
 use Rattle.std.specs.List.{list_any}
@@ -15,14 +15,15 @@ use Rattle.grasp_types.specs.declared.message.Answer.TheVariants.{Locators, Dive
 use Rattle.grasp_types.specs.declared.message.Message.{Message}
 use Rattle.grasp_types.specs.declared.message.Message.TheVariants.{Discovery, Response}
 use Rattle.grasp_agent.specs.Calls.{next_call}
-use Rattle.grasp_agent.specs.Replies.{after_reply, want_reply, after_want}
+use Rattle.grasp_agent.specs.Replies.{after_reply, want_reply, return_reply}
 use Rattle.grasp_agent.specs.States.{AgentState}
 use Rattle.grasp_types.specs.declared.traffic.Input.{Input}
 use Rattle.grasp_model_network.specs.Notes.{noted}
 use Rattle.grasp_model_network.specs.Offers.{offers_after}
 use Rattle.grasp_types.specs.declared.call.Call.{Call}
+use Rattle.grasp_agent.specs.declared.back.ReturnFault.{ReturnFault}
 use Rattle.grasp_agent.specs.declared.want.WantFault.{WantFault}
-use Rattle.grasp_types.specs.declared.address.Locator.{Locator}
+use Rattle.grasp_types.specs.Prefix.{AddressBlock as Prefix}
 use Rattle.grasp_model_node.specs.Begin.{begin}
 use Rattle.grasp_types.specs.declared.traffic.Input.TheVariants as input
 use Rattle.grasp_model_node.specs.Draining as core
@@ -127,7 +128,7 @@ agent_visit w node = agent_seat node (seat_at w node)
 
 -- the network after the step, which leaves this agent
 abbrev pub replied : WorldState → Visit → Choice → AgentState → WorldState
-replied w v c agent = record (noted (stepped w v c.after agent) v v.seat.agent.asa (next_call v.seat.agent) c.reply) { offers = offers_after w v c.after agent }
+replied w v c agent = record (noted (stepped w v c.after agent) v v.seat.agent.asa (next_call v.seat.agent) c.reply) { offers = offers_after (stepped w v c.after agent).streams w v c.after agent }
 
 -- the agent takes the reply
 unfoldable pub after_agent : WorldState → Visit → Choice → WorldState
@@ -155,18 +156,6 @@ after_clock w v c = stepped w v c.after v.seat.agent
 
 -- ---- a want: the agent takes it where it has none and has room for the prefix (RFC 8992, section 4.1). It is no step of the node
 
-abbrev pub wanted_by : WorldState → ℕ → Seat → ℕ → ℕ → Option Locator → WorldState
-wanted_by w node seat length longest None = w
-wanted_by w node seat length longest (Some peer) = with_seat w node (seat_with seat seat.core (after_want seat.agent length longest peer (want_reply seat.agent)))
-
-abbrev pub wanted_at : Setting → WorldState → ℕ → ℕ → ℕ → ℕ → Option Seat → WorldState
-wanted_at s w node length longest peer None = w
-wanted_at s w node length longest peer (Some seat) = wanted_by w node seat length longest (numbered s.peers peer)
-
--- the network after a want of the node's agent, whose peer has the locator of this number
-unfoldable pub after_wanting : Setting → WorldState → ℕ → ℕ → ℕ → ℕ → WorldState
-after_wanting s w node length longest peer = wanted_at s w node length longest peer (seat_at w node)
-
 abbrev pub want_answer : Option Seat → Result (Unit {0}) WantFault
 want_answer None = Ok tt
 want_answer (Some seat) = want_reply seat.agent
@@ -174,6 +163,16 @@ want_answer (Some seat) = want_reply seat.agent
 -- whether the agent takes it
 abbrev pub wanting_reply : WorldState → ℕ → Result (Unit {0}) WantFault
 wanting_reply w node = want_answer (seat_at w node)
+
+-- ---- a return: the agent takes it where it has none, the prefix is all free and the pool has room for its pieces. It is no step of the node
+
+abbrev pub return_answer : Prefix → Option Seat → Result (Unit {0}) ReturnFault
+return_answer p None = Ok tt
+return_answer p (Some seat) = return_reply seat.agent p
+
+-- whether the agent takes it
+abbrev pub returning_reply : WorldState → ℕ → Prefix → Result (Unit {0}) ReturnFault
+returning_reply w node p = return_answer p (seat_at w node)
 
 -- ---- outputs of a node that are sent
 

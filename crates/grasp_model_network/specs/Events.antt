@@ -1,11 +1,13 @@
 -- What an event does: at most one step of a node, what comes of it, and then a drain of that node.
 use Rattle.std.specs.Prelude.{◌≡◌, ◌≢◌, ◌≤◌, ℕ, Bool, true, false, not, Option, None, Some, IsSome, length}
-use Rattle.grasp_model_network.specs.EventSteps.{call_visit, after_agent_call, agent_visit, after_agent, arrival_visit, after_arrival, clock_visit, after_clock, after_wanting, cut_visit, after_cut, datagram_visit, after_delivery, drain_visit, piece_visit, after_piece}
+use Rattle.grasp_types.specs.Prefix.{IsPrefix}
+use Rattle.grasp_model_network.specs.EventSteps.{call_visit, after_agent_call, agent_visit, after_agent, arrival_visit, after_arrival, clock_visit, after_clock, cut_visit, after_cut, datagram_visit, after_delivery, drain_visit, piece_visit, after_piece}
 use Rattle.grasp_model_network.specs.StreamChanges.{side_named}
 use Rattle.grasp_model_network.specs.Plans.{IsNode}
 use Rattle.grasp_model_network.specs.Ranges.{IsCall}
 use Rattle.grasp_model_network.specs.Sending.{drained, event_drain}
 use Rattle.grasp_model_network.specs.Setting.{Setting}
+use Rattle.grasp_model_network.specs.Telling.{telling_of, after_told}
 use Rattle.grasp_model_network.specs.Visits.{Visit, Choice, MayCome}
 use Rattle.grasp_model_network.specs.World.{WorldState, is_too_much}
 use Rattle.grasp_model_network.specs.declared.event.Event.{Event}
@@ -24,11 +26,13 @@ pub record AreLengths (length longest : ℕ) : Type 0 where
   pub rising : length ≤ longest
   pub most : longest ≤ 128
 
--- among so many nodes, and so many peers that a want can name: the nodes and the peer that it names are there, no call is made as
--- agent 1, which is the node's own, what a call carries is within its ranges, and the lengths of a want are lengths of prefixes
+-- among so many nodes, and so many peers that a want or a return can name: the nodes and the peer that it names are there, no call is made
+-- as agent 1, which is the node's own, what a call carries is within its ranges, the lengths of a want are lengths of prefixes, and what is
+-- given back is a prefix
 abbrev pub IsFitAmong : ℕ → ℕ → Event → Type 0
 IsFitAmong nodes peers (event.Clock node millis) = IsNode nodes node
 IsFitAmong nodes peers (event.Want node length longest peer) = IsNode nodes node × IsNode peers peer × AreLengths length longest
+IsFitAmong nodes peers (event.Return node prefix peer) = IsNode nodes node × IsNode peers peer × IsPrefix prefix.address prefix.length
 IsFitAmong nodes peers (event.Agent node hold) = IsNode nodes node
 IsFitAmong nodes peers (event.Api node asa call hold) = IsNode nodes node × (asa ≢ 1) × IsCall call
 IsFitAmong nodes peers (event.Datagram index hold) = Unit {0}
@@ -46,6 +50,7 @@ IsFit s w e = IsFitAmong (length w.seats) (length s.peers) e
 abbrev pub visit_of : Setting → WorldState → Event → Option Visit
 visit_of s w (event.Clock node millis) = clock_visit w node millis
 visit_of s w (event.Want node length longest peer) = None
+visit_of s w (event.Return node prefix peer) = None
 visit_of s w (event.Agent node hold) = agent_visit w node
 visit_of s w (event.Api node asa call hold) = call_visit w node asa call
 visit_of s w (event.Datagram index hold) = datagram_visit w index
@@ -58,6 +63,7 @@ visit_of s w (event.Drain node max) = drain_visit w node max
 abbrev pub after_visit : Setting → WorldState → Event → Visit → Choice → WorldState
 after_visit s w (event.Clock node millis) v c = after_clock w v c
 after_visit s w (event.Want node length longest peer) v c = w
+after_visit s w (event.Return node prefix peer) v c = w
 after_visit s w (event.Agent node hold) v c = after_agent w v c
 after_visit s w (event.Api node asa call hold) v c = after_agent_call w v asa call c
 after_visit s w (event.Datagram index hold) v c = after_delivery w v index c
@@ -68,10 +74,11 @@ after_visit s w (event.Drain node max) v c = drained s w v.node max
 
 -- ---- the drain behind it
 
--- outputs of the node are sent behind the step, unless the event is held, a clock, a want or itself a drain
+-- outputs of the node are sent behind the step, unless the event is held, a clock, a want, a return or itself a drain
 abbrev pub drains : Event → Bool
 drains (event.Clock node millis) = false
 drains (event.Want node length longest peer) = false
+drains (event.Return node prefix peer) = false
 drains (event.Agent node hold) = not hold
 drains (event.Api node asa call hold) = not hold
 drains (event.Datagram index hold) = not hold
@@ -86,10 +93,9 @@ drained_behind false s w node = w
 
 -- ---- the whole
 
--- a want is the one event that changes the network without a step
+-- an event without a step changes the network by what it tells an agent alone
 abbrev pub after_none : Setting → WorldState → Event → WorldState
-after_none s w (event.Want node length longest peer) = after_wanting s w node length longest peer
-after_none s w _ = w
+after_none s w e = after_told w (telling_of s e)
 
 abbrev pub after_by : Setting → WorldState → Event → Choice → Option Visit → WorldState
 after_by s w e c None = after_none s w e
@@ -112,10 +118,11 @@ pub record Overflows (s : Setting) (w : WorldState) (e : Event) : Type 0 where
   pub comes : MayCome (visit_of s w e) choice
   pub too_much : is_too_much (after_event s w e choice) ≡ true
 
--- an event may take memory, unless it is a clock or a want
+-- an event may take memory, unless it is a clock, a want or a return
 abbrev pub wants_memory : Event → Bool
 wants_memory (event.Clock node millis) = false
 wants_memory (event.Want node length longest peer) = false
+wants_memory (event.Return node prefix peer) = false
 wants_memory _ = true
 
 -- why the event may stop the network: because more was sent than may be, or, where it may take memory and makes a step, for want of it

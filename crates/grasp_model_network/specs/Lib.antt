@@ -13,5 +13,6 @@ pub mod Sending
 pub mod Setting
 pub mod StreamChanges
 pub mod Streams
+pub mod Telling
 pub mod Visits
 pub mod World

@@ -1,7 +1,7 @@
 -- For which stream a node has a prefix reserved or in doubt (RFC 8992, section 4.2).
 use Rattle.std.specs.Prelude.{ℕ, ◌==◌, ◌&&◌, ◌||◌, not, Bool, List, [], ◌∷◌, ◌++◌, Option, None, Some, filter}
 use Rattle.std.specs.List.{list_any}
-use Rattle.grasp_agent.specs.States.{AgentState}
+use Rattle.grasp_agent.specs.States.{AgentState, unsent_of, back_session}
 use Rattle.grasp_agent.specs.declared.act.Act.{Act}
 use Rattle.grasp_agent.specs.declared.act.Act.TheVariants as act
 use Rattle.grasp_model_node.specs.Node.{NodeState}
@@ -40,16 +40,30 @@ talk_of_handle ts v n h = talk_on ts v (stream_reply n.sessions h)
 abbrev pub put_offer : List Offered → ℕ → Prefix → Option ℕ → List Offered
 put_offer offers node p talk = filter (λ o. not (is_offer_of node p o)) offers ++ record { node = node; prefix = p; talk = talk } ∷ []
 
--- an agent that had no act and has one now has just decided it: an offer is reserved for the stream of its session
-abbrev pub with_decision : List Offered → List StreamState → Visit → NodeState → Option Act → Option Act → List Offered
-with_decision offers ts v n (Some old) new = offers
-with_decision offers ts v n None None = offers
-with_decision offers ts v n None (Some (act.Offer place h p)) = put_offer offers v.node p (talk_of_handle ts v n h)
-with_decision offers ts v n None (Some (act.Counter h length)) = offers
-with_decision offers ts v n None (Some (act.Accept h p)) = offers
-with_decision offers ts v n None (Some (act.Decline h reason)) = offers
+-- what an agent has just begun to offer: the prefix, and the session in which it is offered
+pub record JustOffered : Type 0 where
+  pub prefix : Prefix
+  pub handle : Handle
 
--- after a step of the agent's node, with what node and agent are then: what isn't reserved or in doubt any more is forgotten, and
--- what was just reserved joins
-unfoldable pub offers_after : WorldState → Visit → NodeState → AgentState → List Offered
-offers_after w v n agent = with_decision (filter (is_kept v.node agent.pool) w.offers) w.streams v n v.seat.agent.act agent.act
+-- a return that was to be requested, and has this session now, offers its prefix there
+abbrev pub just_handed : Option Prefix → Option Handle → Option JustOffered
+just_handed None h = None
+just_handed (Some p) None = None
+just_handed (Some p) (Some h) = Some (record { prefix = p; handle = h })
+
+-- an agent that had no act and has an offer as its act now has just decided it; and a return offers by its request
+abbrev pub just_offered : AgentState → AgentState → Option JustOffered
+just_offered a b = by_acts a.act b.act where
+  by_acts : Option Act → Option Act → Option JustOffered
+  by_acts None (Some (act.Offer place h p)) = Some (record { prefix = p; handle = h })
+  by_acts _ _ = just_handed (unsent_of a.back) (back_session b.back)
+
+-- what was just offered is reserved for the stream of its session
+abbrev pub with_offer : List Offered → List StreamState → Visit → NodeState → Option JustOffered → List Offered
+with_offer offers ts v n None = offers
+with_offer offers ts v n (Some o) = put_offer offers v.node o.prefix (talk_of_handle ts v n o.handle)
+
+-- after a step of the agent's node, with the streams, the node and the agent that there are then: what isn't reserved or in doubt any more
+-- is forgotten, and what was just offered joins
+unfoldable pub offers_after : List StreamState → WorldState → Visit → NodeState → AgentState → List Offered
+offers_after ts w v n agent = with_offer (filter (is_kept v.node agent.pool) w.offers) ts v n (just_offered v.seat.agent agent)

@@ -1,7 +1,7 @@
 -- What is reported of an event.
 use Rattle.std.specs.Prelude.{Option, None, Some}
 use Rattle.grasp_agent.specs.Calls.{next_call}
-use Rattle.grasp_model_network.specs.EventSteps.{wanting_reply, sent_count}
+use Rattle.grasp_model_network.specs.EventSteps.{wanting_reply, returning_reply, sent_count}
 use Rattle.grasp_model_network.specs.Events.{visit_of}
 use Rattle.grasp_model_network.specs.Setting.{Setting}
 use Rattle.grasp_model_network.specs.Visits.{Visit, Choice}
@@ -15,6 +15,7 @@ use Rattle.grasp_model_network.specs.declared.report.Report.TheVariants as repor
 abbrev pub report_visit : Event → Visit → Choice → Report
 report_visit (event.Clock node millis) v c = report.Reading c.after.reading
 report_visit (event.Want node length longest peer) v c = report.Nothing
+report_visit (event.Return node prefix peer) v c = report.Nothing
 report_visit (event.Agent node hold) v c = report.Agent (next_call v.seat.agent) c.reply
 report_visit (event.Api node asa call hold) v c = report.Reply c.reply
 report_visit (event.Datagram index hold) v c = report.Reply c.reply
@@ -23,9 +24,10 @@ report_visit (event.Bytes stream far count hold) v c = report.Reply c.reply
 report_visit (event.Cut stream far hold) v c = report.Reply c.reply
 report_visit (event.Drain node max) v c = report.Sent (sent_count v max)
 
--- whether a want was taken; and nothing where what the event names isn't there
+-- whether a want or a return was taken; and nothing where what the event names isn't there
 abbrev pub report_none : WorldState → Event → Report
 report_none w (event.Want node length longest peer) = report.Want (wanting_reply w node)
+report_none w (event.Return node prefix peer) = report.Return (returning_reply w node prefix)
 report_none w _ = report.Nothing
 
 abbrev pub report_by : WorldState → Event → Choice → Option Visit → Report

@@ -55,8 +55,8 @@ pub record GivenHandle : Type 0 where
   pub life : ℕ
   pub handle : Handle
 
--- a prefix that a node has reserved or in doubt, and the place of the stream for which it was taken. A prefix without a stream
--- doesn't come yet: it is one that is to be given back and wasn't requested, or that was in doubt from the beginning of a life
+-- a prefix that a node has reserved or in doubt, and the place of the stream for which it was taken. A prefix without a stream is one that
+-- is to be given back and wasn't requested. One that was in doubt from the beginning of a life doesn't come yet
 pub record Offered : Type 0 where
   pub node : ℕ
   pub prefix : Prefix

@@ -2,12 +2,12 @@
 
 ghost use Rattle.std.proofs.Common.{rules};
 
-use grasp_types::{Call, Plain};
+use grasp_types::{Call, Plain, Prefix};
 
 /// What happens in a network. Nodes are numbered from 1, and so are datagrams, by the order in which they were sent, and
 /// streams, by the order in which their dials were sent.
 ///
-/// After each event at a node but a clock and a drain, up to 256 of its outputs are sent, unless the event says `hold`.
+/// After each event at a node but a clock, a want, a return and a drain, up to 256 of its outputs are sent, unless the event says `hold`.
 #[derive(Clone, Debug, Drop)]
 pub enum Event {
     /// The clock of a node shows this reading, in milliseconds, or a later one that it has shown.
@@ -20,6 +20,12 @@ pub enum Event {
         node: u8,
         length: u8,
         longest: u8,
+        peer: u8,
+    },
+    /// A node's agent is to give this prefix back to a peer, where it holds all of it.
+    Return {
+        node: u8,
+        prefix: Prefix,
         peer: u8,
     },
     /// A node's agent makes its next call, and takes the reply.

@@ -2,7 +2,7 @@
 
 ghost use Rattle.std.proofs.Common.{rules};
 
-use grasp_agent::WantFault;
+use grasp_agent::{ReturnFault, WantFault};
 use grasp_types::{Call, Plain, Reply};
 
 /// What an event comes to.
@@ -18,6 +18,8 @@ pub enum Report {
     Reading(u64),
     /// Whether the agent took the want.
     Want(Result<(), WantFault>),
+    /// Whether the agent took the return.
+    Return(Result<(), ReturnFault>),
     /// How many outputs were sent.
     Sent(u64),
 }

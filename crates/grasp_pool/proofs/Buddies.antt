@@ -121,19 +121,12 @@ buddy_valid p v h =
 pub of_three : (F : ℕ → ℕ → ℕ → Type 0) (h a l h' a' l' : ℕ) → h' ≡ h → a' ≡ a → l' ≡ l → F h a l → F h' a' l'
 of_three F h a l h' a' l' e f g x = subst (λ n. F n a' l') (sym e) (subst (λ n. F h n l') (sym f) (subst (λ n. F h a n) (sym g) x))
 
--- the halves, from what their parts were computed of
+-- the lower half and its size, from what they were computed of
 pub lower_from : (w p : Prefix) (a l : ℕ) → p ≡ record { address = a; length = l + 1 } → a ≡ w.address → l ≡ w.length → p ≡ lower w
 lower_from w p a l e f g = e ∙ same_prefix (record { address = a; length = l + 1 }) (lower w) f (ap (λ n. n + 1) g)
 
 pub half_from : (w p : Prefix) (h : ℕ) → h ≡ size p → p ≡ lower w → h ≡ size (lower w)
 half_from w p h e f = e ∙ ap size f
-
-upper_from : (w p : Prefix) (a h l : ℕ) → p ≡ record { address = a + h; length = l + 1 } → a ≡ w.address → h ≡ size (lower w) → l ≡ w.length → p ≡ upper w
-upper_from w p a h l e f g k = e ∙ same_prefix (record { address = a + h; length = l + 1 }) (upper w) (ap (λ n. n + h) f ∙ ap (λ n. w.address + n) g) (ap (λ n. n + 1) k)
-
--- the upper half, made of the size of the lower one
-pub upper_made : (w low up : Prefix) (a h l : ℕ) → low ≡ record { address = a; length = l + 1 } → up ≡ record { address = a + h; length = l + 1 } → a ≡ w.address → h ≡ size low → l ≡ w.length → up ≡ upper w
-upper_made w low up a h l d e f g k = upper_from w up a h l e f (half_from w low h g (lower_from w low a l d f k)) k
 
 -- where each half begins: the bit of the size that an address has is its offset
 pub offset_bit : (p : Prefix) → IsValid p → bit_and p.address (size p) ≡ offset_of p

@@ -3,10 +3,10 @@ use Rattle.std.proofs.Common.{◌≡◌, ℕ, ◌+◌, ◌≤◌, ◌↔◌, inl
 use Rattle.grasp_types.specs.Prefix.{AddressBlock as Prefix, span_of}
 use Rattle.grasp_pool.specs.Spans.{IsValid}
 use Rattle.grasp_pool.specs.Canonical.{IsRising, IsFreeIn, IsTidy, IsLowestFree}
-use Rattle.grasp_pool.specs.Holdings.{Holding, IsFree, IsListed, PoolApart, Reserves, GivesBack, Confirms, Doubts, Gains}
+use Rattle.grasp_pool.specs.Holdings.{Holding, IsFree, IsListed, PoolApart, Reserves, GivesBack, Confirms, Doubts, Settles, Gains}
 use Rattle.grasp_pool.proofs.Addresses.{first_in}
 use Rattle.grasp_pool.proofs.Dyadic.{same_prefix}
-use Rattle.grasp_pool.proofs.Listed.{reserves_apart, back_apart, gains_apart, confirms_apart, doubts_apart}
+use Rattle.grasp_pool.proofs.Listed.{reserves_apart, back_apart, settles_apart, gains_apart, confirms_apart, doubts_apart}
 use Rattle.grasp_pool.proofs.Maximal.{clean_canonical}
 use Rattle.grasp_pool.proofs.Unique.{one_canonical, same_members}
 use Rattle.grasp_pool.specs.Parts.{ApartFrom}
@@ -45,6 +45,20 @@ module _ (old new : Holding) (p : Prefix) (pool : IsPool old) where
           | inl h ↦ elim ((g.reserved q).0 h) [ inl h' ↦ pool.valid q (inl h') | inr e ↦ subst IsValid (sym e) v ]
           | inr h ↦ pool.valid q (inr (subst (λ xs. Contains xs q) g.doubtful h))
         ];
+        held = a.held;
+        apart = a.listed;
+        once = a.once;
+        few = few;
+      }
+
+  pub settled_pool : Settles old new p → IsTidy new.free → IsRising new.doubtful → (length new.free + length new.reserved) + length new.doubtful ≤ 4096 → IsPool new
+  settled_pool g tidy rising few =
+      let a : PoolApart new = settles_apart old new p (apart_of old pool) g
+      in record {
+        free = tidy;
+        reserved = subst IsRising (sym g.reserved) pool.reserved;
+        doubtful = rising;
+        valid = λ q l. elim l [ inl h ↦ pool.valid q (inl (subst (λ xs. Contains xs q) g.reserved h)) | inr h ↦ pool.valid q (inr ((g.doubtful q).0 h).0) ];
         held = a.held;
         apart = a.listed;
         once = a.once;

@@ -5,7 +5,7 @@ use Rattle.grasp_types.specs.Prefix.{AddressBlock as Prefix, span_of, IsMultiple
 use Rattle.grasp_pool.specs.Spans.{Apart, size, IsValid, Covers}
 use Rattle.grasp_pool.specs.Canonical.{IsRising, lower, upper, IsClean}
 use Rattle.grasp_pool.proofs.Addresses.{first_in}
-use Rattle.grasp_pool.proofs.Dyadic.{size_pos, next_multiple, same_prefix, size_halves, upper_valid}
+use Rattle.grasp_pool.proofs.Dyadic.{size_pos, next_multiple, same_prefix, size_halves}
 use Rattle.grasp_pool.proofs.Maximal.{cases_prefix}
 use Rattle.grasp_pool.specs.declared.halves.Halves.{Halves}
 use Rattle.grasp_pool.specs.Parts.{ApartFrom}
@@ -126,14 +126,6 @@ upper_in r a h i =
 pub halves_apart : (r : Prefix) (a : ℕ) → span_of (lower r) a → ¬ span_of (upper r) a
 halves_apart r a i j = let b : r.address + size (lower r) ≤ a = j.0 in let c : a < r.address + size (lower r) = i.1 in omega arith
 
--- the upper half of what is apart from the list is alone there
-pub upper_alone : (ps : List Prefix) (w : Prefix) → IsValid w → w.length < 128 → ApartFrom ps w → IsAlone ps (upper w)
-upper_alone ps w v h apart r u s = (
-  λ e. absurd (not_both w r v u h e),
-  λ e k. let same : w ≡ r = upper_injective w r e
-      in apart (lower r) k r.address (first_in (lower r)) (subst (λ x. span_of x r.address) (sym same) (first_in r)),
-)
-
 -- where the buddy isn't in the list
 pub buddy_alone : (ps : List Prefix) (p : Prefix) (h : Halves) → AreHalves p h → p.length ≤ 128 → ¬ Contains ps h.buddy → IsAlone ps p
 buddy_alone ps p h are most none r v s =
@@ -158,30 +150,6 @@ short_alone ps p h r v s =
       λ e. let l : p.length ≡ r.length + 1 = ap (λ x. x.length) e in absurd (omega arith),
       λ e. let l : p.length ≡ r.length + 1 = ap (λ x. x.length) e in absurd (omega arith),
     )
-
--- a step down: the upper half goes into the list
-pub halved : (old new : List Prefix) (w : Prefix) → IsClean old → IsValid w → w.length < 128 → ApartFrom old w → IsAdded old new (upper w)
-    → IsClean new × ApartFrom new (lower w) × IsSame old w new (lower w)
-halved old new w clean v h apart added = (
-  added_clean old new (upper w) clean added (upper_valid w h v) (λ q k a i j. apart q k a i (upper_in w a h j)) (upper_alone old w v h apart),
-  λ q k a i j. elim ((added q).0 k) [
-    | inl k' ↦ apart q k' a i (lower_in w a h j)
-    | inr e ↦ halves_apart w a j (subst (λ x. span_of x a) e i)
-  ],
-  λ a. (
-    λ s. elim s [
-      | inl c ↦ elim ((added_covers old new (upper w) added a).0 c) [ inl c' ↦ inl c' | inr i ↦ inr (upper_in w a h i) ]
-      | inr i ↦ inr (lower_in w a h i)
-    ],
-    λ s. elim s [
-      | inl c ↦ inl ((added_covers old new (upper w) added a).1 (inl c))
-      | inr i ↦ elim (in_half w a h i) [
-        | inl l ↦ inr l
-        | inr u ↦ inl ((added_covers old new (upper w) added a).1 (inr u))
-      ]
-    ],
-  ),
-)
 
 -- p and its buddy make up the parent
 pub both_halves : (p : Prefix) (h : Halves) → AreHalves p h → p.length ≤ 128 → (a : ℕ) → span_of h.parent a ↔ (span_of p a ⊎ span_of h.buddy a)

@@ -3,11 +3,11 @@ use Rattle.std.proofs.Common.{◌≡◌, ℕ, zero, suc, ◌+◌, ◌<◌, ◌�
 use Rattle.std.proofs.lemmas.Bool.{le-ltb}
 use Rattle.std.proofs.lemmas.Bool.Decides.{leb_tells}
 use Rattle.grasp_types.specs.Prefix.{AddressBlock as Prefix}
-use Rattle.grasp_pool.specs.Canonical.{IsRising, lower, upper}
+use Rattle.grasp_pool.specs.Canonical.{IsRising}
 use Rattle.grasp_pool.proofs.Unique.{none_in, cons_cases, cons_more, cons_first, rising_head, rising_tail}
 use Rattle.grasp_pool.specs.Parts.{BeginBelow, BeginFrom, IsNarrow}
 use Rattle.grasp_pool.proofs.Words.{IsAdded, IsRemoved}
-use Rattle.grasp_pool.specs.Functions.{add, without, split, wide, has, joins, merge, parent_of, buddy_of}
+use Rattle.grasp_pool.specs.Functions.{add, without, wide, has, joins, merge, parent_of, buddy_of}
 use Rattle.grasp_pool.proofs.Dyadic.{same_prefix}
 use Rattle.grasp_pool.proofs.Lists.{rising_cons, lt_tells}
 
@@ -75,7 +75,7 @@ insert_is (x ∷ xs) (suc i) p le below above other =
     in ap (λ l. x ∷ l) again ∙ sym (ap (λ b. cond b (p ∷ x ∷ xs) (x ∷ add p xs)) (le-ltb p.address x.address (omega arith)))
 
 -- two of a rising list with one address are the same
-one_address : (ps : List Prefix) → IsRising ps → (p q : Prefix) → Contains ps p → Contains ps q → p.address ≡ q.address → p ≡ q
+pub one_address : (ps : List Prefix) → IsRising ps → (p q : Prefix) → Contains ps p → Contains ps q → p.address ≡ q.address → p ≡ q
 one_address [] r p q h k e = absurd (none_in p h)
 one_address (x ∷ xs) r p q h k e = elim (cons_cases x p xs h) [
   | inl h' ↦ elim (cons_cases x q xs k) [
@@ -154,15 +154,6 @@ remove_is (x ∷ xs) (suc i) p r within e = choose (x.address == p.address) (eq_
         in let s : x.address ≡ p.address = h.1 in absurd (omega arith)
     choose true (inr h) again = absurd (cc)
     choose false h again = ap (λ l. x ∷ l) again
-
--- one step down
-pub split_step : (n f : ℕ) (w : Prefix) (ps ps' ps'' : List Prefix) → n ≡ suc f → ps' ≡ add (upper w) ps → ps'' ≡ split f (lower w) ps' → ps'' ≡ split n w ps
-unfolding split
-split_step n f w ps ps' ps'' e a b = b ∙ ap (λ l. split f (lower w) l) a ∙ ap (λ m. split m w ps) (sym e)
-
-pub split_none : (n : ℕ) (w : Prefix) (ps : List Prefix) → n ≡ 0 → ps ≡ split n w ps
-unfolding split
-split_none n w ps e = ap (λ m. split m w ps) (sym e)
 
 -- the first wide prefix
 pub wide_none : (ps : List Prefix) (n : ℕ) → IsNarrow ps n (length ps) → wide ps n ≡ None

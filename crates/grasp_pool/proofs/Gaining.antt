@@ -13,7 +13,7 @@ use Rattle.grasp_pool.proofs.Lists.{lt_tells}
 use Rattle.grasp_pool.proofs.Meeting.{new_of, entry_cases, first_meets}
 
 -- a test and what it says
-overlap_tells : (q p : Prefix) → ((overlap_test q p ≡ true) × Overlap q p) ⊎ ((overlap_test q p ≡ false) × (¬ Overlap q p))
+pub overlap_tells : (q p : Prefix) → ((overlap_test q p ≡ true) × Overlap q p) ⊎ ((overlap_test q p ≡ false) × (¬ Overlap q p))
 overlap_tells q p = choose (nat_lt q.address (p.address + size p)) (nat_lt p.address (q.address + size q)) (lt_tells q.address (p.address + size p)) (lt_tells p.address (q.address + size q))
   where
     both : q.address < p.address + size p → p.address < q.address + size q → Overlap q p

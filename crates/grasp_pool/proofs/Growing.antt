@@ -1,17 +1,16 @@
 -- What the functions on lists do to the addresses.
-use Rattle.std.proofs.Common.{◌≡◌, ℕ, zero, suc, ◌+◌, ◌-◌, ◌<◌, ◌≤◌, ◌⊎◌, ◌↔◌, inl, inr, List, [], ◌∷◌, length, slice_index_or, Contains, refl, sym, ap, subst, arith, Bool, true, false, cond, nat_lt, ◌==◌}
+use Rattle.std.proofs.Common.{◌≡◌, ℕ, zero, suc, ◌+◌, ◌≤◌, ◌⊎◌, ◌↔◌, inl, inr, List, [], ◌∷◌, length, Contains, refl, sym, ap, subst, arith, Bool, true, false, cond, nat_lt, ◌==◌}
 use Rattle.std.proofs.lemmas.Bool.{cases_lt}
 use Rattle.grasp_types.specs.Prefix.{AddressBlock as Prefix, span_of}
 use Rattle.grasp_pool.specs.Spans.{IsValid, Covers}
-use Rattle.grasp_pool.specs.Canonical.{lower, upper, IsTidy}
-use Rattle.grasp_pool.specs.Parts.{ApartFrom, HasRoom, first_part}
-use Rattle.grasp_pool.proofs.Words.{IsAlone, IsSame, IsJoined}
-use Rattle.grasp_pool.specs.Functions.{add, without, joins, split, merge, parent_of, buddy_of}
-use Rattle.grasp_pool.proofs.Dyadic.{lower_valid}
+use Rattle.grasp_pool.specs.Canonical.{IsTidy}
+use Rattle.grasp_pool.specs.Parts.{ApartFrom}
+use Rattle.grasp_pool.proofs.Words.{IsAlone, IsJoined}
+use Rattle.grasp_pool.specs.Functions.{add, without, joins, merge, parent_of, buddy_of}
 use Rattle.grasp_pool.proofs.Maximal.{cases_prefix}
 use Rattle.grasp_pool.proofs.Unique.{none_in, cons_cases, cons_more, cons_first}
 use Rattle.grasp_pool.proofs.Buddies.{are_halves}
-use Rattle.grasp_pool.proofs.Cleaning.{new_address, removed_clean, removed_apart, added_clean, added_covers, buddy_alone, short_alone, joined, halved, upper_in, same_then}
+use Rattle.grasp_pool.proofs.Cleaning.{new_address, added_clean, added_covers, buddy_alone, short_alone, joined}
 use Rattle.grasp_pool.proofs.Equal.{add_members, add_rising, without_members, without_rising, eq_tells, joins_short, joins_not, joins_so, merge_none, merge_step}
 
 -- in the list or not
@@ -46,25 +45,6 @@ without_length p (x ∷ xs) h = choose (x.address == p.address) (eq_tells x.addr
     choose false (inr k) again =
         let rest : Contains xs p = elim (cons_cases x p xs h) [ inl h' ↦ h' | inr e ↦ absurd (k.1 (ap (λ v. v.address) e)) ]
         in omega (arith, again rest)
-
--- the list without p, which was at some place
-pub record IsRest (old new : List Prefix) (p : Prefix) : Type 0 where
-  pub tidy : IsTidy new
-  pub valid : IsValid p
-  pub apart : ApartFrom new p
-  pub fewer : length new + 1 ≡ length old
-
-pub rest_without : (ps new : List Prefix) (i : ℕ) (p : Prefix) → IsTidy ps → i < length ps → p ≡ slice_index_or ps i p → new ≡ without p.address ps → IsRest ps new p
-rest_without ps new i p tidy within e is =
-    let has : Contains ps p = (i, within, sym e)
-    in let mid : List Prefix = without p.address ps
-    in let gone = without_members p ps tidy.rising has
-    in subst (λ xs. IsRest ps xs p) (sym is) (record {
-      tidy = record { clean = removed_clean ps mid p tidy.clean gone; rising = without_rising p ps tidy.rising has };
-      valid = tidy.clean.valid p has;
-      apart = removed_apart ps mid p tidy.clean gone has;
-      fewer = without_length p ps has;
-    })
 
 -- the list with p joined in
 pub record IsMerged (old : List Prefix) (p : Prefix) (new : List Prefix) : Type 0 where
@@ -118,59 +98,3 @@ merged (suc n) p ps le tidy v apart = elim (joins_cases p ps v) [
       in subst (IsMerged ps p) (sym (merge_step (suc n) n p ps refl h.0))
       (merged_joined p (parent_of p) ps mid (merge n (parent_of p) mid) j (merged n (parent_of p) mid (omega arith) j.tidy j.valid j.apart))
 ]
-
--- the list with all of w but p, its first part
-pub record IsSplit (old : List Prefix) (w p : Prefix) (new : List Prefix) (n : ℕ) : Type 0 where
-  pub tidy : IsTidy new
-  pub valid : IsValid p
-  pub apart : ApartFrom new p
-  pub same : IsSame old w new p
-  pub more : length new ≡ length old + n
-
-same_part : (w : Prefix) (n : ℕ) → first_part (lower w) ((lower w).length + n) ≡ first_part w (w.length + suc n)
-same_part w n = ap (λ m. first_part w m) (let e : (w.length + 1) + n ≡ w.length + suc n = omega arith in e)
-
-split_then : (old mid new : List Prefix) (w l p : Prefix) (n : ℕ) → IsSame old w mid l → length mid ≡ length old + 1 → IsSplit mid l p new n → IsSplit old w p new (suc n)
-split_then old mid new w l p n same more s = record {
-  tidy = s.tidy;
-  valid = s.valid;
-  apart = s.apart;
-  same = same_then old mid new w l p same s.same;
-  more = let e : length new ≡ length mid + n = s.more in omega arith;
-}
-
--- the list with the upper half of w, and what is left, the lower half
-pub record IsHalved (new : List Prefix) (l : Prefix) : Type 0 where
-  pub tidy : IsTidy new
-  pub valid : IsValid l
-  pub apart : ApartFrom new l
-
-pub half_added : (w : Prefix) (ps : List Prefix) → IsTidy ps → IsValid w → w.length < 128 → ApartFrom ps w → IsHalved (add (upper w) ps) (lower w)
-half_added w ps tidy v short apart =
-    let h = halved ps (add (upper w) ps) w tidy.clean v short apart (add_members (upper w) ps)
-    in let other = new_address ps (upper w) (λ q k a i j. apart q k a i (upper_in w a short j))
-    in record { tidy = record { clean = h.0; rising = add_rising (upper w) ps tidy.rising other }; valid = lower_valid w short v; apart = h.1 }
-
-pub half_room : (w : Prefix) (ps : List Prefix) (n : ℕ) → w.length < n → HasRoom ps (n - w.length) → HasRoom (add (upper w) ps) (n - (lower w).length)
-half_room w ps n lt room = let e : length (add (upper w) ps) ≡ length ps + 1 = add_length (upper w) ps in omega arith
-
-pub split_makes : (n : ℕ) (w : Prefix) (ps : List Prefix) → w.length + n ≤ 128 → IsTidy ps → IsValid w → ApartFrom ps w → IsSplit ps w (first_part w (w.length + n)) (split n w ps) n
-unfolding split
-split_makes zero w ps le tidy v apart =
-    let e : w.length ≡ w.length + 0 = omega arith
-    in subst (λ m. IsSplit ps w (first_part w m) ps 0) e (record {
-      tidy = tidy;
-      valid = v;
-      apart = apart;
-      same = λ a. (λ x. x, λ x. x);
-      more = omega arith;
-    })
-split_makes (suc n) w ps le tidy v apart =
-    let short : w.length < 128 = omega arith
-    in let mid : List Prefix = add (upper w) ps
-    in let h = halved ps mid w tidy.clean v short apart (add_members (upper w) ps)
-    in let tidy' : IsTidy mid = (half_added w ps tidy v short apart).tidy
-    in let s : IsSplit mid (lower w) (first_part (lower w) ((lower w).length + n)) (split n (lower w) mid) n
-    = split_makes n (lower w) mid (omega arith) tidy' (lower_valid w short v) h.1
-    in subst (λ p. IsSplit ps w p (split n (lower w) mid) (suc n)) (same_part w n)
-    (split_then ps mid (split n (lower w) mid) w (lower w) (first_part (lower w) ((lower w).length + n)) n h.2 (add_length (upper w) ps) s)

@@ -14,5 +14,7 @@ pub mod Maximal
 pub mod Meanings
 pub mod Meeting
 pub mod Opening
+pub mod Splitting
+pub mod TakingAt
 pub mod Unique
 pub mod Words

@@ -3,7 +3,7 @@ use Rattle.std.proofs.Common.{◌≡◌, ℕ, ◌⊎◌, inl, inr, Contains, sym
 use Rattle.grasp_types.specs.Prefix.{AddressBlock as Prefix, span_of}
 use Rattle.grasp_pool.proofs.Addresses.{first_in}
 use Rattle.grasp_pool.specs.Spans.{Apart, Covers}
-use Rattle.grasp_pool.specs.Holdings.{Holding, IsFree, IsListed, PoolApart, Reserves, GivesBack, Confirms, Doubts, Gains}
+use Rattle.grasp_pool.specs.Holdings.{Holding, IsFree, IsListed, PoolApart, Reserves, GivesBack, Confirms, Doubts, Settles, Gains}
 
 -- no more is free, reserved or doubtful than before
 fewer : (old new : Holding) → PoolApart old → ((a : ℕ) → IsFree new a → IsFree old a)
@@ -63,6 +63,16 @@ module _ (old new : Holding) (p : Prefix) (apart : PoolApart old) where
         | inr h ↦ let d = doubtful q h in (inr d, apart.listed q p (λ e. apart.once p g.was (subst (Contains old.doubtful) e d)) (inr d) (inl g.was))
       ])
       (λ q h d. apart.once q ((g.reserved q).0 h).0 (doubtful q d))
+
+  pub settles_apart : Settles old new p → PoolApart new
+  settles_apart g =
+      let reserved : (q : Prefix) → Contains new.reserved q → Contains old.reserved q = λ q h. subst (λ xs. Contains xs q) g.reserved h
+      in more old new p apart (λ a. (g.free a).0)
+      (λ q l. elim l [
+        | inl h ↦ let r = reserved q h in (inl r, apart.listed q p (λ e. apart.once q r (subst (Contains old.doubtful) (sym e) g.was)) (inl r) (inr g.was))
+        | inr h ↦ let h' = (g.doubtful q).0 h in (inr h'.0, apart.listed q p h'.1 (inr h'.0) (inr g.was))
+      ])
+      (λ q h d. apart.once q (reserved q h) ((g.doubtful q).0 d).0)
 
   pub gains_apart : Gains old new p → PoolApart new
   gains_apart g =

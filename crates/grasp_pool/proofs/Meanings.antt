@@ -4,17 +4,17 @@ use Rattle.std.proofs.lemmas.Bool.Decides.{leb_tells}
 use Rattle.grasp_types.specs.Prefix.{AddressBlock as Prefix}
 use Rattle.grasp_pool.specs.Spans.{IsValid}
 use Rattle.grasp_pool.specs.Canonical.{IsTidy, IsLowestFree, HasNoFree}
-use Rattle.grasp_pool.specs.Holdings.{Holding, IsNew, Reserves, GivesBack, Confirms, Doubts, Gains}
+use Rattle.grasp_pool.specs.Holdings.{Holding, IsNew, Reserves, GivesBack, Confirms, Doubts, Settles, Gains}
 use Rattle.grasp_pool.specs.Parts.{IsNarrow, first_part}
 use Rattle.grasp_pool.proofs.Words.{IsCarved}
 use Rattle.grasp_pool.specs.Pools.{IsPool, room_of, IsTaken, IsNotTaken}
-use Rattle.grasp_pool.specs.Functions.{add, without, split, wide, head_part, rest_of, lowest_free, carved_list, merge, take_reply, after_take, after_back, after_confirm, after_doubt, after_gain}
+use Rattle.grasp_pool.specs.Functions.{add, without, split_at, wide, head_part, rest_of, lowest_free, carved_list, merge, take_reply, after_take, after_back, after_confirm, after_doubt, after_settle, after_gain}
 use Rattle.grasp_pool.proofs.Lists.{lt_tells}
 use Rattle.grasp_pool.proofs.Equal.{add_members, add_rising, without_members, without_rising}
-use Rattle.grasp_pool.proofs.Cleaning.{removed_clean, removed_apart}
 use Rattle.grasp_pool.proofs.Carving.{none_wide, carved}
-use Rattle.grasp_pool.proofs.Changes.{listed_apart, reserved_address, doubtful_address, taken_pool, back_pool, confirmed_pool, doubted_pool, gained_pool}
-use Rattle.grasp_pool.proofs.Growing.{add_length, without_length, IsMerged, merged, IsSplit, split_makes}
+use Rattle.grasp_pool.proofs.Changes.{listed_apart, reserved_address, doubtful_address, taken_pool, back_pool, settled_pool, confirmed_pool, doubted_pool, gained_pool}
+use Rattle.grasp_pool.proofs.Growing.{add_length, without_length, IsMerged, merged}
+use Rattle.grasp_pool.proofs.TakingAt.{IsLeft, part_left, part_around}
 
 -- w is the first of the list that is no longer than n
 pub record IsWideAt (ps : List Prefix) (n : ℕ) (w : Prefix) : Type 0 where
@@ -50,22 +50,17 @@ wide_tells (x ∷ xs) n = choose (nat_le x.length n) (leb_tells x.length n) (wid
 
 -- carving the lowest free prefix out of a list
 carved_at : (ps : List Prefix) (n : ℕ) (w : Prefix) → IsTidy ps → 1 ≤ n → n ≤ 128 → IsWideAt ps n w
-    → IsCarved ps (split (n - w.length) w (without w.address ps)) n (first_part w n)
+    → IsCarved ps (split_at (n - w.length) w w.address (without w.address ps)) n (first_part w n)
 carved_at ps n w tidy some most a =
     let has : Contains ps w = (a.place, a.within, sym a.is)
     in let mid : List Prefix = without w.address ps
-    in let v : IsValid w = tidy.clean.valid w has
-    in let one : 1 ≤ w.length = v.least
-    in let short : w.length ≤ n = a.short
-    in let sum : w.length + (n - w.length) ≡ n = omega arith
-    in let removed = without_members w ps tidy.rising has
-    in let tidy' : IsTidy mid = record { clean = removed_clean ps mid w tidy.clean removed; rising = without_rising w ps tidy.rising has }
-    in let s : IsSplit mid w (first_part w (w.length + (n - w.length))) (split (n - w.length) w mid) (n - w.length)
-    = split_makes (n - w.length) w mid (omega arith) tidy' v (removed_apart ps mid w tidy.clean removed has)
-    in let s' : IsSplit mid w (first_part w n) (split (n - w.length) w mid) (n - w.length) = subst (λ m. IsSplit mid w (first_part w m) (split (n - w.length) w mid) (n - w.length)) sum s
-    in let fewer : length mid + 1 ≡ length ps = without_length w ps has
-    in let more : length (split (n - w.length) w mid) ≡ length mid + (n - w.length) = s'.more
-    in carved ps mid (split (n - w.length) w mid) n a.place w (first_part w n) tidy a.within a.is a.narrow has removed s'.tidy s'.valid refl refl s'.apart s'.same (omega arith)
+    in let part = part_around ps w n tidy has a.short most
+    in let l : IsLeft ps (first_part w n) w mid = part_left ps (first_part w n) w tidy part.0 part.1
+    in let s = l.split
+    in let one : 1 ≤ w.length = l.valid.least
+    in let fewer : length mid + 1 ≡ length ps = l.fewer
+    in let more : length (split_at (n - w.length) w w.address mid) ≡ length mid + (n - w.length) = s.more
+    in carved ps mid (split_at (n - w.length) w w.address mid) n a.place w (first_part w n) tidy a.within a.is a.narrow has (without_members w ps tidy.rising has) s.tidy part.0 refl refl s.apart s.same (omega arith)
 
 pub lowest_carved : (ps : List Prefix) (n : ℕ) → IsTidy ps → 1 ≤ n → n ≤ 128 → MatchOption (lowest_free ps n) (HasNoFree ps n × (carved_list ps n ≡ ps)) (λ p. IsCarved ps (carved_list ps n) n p)
 lowest_carved ps n tidy some most = choose (wide ps n) (wide_tells ps n)
@@ -179,6 +174,20 @@ module _ (h : Holding) (p : Prefix) (pool : IsPool h) (has : Contains h.reserved
       in let c : (length h.free + length h.reserved) + length h.doubtful ≤ 4096 = pool.few
       in doubted_pool h (after_doubt h p) p pool doubt_means (without_rising p h.reserved pool.reserved has)
       (add_rising p h.doubtful pool.doubtful (doubtful_address h pool p has)) (omega arith)
+
+module _ (h : Holding) (p : Prefix) (pool : IsPool h) (has : Contains h.doubtful p) where
+  settled : IsMerged h.free p (merge p.length p h.free)
+  settled = let le : p.length ≤ p.length = omega arith in merged p.length p h.free le pool.free (pool.valid p (inr has)) (listed_apart h pool p (inr has))
+
+  pub settle_means : Settles h (after_settle h p) p
+  settle_means = record { was = has; free = settled.covers; reserved = refl; doubtful = without_members p h.doubtful pool.doubtful has }
+
+  pub settle_keeps : IsPool (after_settle h p)
+  settle_keeps =
+      let a : length (merge p.length p h.free) ≤ length h.free + 1 = settled.few
+      in let b : length (without p.address h.doubtful) + 1 ≡ length h.doubtful = without_length p h.doubtful has
+      in let c : (length h.free + length h.reserved) + length h.doubtful ≤ 4096 = pool.few
+      in settled_pool h (after_settle h p) p pool settle_means settled.tidy (without_rising p h.doubtful pool.doubtful has) (omega arith)
 
 module _ (h : Holding) (p : Prefix) (pool : IsPool h) (valid : IsValid p) (new : IsNew h p) where
   gained : IsMerged h.free p (merge p.length p h.free)

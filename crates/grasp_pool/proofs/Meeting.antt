@@ -12,7 +12,7 @@ use Rattle.grasp_pool.proofs.Addresses.{first_in}
 use Rattle.grasp_pool.proofs.Dyadic.{size_pos}
 use Rattle.grasp_pool.proofs.Maximal.{cases_prefix}
 use Rattle.grasp_pool.specs.Parts.{ApartFrom, ArePairwiseApart, BeginBelow, BeginFrom, IsOverlapAt, IsFirstIn, IsAnswer, lesser_of}
-use Rattle.grasp_pool.proofs.Words.{ApartBelow}
+use Rattle.grasp_pool.specs.Listings.{ApartBelow}
 use Rattle.grasp_pool.specs.Pools.{IsPool, entries, IsFirstOverlap}
 
 pub meets : (p q : Prefix) → p.address ≤ q.address + (size q - 1) → q.address ≤ p.address + (size p - 1) → Overlap p q
@@ -72,7 +72,7 @@ first_right xs ys p k f others = record {
   least = λ q h m. elim (Contains-append_cases xs ys q h) [ inl h' ↦ others q h' m | inr h' ↦ f.least q h' m ];
 }
 
-none_meets : (xs : List Prefix) (p : Prefix) → ApartFrom xs p → (q : Prefix) → Contains xs q → ¬ Overlap q p
+pub none_meets : (xs : List Prefix) (p : Prefix) → ApartFrom xs p → (q : Prefix) → Contains xs q → ¬ Overlap q p
 none_meets xs p apart q h m = apart q h m.0 m.1.0 m.1.1
 
 pub lesser_answer : (xs ys : List Prefix) (p : Prefix) (x y : Option Prefix) → IsAnswer xs p x → IsAnswer ys p y → IsAnswer (xs ++ ys) p (lesser_of x y)

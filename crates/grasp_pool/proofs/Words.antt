@@ -1,7 +1,7 @@
 -- What becomes of a list where prefixes come and go.
-use Rattle.std.specs.Prelude.{◌≡◌, ℕ, ◌+◌, ◌<◌, ◌≤◌, ◌⊎◌, ◌↔◌, List, Contains, length, slice_index_or}
+use Rattle.std.specs.Prelude.{◌≡◌, ℕ, ◌+◌, ◌<◌, ◌≤◌, ◌⊎◌, ◌↔◌, List, Contains, length}
 use Rattle.grasp_types.specs.Prefix.{AddressBlock as Prefix, span_of}
-use Rattle.grasp_pool.specs.Spans.{Apart, IsValid, Covers}
+use Rattle.grasp_pool.specs.Spans.{IsValid, Covers}
 use Rattle.grasp_pool.specs.Canonical.{IsTidy, IsLowestFree, lower, upper}
 use Rattle.grasp_pool.specs.Parts.{ApartFrom}
 use Rattle.grasp_pool.specs.declared.halves.Halves.{Halves}
@@ -44,7 +44,3 @@ pub record IsCarved (old new : List Prefix) (n : ℕ) (p : Prefix) : Type 0 wher
   pub least : IsLowestFree old n p
   pub covers : (a : ℕ) → Covers new a ↔ (Covers old a × (¬ span_of p a))
   pub few : length new ≤ length old + 126
-
--- each of the first n prefixes of the list is apart from p
-abbrev pub ApartBelow : List Prefix → Prefix → ℕ → Type 0
-ApartBelow ps p n = (k : ℕ) (d : Prefix) → k < n → k < length ps → Apart (slice_index_or ps k d) p

@@ -51,7 +51,7 @@ pub record Doubts (old new : Holding) (p : Prefix) : Type 0 where
   pub reserved : (q : Prefix) → Contains new.reserved q ↔ (Contains old.reserved q × (¬ (q ≡ p)))
   pub doubtful : (q : Prefix) → Contains new.doubtful q ↔ (Contains old.doubtful q ⊎ (q ≡ p))
 
--- p, which was doubtful, is free again; no call does it yet
+-- p, which was doubtful, is free again
 pub record Settles (old new : Holding) (p : Prefix) : Type 0 where
   pub was : Contains old.doubtful p
   pub free : (a : ℕ) → IsFree new a ↔ (IsFree old a ⊎ span_of p a)

@@ -2,6 +2,7 @@ pub mod Answers
 pub mod Canonical
 pub mod Functions
 pub mod Holdings
+pub mod Listings
 pub mod Parts
 pub mod Pools
 pub mod Roots

@@ -41,6 +41,16 @@ pub record IsNotTaken (old new : Holding) (n : ℕ) : Type 0 where
   pub same : new ≡ old
   pub why : (room_of old < 128) ⊎ HasNoFree old.free n
 
+-- when `take_at` answers true: there is room for the rest, and p, whose addresses were all free, is reserved
+pub record IsTakenAt (old new : Holding) (p : Prefix) : Type 0 where
+  pub room : 128 ≤ room_of old
+  pub reserves : Reserves old new p
+
+-- when `take_at` answers false: there is too little room, or an address of p isn't free
+pub record IsNotTakenAt (old new : Holding) (p : Prefix) : Type 0 where
+  pub same : new ≡ old
+  pub why : (room_of old < 128) ⊎ ((a : ℕ) × span_of p a × (¬ IsFree old a))
+
 -- all that a pool has: its maximal free, its reserved and its doubtful prefixes
 abbrev pub entries : Holding → List Prefix
 entries h = (h.free ++ h.reserved) ++ h.doubtful

@@ -25,10 +25,6 @@ RootsApart roots p n = (k : ℕ) (d : RootPrefix) → k < n → k < length roots
 abbrev pub AllApart : List RootPrefix → ℕ → Type 0
 AllApart roots n = (j : ℕ) (d : RootPrefix) → j < n → j < length roots → RootsApart roots (block_of (slice_index_or roots j d)) j
 
--- an address of one of the first n roots
-abbrev pub CoversBelow : List RootPrefix → ℕ → ℕ → Type 0
-CoversBelow roots n a = (k : ℕ) × (k < n) × (k < length roots) × ((d : RootPrefix) → span_of (block_of (slice_index_or roots k d)) a)
-
 -- the first root that is no prefix
 pub record IsBad (roots : List RootPrefix) (i : ℕ) : Type 0 where
   pub within : i < length roots

@@ -6,13 +6,14 @@ use thiserror::Error;
 /// Why a pool isn't opened, in the order of the tests.
 #[derive(Debug, Drop, PartialEq, Eq, Error)]
 pub enum PoolFault {
-    /// There are more than 1,024 roots.
-    #[error("more than 1024 root prefixes")]
+    /// There are more than 1,024 roots, or more than 4,096 prefixes in an image.
+    #[error("too many prefixes")]
     TooMany,
     /// The first root whose length is not 1 to 128, or that has a bit set past its length.
     #[error("root {index} is no prefix")]
     BadRoot { index: u64 },
-    /// The least second root that overlaps an earlier one, and the least such first.
+    /// The least second root that overlaps an earlier one, and the least such first. In an image the free prefixes are
+    /// counted from 0, and then the doubtful ones.
     #[error("root {second} overlaps root {first}")]
     Overlap { first: u64, second: u64 },
     /// There is no memory for the pool.

@@ -1,14 +1,15 @@
 //! The list of the maximal free prefixes: how it grows and shrinks by whole prefixes.
 
-ghost use Rattle.std.specs.Prelude.{[], IfOk, IfSome, IfNone, ◌≡◌, ◌-◌, ◌<◌, ◌≤◌, Contains, length, slice_index_or, true, false};
+ghost use Rattle.std.specs.Prelude.{[], IfOk, IfSome, IfNone, ◌≡◌, ◌-◌, ◌<◌, ◌≤◌, Contains, is_some, length, slice_index_or, true, false};
 ghost use Rattle.grasp_types.specs.Prefix.{AddressBlock};
 ghost use Rattle.grasp_pool.specs.Spans.{IsValid};
-ghost use Rattle.grasp_pool.specs.Canonical.{lower, upper, IsTidy};
-ghost use Rattle.grasp_pool.specs.Parts.{ApartFrom, HasRoom, first_part, IsFirstPlace};
-ghost use Rattle.grasp_pool.specs.Functions.{add, without, joins, parent_of, buddy_of, merge, split, lowest_free, carved_list};
+ghost use Rattle.grasp_pool.specs.Canonical.{IsTidy};
+ghost use Rattle.grasp_pool.specs.Parts.{ApartFrom, HasRoom, IsFirstPlace};
+ghost use Rattle.grasp_pool.specs.Functions.{add, without, joins, parent_of, buddy_of, merge, half_at, half_off, split_at, lowest_free, carved_list, meeting, around, rest_at};
 
 use crate::firsts::{note_added, note_removed};
-use crate::halves::{halves_of, prefix_at, size_of};
+use crate::halves::{halves_of, parts_of, prefix_at};
+use crate::overlapping::first_overlap;
 use crate::sorted_list::{find_prefix, insert_prefix, remove_at};
 use grasp_types::Prefix;
 use std::alloc::{AllocError, Global};
@@ -79,40 +80,49 @@ impl FreeList {
         prefix
     }
 
-    /// Puts the upper half of a prefix into the list, and returns the lower one.
-    fn halve(&mut self, whole: Prefix) -> Prefix
+    /// Takes an entry out of the list.
+    fn take_out(&mut self, prefix: Prefix)
+        requires { Contains self.old prefix }
+        ensures { self.new ≡ without prefix.address self.old }
+    {
+        let Some(i) = find_prefix(&self.entries, prefix) else {
+            unreachable!()
+        };
+        self.remove(i);
+    }
+
+    /// Puts one half of a prefix into the list, and returns the other one, which has this address.
+    fn halve_at(&mut self, whole: Prefix, address: u128) -> Prefix
         requires room { HasRoom self.old 1 }
         requires valid { IsValid whole }
         requires short { whole.length < 128 }
         requires apart { ApartFrom self.old whole }
-        ensures value { result ≡ lower whole }
-        ensures is { self.new ≡ add (upper whole) self.old }
+        ensures value { result ≡ half_at whole address }
+        ensures is { self.new ≡ add (half_off whole address) self.old }
     {
-        let length = whole.length() + 1;
-        let address = whole.address();
-        let lower = prefix_at(address, length);
-        let half = size_of(lower);
-        let upper = prefix_at(address + half, length);
-        self.insert(upper);
-        lower
+        let parts = parts_of(whole);
+        if address < parts.upper.address() {
+            self.insert(parts.upper);
+            parts.lower
+        } else {
+            self.insert(parts.lower);
+            parts.upper
+        }
     }
 
-    /// Puts all of a prefix into the list but its first part of this length, which it returns.
-    fn split_off(&mut self, whole: Prefix, length: u8) -> Prefix
+    /// Puts all of a prefix into the list but this part of it.
+    fn split_to(&mut self, whole: Prefix, part: Prefix)
         requires tidy { IsTidy self.old }
-        requires room { HasRoom self.old (length - whole.length) }
+        requires room { HasRoom self.old (part.length - whole.length) }
         requires valid { IsValid whole }
-        requires longer { whole.length ≤ length }
-        requires most { length ≤ 128 }
+        requires longer { whole.length ≤ part.length }
         requires apart { ApartFrom self.old whole }
-        ensures value { result ≡ first_part whole length }
-        ensures is { self.new ≡ split (length - whole.length) whole self.old }
+        ensures { self.new ≡ split_at (part.length - whole.length) whole part.address self.old }
     {
-        if whole.length() == length {
-            return whole;
+        if whole.length() < part.length() {
+            let half = self.halve_at(whole, part.address());
+            self.split_to(half, part);
         }
-        let lower = self.halve(whole);
-        self.split_off(lower, length)
     }
 
     /// The place of the first entry that is no longer than `most`.
@@ -139,7 +149,51 @@ impl FreeList {
             return None;
         };
         let whole = self.remove(i);
-        Some(self.split_off(whole, length))
+        let part = prefix_at(whole.address(), length);
+        self.split_to(whole, part);
+        Some(part)
+    }
+
+    /// The first entry that overlaps a prefix.
+    fn meeting(&self, prefix: Prefix) -> Option<Prefix>
+        requires { IsTidy self.now }
+        ensures { result ≡ meeting self.now prefix }
+    {
+        first_overlap(&self.entries, prefix)
+    }
+
+    /// The entry that has all of a prefix.
+    pub fn around(&self, prefix: Prefix) -> Option<Prefix>
+        requires { IsTidy self.now }
+        ensures { result ≡ around self.now prefix }
+    {
+        match self.meeting(prefix) {
+            Some(whole) => {
+                if whole.length() <= prefix.length() {
+                    Some(whole)
+                } else {
+                    None
+                }
+            }
+            None => None,
+        }
+    }
+
+    /// Takes this prefix out of the list, and answers whether all of its addresses were there: if not, nothing changes.
+    pub fn carve_at(&mut self, prefix: Prefix) -> bool
+        requires tidy { IsTidy self.old }
+        requires room { HasRoom self.old 126 }
+        ensures reply { result ≡ is_some (around self.old prefix) }
+        ensures after { self.new ≡ rest_at self.old prefix (around self.old prefix) }
+    {
+        // What is read of a prefix tells that it is one.
+        let _address = prefix.address();
+        let Some(whole) = self.around(prefix) else {
+            return false;
+        };
+        self.take_out(whole);
+        self.split_to(whole, prefix);
+        true
     }
 
     /// Takes the buddy of a prefix out of the list, and returns what both make up.

@@ -1,8 +1,9 @@
 //! Prefixes, the two halves of each, and the prefix of which it is one.
 
-ghost use Rattle.std.specs.Prelude.{◌≡◌, ◌≤◌};
+ghost use Rattle.std.specs.Prelude.{◌≡◌, ◌<◌, ◌≤◌};
 ghost use Rattle.grasp_types.specs.Prefix.{IsPrefix};
 ghost use Rattle.grasp_pool.specs.Spans.{IsValid, size};
+ghost use Rattle.grasp_pool.specs.Canonical.{lower, upper};
 ghost use Rattle.grasp_pool.specs.Functions.{parent_of, buddy_of};
 
 use grasp_types::Prefix;
@@ -12,6 +13,13 @@ use grasp_types::Prefix;
 pub struct Halves {
     pub parent: Prefix,
     pub buddy: Prefix,
+}
+
+/// The two halves of a prefix.
+#[derive(Clone, Copy)]
+pub struct Parts {
+    pub lower: Prefix,
+    pub upper: Prefix,
 }
 
 /// The prefix of this address and length, which are known to make one.
@@ -45,4 +53,19 @@ pub fn halves_of(prefix: Prefix) -> Halves
     let parent = prefix_at(address & !half, length - 1);
     let buddy = prefix_at(address ^ half, length);
     Halves { parent, buddy }
+}
+
+/// The two halves of a prefix.
+pub fn parts_of(whole: Prefix) -> Parts
+    requires valid { IsValid whole }
+    requires short { whole.length < 128 }
+    ensures lower { result.lower ≡ lower whole }
+    ensures upper { result.upper ≡ upper whole }
+{
+    let length = whole.length() + 1;
+    let address = whole.address();
+    let lower = prefix_at(address, length);
+    let half = size_of(lower);
+    let upper = prefix_at(address + half, length);
+    Parts { lower, upper }
 }

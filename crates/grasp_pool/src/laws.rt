@@ -1,15 +1,17 @@
 //! Laws of the definitions that the pool's contracts cite.
 
-ghost use Rattle.std.specs.Prelude.{◌≡◌, ℕ, ◌↔◌, ◌<◌, ◌≤◌, List, Contains, length, MatchOption, IsTrue};
-ghost use Rattle.grasp_types.specs.Prefix.{AddressBlock};
+ghost use Rattle.std.specs.Prelude.{◌≡◌, ℕ, ◌+◌, ◌↔◌, ◌<◌, ◌≤◌, List, Contains, length, MatchOption, IsTrue, is_some};
+ghost use Rattle.grasp_types.specs.Prefix.{AddressBlock, span_of};
 ghost use Rattle.grasp_pool.specs.Spans.{Covers, IsValid};
 ghost use Rattle.grasp_pool.specs.Canonical.{IsCanonical, IsClean, IsRising, IsTidy, IsLowestFree, HasNoFree};
-ghost use Rattle.grasp_pool.specs.Holdings.{Holding, IsFree, IsNew, GivesBack, Confirms, Doubts, Gains};
-ghost use Rattle.grasp_pool.specs.Pools.{IsPool, room_of, IsTaken, IsNotTaken};
-ghost use Rattle.grasp_pool.specs.Answers.{IsOpened};
+ghost use Rattle.grasp_pool.specs.Holdings.{Holding, IsFree, IsNew, GivesBack, Confirms, Doubts, Settles, Gains};
+ghost use Rattle.grasp_pool.specs.Pools.{IsPool, room_of, IsTaken, IsNotTaken, IsTakenAt, IsNotTakenAt};
+ghost use Rattle.grasp_pool.specs.Answers.{IsOpened, IsReopened};
+ghost use Rattle.grasp_pool.specs.Listings.{all_of, AreDisjoint};
+ghost use Rattle.grasp_pool.specs.declared.image.PoolImage.{PoolImage};
 ghost use Rattle.grasp_pool.specs.Roots.{AllValid, AllApart};
 ghost use Rattle.grasp_pool.specs.declared.roots.RootPrefix.{RootPrefix};
-ghost use Rattle.grasp_pool.specs.Functions.{lowest_free, pool_of, can_gain, take_reply, after_take, after_back, after_confirm, after_doubt, after_gain};
+ghost use Rattle.grasp_pool.specs.Functions.{lowest_free, pool_of, pool_of_image, can_gain, take_reply, after_take, around, take_at_reply, after_take_at, after_back, after_confirm, after_doubt, after_settle, after_gain};
 
 /// A set of addresses has one list of maximal prefixes in rising order.
 #[tactic(auto, using(crate::proofs::Unique::one_canonical))]
@@ -51,12 +53,33 @@ pub fn good_roots_open()
     ensures pool { (roots : List RootPrefix) → IsOpened roots (pool_of roots) → IsPool (pool_of roots) }
 {}
 
+/// At most 4,096 disjoint prefixes of an image open a pool anew, whose free addresses are those of the free ones, and whose
+/// doubtful prefixes are the doubtful ones.
+pub fn reopened_means()
+    ensures reopened { (image : PoolImage) → length image.free + length image.doubtful ≤ 4096 → AreDisjoint (all_of image) → IsReopened image (pool_of_image image) }
+    ensures pool { (image : PoolImage) → IsReopened image (pool_of_image image) → IsPool (pool_of_image image) }
+{}
+
 /// What `take` answers and leaves, as functions, is what is said of it by addresses, and a pool stays a pool.
 pub fn take_means()
     ensures answer { (h : Holding) (n : ℕ) → IsPool h → 1 ≤ n → n ≤ 128
         → MatchOption (take_reply h n) (IsNotTaken h (after_take h n (take_reply h n)) n)
         (λ p. IsTaken h (after_take h n (take_reply h n)) n p) }
     ensures pool { (h : Holding) (n : ℕ) → IsPool h → 1 ≤ n → n ≤ 128 → IsPool (after_take h n (take_reply h n)) }
+{}
+
+/// What `is_free` answers, as a function, is whether all addresses of the prefix are free.
+pub fn free_means()
+    ensures { (h : Holding) (p : AddressBlock) → IsPool h → IsValid p → IsTrue (is_some (around h.free p)) ↔ ((a : ℕ) → span_of p a → IsFree h a) }
+{}
+
+/// What `take_at` answers and leaves, as functions, is what is said of it by addresses, and a pool stays a pool.
+pub fn take_at_means()
+    ensures taken { (h : Holding) (p : AddressBlock) → IsPool h → IsValid p → IsTrue (take_at_reply h p)
+        → IsTakenAt h (after_take_at h p (take_at_reply h p)) p }
+    ensures refused { (h : Holding) (p : AddressBlock) → IsPool h → IsValid p → ¬ IsTrue (take_at_reply h p)
+        → IsNotTakenAt h (after_take_at h p (take_at_reply h p)) p }
+    ensures pool { (h : Holding) (p : AddressBlock) → IsPool h → IsValid p → IsPool (after_take_at h p (take_at_reply h p)) }
 {}
 
 /// What the calls on a reserved prefix leave, as functions, is what is said of them by addresses, and a pool stays a pool.
@@ -67,6 +90,12 @@ pub fn reserved_calls_mean()
     ensures confirmed_pool { (h : Holding) (p : AddressBlock) → IsPool h → Contains h.reserved p → IsPool (after_confirm h p) }
     ensures doubted { (h : Holding) (p : AddressBlock) → IsPool h → Contains h.reserved p → Doubts h (after_doubt h p) p }
     ensures doubted_pool { (h : Holding) (p : AddressBlock) → IsPool h → Contains h.reserved p → IsPool (after_doubt h p) }
+{}
+
+/// What `settle` leaves, as a function, is what is said of it by addresses, and a pool stays a pool.
+pub fn settle_means()
+    ensures settled { (h : Holding) (p : AddressBlock) → IsPool h → Contains h.doubtful p → Settles h (after_settle h p) p }
+    ensures pool { (h : Holding) (p : AddressBlock) → IsPool h → Contains h.doubtful p → IsPool (after_settle h p) }
 {}
 
 /// What `can_gain` and `gain` answer and leave, as functions, is what is said of them by addresses, and a pool stays a pool.

@@ -1,17 +1,20 @@
 //! The pool: what is free, reserved and doubtful.
 
-ghost use Rattle.std.specs.Prelude.{◌≡◌, ◌↔◌, ◌≤◌, Contains, IfOk, IfErr, IsTrue, is_ok, MatchResult, slice_get};
+ghost use Rattle.std.specs.Prelude.{◌≡◌, [], ◌↔◌, ◌≤◌, Contains, IfOk, IfErr, IsTrue, is_ok, is_some, MatchResult, slice_get};
 ghost use Rattle.grasp_pool.specs.Spans.{IsValid};
 ghost use Rattle.grasp_pool.specs.Parts.{IsAnswer};
 ghost use Rattle.grasp_pool.specs.Pools.{IsPool, entries, room_of};
-ghost use Rattle.grasp_pool.specs.Answers.{IsOpened, IsRootFault, IsRefused};
-ghost use Rattle.grasp_pool.specs.Functions.{pool_of, can_gain, take_reply, after_take, after_back, after_confirm, after_doubt, after_gaining};
+ghost use Rattle.grasp_pool.specs.Answers.{IsOpened, IsReopened, IsRootFault, IsImageFault, IsRefused};
+ghost use Rattle.grasp_pool.specs.declared.fault.PoolFault.TheVariants.{OutOfMemory};
+ghost use Rattle.grasp_pool.specs.Functions.{pool_of, pool_of_image, can_gain, take_reply, after_take, around, take_at_reply, after_take_at, after_back, after_confirm, after_doubt, after_settle, after_gaining};
 
 use crate::fault::{GainFault, PoolFault};
 use crate::free_list::{FreeList, MOST_ENTRIES};
+use crate::image::PoolImage;
+use crate::listing::{Listing, fill, first_clash};
 use crate::overlapping::{first_overlap, lesser};
-use crate::roots::{RootPrefix, fill, first_bad, first_clash};
-use crate::sorted_list::{drop_prefix, find_prefix, insert_prefix};
+use crate::roots::{RootPrefix, fill_roots, first_bad, first_root_clash};
+use crate::sorted_list::{drop_prefix, find_prefix, insert_all, insert_prefix};
 use grasp_types::Prefix;
 use std::alloc::Global;
 use std::marker::Model;
@@ -19,12 +22,12 @@ use std::marker::Model;
 /// How many roots a pool is opened with at most.
 const MOST_ROOTS: usize = 1024;
 
-/// The room that `take` needs: it leaves up to 127 pieces of a free prefix and one reserved prefix.
+/// The room that `take` and `take_at` need: they leave up to 127 pieces of a free prefix and one reserved prefix.
 const TAKE_ROOM: u64 = 128;
 
 /// The prefixes of a node: which are free, which are reserved for an offer, and which are in doubt (RFC 8992).
 ///
-/// `open` takes all the memory that the pool will ever need, and no later call takes any.
+/// `open` and `reopen` take all the memory that the pool will ever need, and no later call takes any.
 #[derive(Drop)]
 pub struct Pool {
     free: FreeList,
@@ -61,13 +64,48 @@ impl Pool {
         if let Some(i) = first_bad(roots) {
             return Err(PoolFault::BadRoot { index: i as u64 });
         }
-        if let Some(clash) = first_clash(roots) {
+        if let Some(clash) = first_root_clash(roots) {
             return Err(PoolFault::Overlap {
                 first: clash.first as u64,
                 second: clash.second as u64,
             });
         }
-        let Ok(mut free) = FreeList::open(alloc) else {
+        let mut pool = Pool::empty(alloc)?;
+        fill_roots(&mut pool.free, roots);
+        Ok(pool)
+    }
+
+    /// A pool whose free addresses are those of the image's free prefixes, and whose doubtful prefixes are the image's.
+    ///
+    /// `TooMany` above 4,096 prefixes together; then `Overlap` for the least second prefix that overlaps an earlier one,
+    /// with the least such first, counted through the free ones and then the doubtful ones; then `OutOfMemory`.
+    pub fn reopen(alloc: Global, image: &PoolImage) -> Result<Pool, PoolFault>
+        ensures pool { IfOk result (λ pool. IsPool pool) }
+        ensures is { IfOk result (λ pool. pool ≡ pool_of_image image.now) }
+        ensures reopened { MatchResult result (λ pool. IsReopened image.now pool) (λ fault. IsImageFault image.now fault) }
+    {
+        let free = image.free.slice();
+        let doubtful = image.doubtful.slice();
+        if free.len() > MOST_ENTRIES || doubtful.len() > MOST_ENTRIES - free.len() {
+            return Err(PoolFault::TooMany);
+        }
+        if let Some(clash) = first_clash(&Listing::Image(image), free.len() + doubtful.len()) {
+            return Err(PoolFault::Overlap {
+                first: clash.first as u64,
+                second: clash.second as u64,
+            });
+        }
+        let mut pool = Pool::empty(alloc)?;
+        fill(&mut pool.free, &Listing::Prefixes(free), free.len());
+        insert_all(&mut pool.doubtful, doubtful);
+        Ok(pool)
+    }
+
+    /// An empty pool, with all the memory that it will ever need.
+    fn empty(alloc: Global) -> Result<Pool, PoolFault>
+        ensures { MatchResult result (λ pool. pool ≡ record { free = []; reserved = []; doubtful = [] }) (λ fault. fault ≡ OutOfMemory) }
+    {
+        let Ok(free) = FreeList::open(alloc) else {
             return Err(PoolFault::OutOfMemory);
         };
         let Ok(reserved) = Vec::with_capacity(alloc, MOST_ENTRIES) else {
@@ -76,7 +114,6 @@ impl Pool {
         let Ok(doubtful) = Vec::with_capacity(alloc, MOST_ENTRIES) else {
             return Err(PoolFault::OutOfMemory);
         };
-        fill(&mut free, roots);
         Ok(Pool {
             free,
             reserved,
@@ -124,6 +161,20 @@ impl Pool {
         find_prefix(&self.reserved, prefix).is_some()
     }
 
+    /// Whether the prefix is doubtful, so that it can be settled.
+    pub fn is_doubtful(&self, prefix: Prefix) -> bool
+        ensures { IsTrue result ↔ Contains self.now.doubtful prefix }
+    {
+        find_prefix(&self.doubtful, prefix).is_some()
+    }
+
+    /// Whether all addresses of the prefix are free, so that with a room of 128 it can be reserved.
+    pub fn is_free(&self, prefix: Prefix) -> bool
+        ensures { result ≡ is_some (around self.now.free prefix) }
+    {
+        self.free.around(prefix).is_some()
+    }
+
     /// Reserves the prefix of this length with the least address whose addresses are all free.
     ///
     /// The length is 1 to 128. `None` where there is none, or the room is below 128.
@@ -142,6 +193,23 @@ impl Pool {
         };
         insert_prefix(&mut self.reserved, part);
         Some(part)
+    }
+
+    /// Reserves this prefix, and answers whether it did.
+    ///
+    /// `false` where one of its addresses isn't free, or the room is below 128: then the pool is as it was.
+    pub fn take_at(&mut self, prefix: Prefix) -> bool
+        ensures pool { IsPool self.new }
+        ensures reply { result ≡ take_at_reply self.old prefix }
+        ensures after { self.new ≡ after_take_at self.old prefix result }
+    {
+        // What is read of a prefix tells that it is one.
+        let _address = prefix.address();
+        if self.room() < TAKE_ROOM || !self.free.carve_at(prefix) {
+            return false;
+        }
+        insert_prefix(&mut self.reserved, prefix);
+        true
     }
 
     /// Makes a reserved prefix free.
@@ -171,6 +239,16 @@ impl Pool {
     {
         drop_prefix(&mut self.reserved, prefix);
         insert_prefix(&mut self.doubtful, prefix);
+    }
+
+    /// Makes a doubtful prefix free.
+    pub fn settle(&mut self, prefix: Prefix)
+        requires { Contains self.old.doubtful prefix }
+        ensures pool { IsPool self.new }
+        ensures after { self.new ≡ after_settle self.old prefix }
+    {
+        drop_prefix(&mut self.doubtful, prefix);
+        self.free.merge_in(prefix);
     }
 
     /// The entry of least address that overlaps the prefix.

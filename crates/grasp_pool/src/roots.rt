@@ -3,12 +3,12 @@
 ghost use Rattle.std.specs.Prelude.{◌≡◌, ◌≤◌, [], length, MatchOption};
 ghost use Rattle.grasp_types.specs.Prefix.{AddressBlock};
 ghost use Rattle.grasp_pool.specs.Spans.{IsValid};
-ghost use Rattle.grasp_pool.specs.Functions.{join_roots};
-ghost use Rattle.grasp_pool.specs.Roots.{block_of, AllValid, AllApart, RootsApart, IsBad, IsHit, IsClash};
+ghost use Rattle.grasp_pool.specs.Functions.{pool_of};
+ghost use Rattle.grasp_pool.specs.Roots.{block_of, AllValid, AllApart, IsBad, IsClash};
 
 use crate::free_list::FreeList;
 use crate::halves::prefix_at;
-use crate::overlapping::overlaps;
+use crate::listing::{Listing, fill, first_clash};
 use grasp_types::Prefix;
 
 /// A prefix as it is configured, before it is tested.
@@ -27,7 +27,8 @@ pub struct Clash {
     pub second: usize,
 }
 
-fn prefix_of(root: RootPrefix) -> Prefix
+/// The prefix that a good root is.
+pub fn prefix_of(root: RootPrefix) -> Prefix
     requires { IsValid (block_of root) }
     ensures { result ≡ block_of root }
 {
@@ -46,42 +47,21 @@ pub fn first_bad(roots: &[RootPrefix]) -> Option<usize>
     None
 }
 
-/// The first of the first `count` roots that overlaps the prefix.
-fn first_hit(roots: &[RootPrefix], prefix: Prefix, count: usize) -> Option<usize>
-    requires valid { AllValid roots.now (length roots.now) }
-    requires within { count ≤ length roots.now }
-    ensures { MatchOption result (RootsApart roots.now prefix count) (λ i. IsHit roots.now prefix count i) }
-{
-    for i in 0..count {
-        if overlaps(prefix_of(roots[i]), prefix) {
-            return Some(i);
-        }
-    }
-    None
-}
-
 /// The least second root that overlaps an earlier one, and the least such first.
-pub fn first_clash(roots: &[RootPrefix]) -> Option<Clash>
+pub fn first_root_clash(roots: &[RootPrefix]) -> Option<Clash>
     requires { AllValid roots.now (length roots.now) }
     ensures { MatchOption result (AllApart roots.now (length roots.now)) (λ c. IsClash roots.now c) }
 {
-    for second in 0..roots.len() {
-        if let Some(first) = first_hit(roots, prefix_of(roots[second]), second) {
-            return Some(Clash { first, second });
-        }
-    }
-    None
+    first_clash(&Listing::Roots(roots), roots.len())
 }
 
 /// Puts the roots into an empty list.
-pub fn fill(list: &mut FreeList, roots: &[RootPrefix])
+pub fn fill_roots(list: &mut FreeList, roots: &[RootPrefix])
     requires empty { list.old ≡ [] }
     requires few { length roots.now ≤ 1024 }
     requires valid { AllValid roots.now (length roots.now) }
     requires apart { AllApart roots.now (length roots.now) }
-    ensures { list.new ≡ join_roots roots.now [] }
+    ensures { list.new ≡ (pool_of roots.now).free }
 {
-    for root in roots {
-        list.merge_in(prefix_of(*root));
-    }
+    fill(list, &Listing::Roots(roots), roots.len());
 }

@@ -1,10 +1,11 @@
 //! Lists of prefixes in rising order of address.
 
-ghost use Rattle.std.specs.Prelude.{◌≡◌, ℕ, ◌<◌, ◌≤◌, List, Contains, length, slice_index_or, MatchOption, vec_len, vec_capacity, nat_lt};
+ghost use Rattle.std.specs.Prelude.{◌≡◌, [], ℕ, ◌<◌, ◌≤◌, List, Contains, length, slice_index_or, MatchOption, vec_len, vec_capacity, nat_lt};
 ghost use Rattle.grasp_types.specs.Prefix.{AddressBlock};
 ghost use Rattle.grasp_pool.specs.Canonical.{IsRising};
 ghost use Rattle.grasp_pool.specs.Parts.{BeginBelow, BeginFrom, IsEntryAt};
-ghost use Rattle.grasp_pool.specs.Functions.{add, without};
+ghost use Rattle.grasp_pool.specs.Functions.{add, each, without};
+ghost use Rattle.grasp_pool.specs.Listings.{AreDisjoint};
 
 use grasp_types::Prefix;
 
@@ -56,6 +57,19 @@ pub fn insert_prefix(list: &mut Vec<Prefix>, prefix: Prefix)
     let Ok(()) = list.insert(i, prefix) else {
         unreachable!()
     };
+}
+
+/// Puts prefixes into an empty list, which has room for them. It takes no memory.
+pub fn insert_all(list: &mut Vec<Prefix>, prefixes: &[Prefix])
+    requires empty { list.old.items ≡ [] }
+    requires room { length prefixes.now ≤ vec_capacity list.old }
+    requires disjoint { AreDisjoint prefixes.now }
+    ensures is { list.new.items ≡ each add prefixes.now [] }
+    ensures capacity { vec_capacity list.new ≡ vec_capacity list.old }
+{
+    for prefix in prefixes {
+        insert_prefix(list, *prefix);
+    }
 }
 
 /// Takes the prefix at this place out of the list.

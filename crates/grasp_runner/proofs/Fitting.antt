@@ -43,6 +43,7 @@ not_own asa _ h = two_more asa h
 event_among : (n : ℕ) (w : WorldState) (e : Event) → IsEvent n e → IsFitAmong n n (placed_event w e)
 event_among n w (event.Clock node millis) h = h.0
 event_among n w (event.Want node least longest peer) h = (h.0, h.2, h.1)
+event_among n w (event.Return node prefix peer) h = (h.0, h.2, h.1)
 event_among n w (event.Agent node hold) h = h
 event_among n w (event.Api node asa call hold) h = (h.0, not_own asa call h.3, call_fits n w node call h.2)
 event_among n w (event.Drain node max) h = h.0

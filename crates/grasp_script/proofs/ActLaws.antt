@@ -2,7 +2,9 @@
 use Rattle.std.proofs.Common.{◌≡◌, ℕ, ◌≤◌, ◌&&◌, Bool, true, false, leb, List, [], ◌∷◌, Ok, Err, refl, sym, ap, subst, ◌∙◌, arith}
 use Rattle.std.specs.Prelude.{codes, decimal}
 use Rattle.std.proofs.lemmas.Bool.{le-leb, leb-true, and_parts, and_from}
+use Rattle.grasp_types.specs.Prefix.{AddressBlock}
 use Rattle.grasp_types.specs.declared.call.Call.{Call}
+use Rattle.grasp_text.specs.Line.{prefix_word}
 use Rattle.grasp_text.specs.Reading.{Parsed, ◌>>=◌}
 use Rattle.grasp_text.proofs.Lawful.{ok_is}
 use Rattle.grasp_model_network.specs.Events.{AreLengths}
@@ -10,21 +12,21 @@ use Rattle.grasp_model_network.specs.declared.event.Event.{Event}
 use Rattle.grasp_model_network.specs.declared.event.Event.TheVariants as event
 use Rattle.grasp_script.specs.Acts.{side_word, held, event_words, act_words, IsEvent, IsAct}
 use Rattle.grasp_script.specs.Calls.{call_words, may_call}
-use Rattle.grasp_script.specs.Grammar.{call_at, clock_at, are_lengths, only_if, want_at, agent_at, allowed, api_at, datagram_at, arrive_at, bytes_at, cut_at, drain_at, state_at, held_at, hold_at, as_event, named_at, act_at}
+use Rattle.grasp_script.specs.Grammar.{call_at, clock_at, are_lengths, only_if, want_at, return_at, agent_at, allowed, api_at, datagram_at, arrive_at, bytes_at, cut_at, drain_at, state_at, held_at, hold_at, as_event, named_at, act_at}
 use Rattle.grasp_script.specs.declared.line.LineAct.{LineAct}
 use Rattle.grasp_script.specs.declared.line.LineAct.TheVariants as act
 use Rattle.grasp_script.specs.declared.names.FirstWord.{FirstWord}
 use Rattle.grasp_script.specs.declared.names.FirstWord.TheVariants as first
 use Rattle.grasp_script.proofs.CallLaws.{call_only, call_found}
 use Rattle.grasp_script.proofs.Fields.{taken, Ended, ended, after, Means}
-use Rattle.grasp_script.proofs.WordReaders.{read8, read32, read64, small32, small64, within32, within64, read_node, read_far, first_word, first_again, read_first}
+use Rattle.grasp_script.proofs.WordReaders.{read8, read32, read64, small32, small64, within32, within64, read_node, read_far, read_prefix, first_word, first_again, read_first}
 
 -- ---- tests
 
-lengths_true : (length longest : ℕ) → AreLengths length longest → are_lengths length longest ≡ true
+pub lengths_true : (length longest : ℕ) → AreLengths length longest → are_lengths length longest ≡ true
 lengths_true length longest h = and_from (leb 1 length && leb length longest) (leb longest 128) (and_from (leb 1 length) (leb length longest) (le-leb 1 length h.least) (le-leb length longest h.rising)) (le-leb longest 128 h.most)
 
-true_lengths : (length longest : ℕ) → are_lengths length longest ≡ true → AreLengths length longest
+pub true_lengths : (length longest : ℕ) → are_lengths length longest ≡ true → AreLengths length longest
 true_lengths length longest e =
     let p = and_parts (leb 1 length && leb length longest) (leb longest 128) e in
     let q = and_parts (leb 1 length) (leb length longest) p.0 in
@@ -197,6 +199,24 @@ module _ (nodes : ℕ) (few : nodes ≤ 255) where
       let most : longest ≤ 128 = h.1.most in
       rw ((read_node nodes few).found node h.0, read8.found length (omega arith), read8.found longest (omega arith), (read_node nodes few).found peer h.2, lengths_true length longest h.1) refl
 
+  -- ---- a return
+
+  return_only : (ws : List (List ℕ)) (x : Event × List (List ℕ)) → return_at nodes ws ≡ Ok x → Means One event_words x.0 (codes "return" ∷ ws)
+  unfolding return_at
+  return_only ws x e =
+      let a = taken (read_node nodes few) _ ws x e in
+      let b = taken read_prefix _ a.rest x a.more in
+      let c = taken (read_node nodes few) _ b.rest x b.more in
+      let z = ended (event.Return a.first b.first c.first) c.rest x c.more in
+      subst (λ (y : Event). Means One event_words y (codes "return" ∷ ws)) (sym z.value) (record {
+        ranges = (a.is, b.is, c.is);
+        spelled = ap (λ (t : List (List ℕ)). codes "return" ∷ t) (after a.parts (after b.parts (after c.parts (z.words))));
+      })
+
+  return_found : (node : ℕ) (prefix : AddressBlock) (peer : ℕ) → One (event.Return node prefix peer) → return_at nodes (decimal node ∷ prefix_word prefix ∷ decimal peer ∷ []) ≡ Ok (event.Return node prefix peer, [])
+  unfolding return_at
+  return_found node prefix peer h = rw ((read_node nodes few).found node h.0, read_prefix.found prefix h.1, (read_node nodes few).found peer h.2) refl
+
   -- ---- a call
 
   api_only : (hold : Bool) (ws : List (List ℕ)) (x : Event × List (List ℕ)) → api_at nodes hold ws ≡ Ok x → Means One event_words x.0 (held hold (codes "api" ∷ ws))
@@ -249,6 +269,7 @@ module _ (nodes : ℕ) (few : nodes ≤ 255) where
   named_only first.Cut ws x e = event_only (codes "cut" ∷ ws) (cut_at false ws) x (cut_only false ws) e
   named_only first.Clock ws x e = event_only (codes "clock" ∷ ws) (clock_at nodes ws) x (clock_only ws) e
   named_only first.Want ws x e = event_only (codes "want" ∷ ws) (want_at nodes ws) x (want_only ws) e
+  named_only first.Return ws x e = event_only (codes "return" ∷ ws) (return_at nodes ws) x (return_only ws) e
   named_only first.Drain ws x e = event_only (codes "drain" ∷ ws) (drain_at nodes ws) x (drain_only ws) e
   named_only first.State ws x e = state_only ws x e
   named_only first.Hold ws x e = event_only (codes "hold" ∷ ws) (hold_at nodes ws) x (hold_only ws) e
@@ -273,6 +294,7 @@ module _ (nodes : ℕ) (few : nodes ≤ 255) where
   pub act_found : (a : LineAct) → IsAct nodes a → act_at nodes (act_words a) ≡ Ok (a, [])
   act_found (act.Event (event.Clock node millis)) h = begun first.Clock _ ∙ ap as_event (clock_found node millis h)
   act_found (act.Event (event.Want node length longest peer)) h = begun first.Want _ ∙ ap as_event (want_found node length longest peer h)
+  act_found (act.Event (event.Return node prefix peer)) h = begun first.Return _ ∙ ap as_event (return_found node prefix peer h)
   act_found (act.Event (event.Drain node max)) h = begun first.Drain _ ∙ ap as_event (drain_found node max h)
   act_found (act.State node) h = begun first.State _ ∙ state_found node h
   act_found (act.Event (event.Agent node false)) h = begun first.Agent _ ∙ ap as_event (agent_found false node h)

@@ -10,6 +10,7 @@ use Rattle.grasp_types.specs.declared.call.Call.TheVariants.{RegisterAsa, Deregi
 use Rattle.grasp_types.specs.declared.message.Verdict.TheVariants.{Accept, Decline}
 use Rattle.grasp_types.specs.declared.session.Kind.{Kind}
 use Rattle.grasp_types.specs.declared.session.Kind.TheVariants.{Negotiation, Synchronization}
+use Rattle.grasp_text.specs.Line.{prefix_word}
 use Rattle.grasp_text.specs.Words.{words_of, joined}
 use Rattle.grasp_text.proofs.Splitting.{joined_again}
 use Rattle.grasp_model_network.specs.Plans.{IsNode}
@@ -19,10 +20,10 @@ use Rattle.grasp_script.specs.Calls.{kind_word, dry_word, peer_word, initiator_w
 use Rattle.grasp_script.specs.Laws.{EachActHasOneLine}
 use Rattle.grasp_script.specs.declared.line.LineAct.{LineAct}
 use Rattle.grasp_script.specs.declared.line.LineAct.TheVariants as act
-use Rattle.grasp_script.proofs.WholeWords.{IsWord, words_again, utf8_again, spelled, number, value, text, maybe_value}
+use Rattle.grasp_script.proofs.WholeWords.{IsWord, words_again, utf8_again, spelled, number, value, text, maybe_value, prefix}
 use Rattle.grasp_script.proofs.WordReaders.{peer_number, initiator_number}
 
-abbrev AreWords : List (List ℕ) → Type 0
+abbrev pub AreWords : List (List ℕ) → Type 0
 AreWords ws = AllByRecursion IsWord ws
 
 kind : (k : Kind) → IsWord (kind_word k)
@@ -37,17 +38,17 @@ side : (f : Bool) → IsWord (side_word f)
 side true = spelled (codes "far") refl refl
 side false = spelled (codes "near") refl refl
 
-small : (n : ℕ) → n < 2 ^ 8 → IsWord (decimal n)
+pub small : (n : ℕ) → n < 2 ^ 8 → IsWord (decimal n)
 small n lt = number n (omega arith)
 
-middle : (n : ℕ) → n < 2 ^ 32 → IsWord (decimal n)
+pub middle : (n : ℕ) → n < 2 ^ 32 → IsWord (decimal n)
 middle n lt = number n (omega arith)
 
 flags : (n : ℕ) → n ≤ 15 → IsWord (decimal n)
 flags n le = number n (omega arith)
 
 module _ (nodes : ℕ) (few : nodes ≤ 255) where
-  node : (n : ℕ) → IsNode nodes n → IsWord (decimal n)
+  pub node : (n : ℕ) → IsNode nodes n → IsWord (decimal n)
   node n is = let most : n ≤ nodes = is.most in number n (omega arith)
 
   peer : (l : Locator) → IsPeer nodes l → IsWord (peer_word l)
@@ -56,7 +57,7 @@ module _ (nodes : ℕ) (few : nodes ≤ 255) where
   initiator : (a : Address) → IsInitiator nodes a → IsWord (initiator_word a)
   initiator a is = subst IsWord (sym (initiator_number nodes few a is)) (node is.node is.is_node)
 
-  call_whole : (c : Call) → IsCall nodes c → AreWords (call_words c)
+  pub call_whole : (c : Call) → IsCall nodes c → AreWords (call_words c)
   call_whole (RegisterAsa name) h = (spelled (codes "asa") refl refl, (text name h, tt))
   call_whole DeregisterAsa h = (spelled (codes "unasa") refl refl, tt)
   call_whole (RegisterObjective name f) h = (spelled (codes "objective") refl refl, (text name h.0, (flags f h.1, tt)))
@@ -90,6 +91,7 @@ module _ (nodes : ℕ) (few : nodes ≤ 255) where
       let rising : length ≤ longest = h.1.rising in
       let most : longest ≤ 128 = h.1.most in
       (spelled (codes "want") refl refl, (node n h.0, (number length (omega arith), (number longest (omega arith), (node p h.2, tt)))))
+  act_whole (act.Event (event.Return n p to)) h = (spelled (codes "return") refl refl, (node n h.0, (prefix p h.1, (node to h.2, tt))))
   act_whole (act.Event (event.Drain n max)) h = (spelled (codes "drain") refl refl, (node n h.0, (middle max h.1, tt)))
   act_whole (act.Event (event.Agent n hold)) h = held_whole hold (codes "agent" ∷ decimal n ∷ []) (spelled (codes "agent") refl refl, (node n h, tt))
   act_whole (act.Event (event.Api n asa c hold)) h = held_whole hold (codes "api" ∷ decimal n ∷ decimal asa ∷ call_words c) (spelled (codes "api") refl refl, (node n h.0, (middle asa h.1, call_whole c h.2)))
@@ -99,10 +101,10 @@ module _ (nodes : ℕ) (few : nodes ≤ 255) where
   act_whole (act.Event (event.Cut stream far hold)) h = held_whole hold (codes "cut" ∷ decimal stream ∷ side_word far ∷ []) (spelled (codes "cut") refl refl, (number stream h, (side far, tt)))
 
 -- a line has a word
-record Begun (ws : List (List ℕ)) : Type 0 where
-  first : List ℕ
-  rest : List (List ℕ)
-  parts : ws ≡ first ∷ rest
+pub record Begun (ws : List (List ℕ)) : Type 0 where
+  pub first : List ℕ
+  pub rest : List (List ℕ)
+  pub parts : ws ≡ first ∷ rest
 
 held_begun : (hold : Bool) (w : List ℕ) (ws : List (List ℕ)) → Begun (held hold (w ∷ ws))
 held_begun true w ws = record { first = codes "hold"; rest = w ∷ ws; parts = refl }
@@ -112,6 +114,7 @@ begun : (a : LineAct) → Begun (act_words a)
 begun (act.State n) = record { first = codes "state"; rest = decimal n ∷ []; parts = refl }
 begun (act.Event (event.Clock n millis)) = record { first = codes "clock"; rest = decimal n ∷ decimal millis ∷ []; parts = refl }
 begun (act.Event (event.Want n length longest p)) = record { first = codes "want"; rest = decimal n ∷ decimal length ∷ decimal longest ∷ decimal p ∷ []; parts = refl }
+begun (act.Event (event.Return n p to)) = record { first = codes "return"; rest = decimal n ∷ prefix_word p ∷ decimal to ∷ []; parts = refl }
 begun (act.Event (event.Drain n max)) = record { first = codes "drain"; rest = decimal n ∷ decimal max ∷ []; parts = refl }
 begun (act.Event (event.Agent n hold)) = held_begun hold (codes "agent") (decimal n ∷ [])
 begun (act.Event (event.Api n asa c hold)) = held_begun hold (codes "api") (decimal n ∷ decimal asa ∷ call_words c)
@@ -120,7 +123,7 @@ begun (act.Event (event.Arrive stream hold)) = held_begun hold (codes "arrive") 
 begun (act.Event (event.Bytes stream far count hold)) = held_begun hold (codes "bytes") (decimal stream ∷ side_word far ∷ decimal count ∷ [])
 begun (act.Event (event.Cut stream far hold)) = held_begun hold (codes "cut") (decimal stream ∷ side_word far ∷ [])
 
-whole_line : (ws : List (List ℕ)) → Begun ws → AreWords ws → (words_of (joined ws) ≡ ws) × IsUtf8 (joined ws)
+pub whole_line : (ws : List (List ℕ)) → Begun ws → AreWords ws → (words_of (joined ws) ≡ ws) × IsUtf8 (joined ws)
 whole_line ws b h =
     let k : AreWords (b.first ∷ b.rest) = subst AreWords b.parts h in
     subst (λ (v : List (List ℕ)). (words_of (joined v) ≡ v) × IsUtf8 (joined v)) (sym b.parts) (words_again b.first b.rest k.0 k.1, utf8_again b.first b.rest k.0 k.1)

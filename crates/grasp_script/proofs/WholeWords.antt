@@ -5,20 +5,23 @@ use Rattle.std.specs.Prelude.{All, IfSome, codes, decimal, slice_index}
 use Rattle.std.specs.Str.{IsUtf8}
 use Rattle.std.proofs.lemmas.Bool.{ne_eqb, and_parts, ltb-true}
 use Rattle.std.proofs.lemmas.List.{get_or_default}
-use Rattle.std.proofs.lemmas.List.Elements.{All-head, All-tail}
+use Rattle.std.proofs.lemmas.List.Elements.{All-from_recursion, All-head, All-tail}
 use Rattle.std.proofs.lemmas.Str.{IsUtf8-append, IsUtf8-from_ascii}
 use Rattle.std.proofs.lemmas.List.Splits.{slice_split_none}
 use Rattle.grasp_cbor.specs.DataItem.{DataItem}
-use Rattle.grasp_types.specs.Objective.{IsValue}
+use Rattle.grasp_types.specs.Objective.{IsObjective, IsValue}
+use Rattle.grasp_types.specs.Prefix.{AddressBlock, IsPrefix}
+use Rattle.grasp_types.specs.declared.address.Address.TheVariants.{V6}
 use Rattle.grasp_types.specs.declared.message.Message.TheVariants as message
 use Rattle.grasp_types.specs.declared.message.Verdict.TheVariants.{Decline}
+use Rattle.grasp_types.specs.declared.objective.Objective.{Objective}
 use Rattle.grasp_text.specs.Laws.{IsPrintable}
-use Rattle.grasp_text.specs.Line.{value_word, text_word, or_dash}
+use Rattle.grasp_text.specs.Line.{value_word, text_word, v6_word, prefix_word, objective_words, or_dash}
 use Rattle.grasp_text.specs.Words.{words_of, joined, is_over}
-use Rattle.grasp_text.proofs.Blanks.{line_words, lines_printable}
+use Rattle.grasp_text.proofs.Blanks.{line_words, lines_printable, each_other, v6_visible}
 use Rattle.grasp_text.proofs.NumberWords.{number_digit, number_utf8}
 use Rattle.grasp_text.proofs.Splitting.{has_word}
-use Rattle.grasp_script.proofs.Lists.{all_behind}
+use Rattle.grasp_script.proofs.Lists.{all_front, all_behind}
 
 -- a line of one word
 pub record IsWord (w : List ℕ) : Type 0 where
@@ -118,3 +121,31 @@ text t h =
 pub maybe_value : (v : Option DataItem) → IfSome v IsValue → IsWord (or_dash value_word v)
 maybe_value None h = spelled (codes "-") refl refl
 maybe_value (Some v) h = value v h
+
+-- ---- prefixes
+
+-- two words without a blank between them
+one_word : (v w : List ℕ) → words_of v ≡ v ∷ [] → words_of w ≡ w ∷ [] → words_of (v ++ w) ≡ (v ++ w) ∷ []
+one_word [] w e f = f
+one_word (x ∷ v) w e f =
+    let s = shorter_at x v (eqb x 32) (words_of v) (has_word v) e in
+    ap (λ (b : Bool). one_more x b (words_of (v ++ w))) s.0 ∙ ap (onto_first x) (one_word v w s.1 f)
+
+together : (v w : List ℕ) → IsWord v → IsWord w → IsWord (v ++ w)
+together v w h k = record { whole = one_word v w h.whole k.whole; utf8 = IsUtf8-append v w h.utf8 k.utf8 }
+
+-- an address's word is one in the line of a message
+address : (n : ℕ) → n < 2 ^ 128 → IsWord (v6_word n)
+address n lt =
+    let o : Objective = record { name = []; flags = 0; loops = 0; value = None } in
+    let is : IsObjective o = record { name = small_utf8 [] refl; flags = omega arith; loops = omega arith; value = tt } in
+    let printable = lines_printable (message.Discovery 0 (V6 n) o) (omega arith, lt, is) in
+    record {
+      whole = slice_split_none (λ c. eqb c 32) (v6_word n) (All-from_recursion (λ c. eqb c 32 ≡ false) (v6_word n) (each_other (v6_word n) (v6_visible n).all));
+      utf8 = printable_utf8 (v6_word n) (all_front IsPrintable (v6_word n) (32 ∷ joined (objective_words o)) (behind_word (decimal 0) _ (behind_word (codes "discovery") _ printable)));
+    }
+
+pub prefix : (p : AddressBlock) → IsPrefix p.address p.length → IsWord (prefix_word p)
+prefix p is =
+    let most : p.length ≤ 128 = is.most in
+    together (v6_word p.address) (47 ∷ decimal p.length) (address p.address is.within) (together (47 ∷ []) (decimal p.length) (spelled (47 ∷ []) refl refl) (number p.length (omega arith)))

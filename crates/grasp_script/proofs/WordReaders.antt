@@ -1,25 +1,29 @@
 -- The words that are read: each is read where it is one, and nowhere else.
-use Rattle.std.proofs.Common.{◌≡◌, ℕ, ◌-◌, ◌^◌, ◌<◌, ◌≤◌, Bool, true, false, cond, ◌&&◌, leb, ltb, List, Option, Some, None, refl, sym, ap, subst, ◌∙◌, arith}
-use Rattle.std.specs.Prelude.{IfSome, codes, decimal}
-use Rattle.std.proofs.lemmas.Bool.{le-leb, leb-true, lt-ltb, and_from}
+use Rattle.std.proofs.Common.{◌≡◌, ℕ, ◌-◌, ◌%◌, ◌^◌, ◌<◌, ◌≤◌, Bool, true, false, cond, ◌&&◌, leb, ltb, eqb, List, Option, Some, None, refl, sym, ap, subst, ◌∙◌, arith}
+use Rattle.std.specs.Prelude.{IfSome, IfNone, codes, decimal}
+use Rattle.std.proofs.lemmas.Bool.{le-leb, leb-true, lt-ltb, ltb-true, eq-eqb, eqb-true, and_parts, and_from}
+use Rattle.std.proofs.lemmas.Nat.{pow_pos}
 use Rattle.grasp_types.specs.Objective.{IsValue}
+use Rattle.grasp_types.specs.Prefix.{AddressBlock, IsPrefix, size_of}
 use Rattle.grasp_types.specs.declared.address.Address.{Address}
 use Rattle.grasp_types.specs.declared.address.Locator.{Locator}
 use Rattle.grasp_types.specs.declared.session.Handle.{Handle}
 use Rattle.grasp_types.specs.declared.session.Kind.{Kind}
 use Rattle.grasp_types.specs.declared.session.Kind.TheVariants.{Negotiation, Synchronization}
-use Rattle.grasp_text.specs.Line.{or_dash, value_word}
+use Rattle.grasp_types.proofs.Multiples.{multiple_of_mod, mod_of_multiple}
+use Rattle.grasp_text.specs.Line.{or_dash, value_word, prefix_word}
 use Rattle.grasp_text.specs.Readers.{IsWordReader}
-use Rattle.grasp_text.specs.Reading.{number_of, value_of, maybe_of, then_some}
+use Rattle.grasp_text.specs.Reading.{number_of, value_of, maybe_of, then_some, block_of}
 use Rattle.grasp_text.proofs.Leaves.{one_of, no_more}
-use Rattle.grasp_text.proofs.NumberWords.{some, some_is}
+use Rattle.grasp_text.proofs.NumberWords.{some, some_is, is_none}
 use Rattle.grasp_text.proofs.PartLaws.{IsMaybeValue, maybe_value_exact}
+use Rattle.grasp_text.proofs.PrefixWords.{block_found, block_only}
 use Rattle.grasp_text.proofs.Readers.{numbers_read, word_reader, maybe_from, maybe_to}
 use Rattle.grasp_model_network.specs.Plans.{IsNode}
 use Rattle.grasp_model_network.specs.Setting.{script_number, script_address, script_locator}
 use Rattle.grasp_script.specs.Acts.{side_word}
 use Rattle.grasp_script.specs.Calls.{node_word, peer_word, initiator_word, kind_word, dry_word, IsPeer, IsInitiator, IsNamed}
-use Rattle.grasp_script.specs.Grammar.{number64, number8, flags_of, at_least_one, node_of, peer_of, initiator_of, named, handle_of, kind_of, dry_of, far_of, call_of, first_of}
+use Rattle.grasp_script.specs.Grammar.{number64, number8, flags_of, at_least_one, node_of, peer_of, initiator_of, named, handle_of, kind_of, dry_of, far_of, is_prefix, prefix_by, prefix_of, call_of, first_of}
 use Rattle.grasp_text.specs.Grammar.{number32}
 use Rattle.grasp_script.specs.declared.names.CallName.{CallName}
 use Rattle.grasp_script.specs.declared.names.CallName.TheVariants as call
@@ -171,6 +175,47 @@ handle_only w h e = handle_at w h (number64 w) refl e
 pub read_handle : IsWordReader IsNamed handle_word handle_of
 read_handle = record { found = handle_found; only = handle_only }
 
+-- ---- prefixes
+
+prefix_true : (b : ℕ × ℕ) → IsPrefix b.0 b.1 → is_prefix b ≡ true
+prefix_true b h =
+    let aligned : b.0 % size_of b.1 ≡ 0 = mod_of_multiple (size_of b.1) b.0 (pow_pos (128 - b.1)) h.aligned in
+    and_from (leb 1 b.1 && leb b.1 128) (ltb b.0 (2 ^ 128) && eqb (b.0 % size_of b.1) 0)
+    (and_from (leb 1 b.1) (leb b.1 128) (le-leb 1 b.1 h.least) (le-leb b.1 128 h.most))
+    (and_from (ltb b.0 (2 ^ 128)) (eqb (b.0 % size_of b.1) 0) (lt-ltb b.0 (2 ^ 128) h.within) (eq-eqb (b.0 % size_of b.1) 0 aligned))
+
+true_prefix : (b : ℕ × ℕ) → is_prefix b ≡ true → IsPrefix b.0 b.1
+true_prefix b e =
+    let p = and_parts (leb 1 b.1 && leb b.1 128) (ltb b.0 (2 ^ 128) && eqb (b.0 % size_of b.1) 0) e in
+    let q = and_parts (leb 1 b.1) (leb b.1 128) p.0 in
+    let r = and_parts (ltb b.0 (2 ^ 128)) (eqb (b.0 % size_of b.1) 0) p.1 in
+    record { least = leb-true 1 b.1 q.0; most = leb-true b.1 128 q.1; within = ltb-true b.0 (2 ^ 128) r.0; aligned = multiple_of_mod (size_of b.1) b.0 (eqb-true (b.0 % size_of b.1) 0 r.1) }
+
+prefix_found : (p : AddressBlock) → IsPrefix p.address p.length → prefix_of (prefix_word p) ≡ Some p
+unfolding prefix_of
+prefix_found p is = ap (λ (o : Option (ℕ × ℕ)). then_some o prefix_by) (block_found p (prefix_word p) is refl) ∙ ap (λ (t : Bool). cond t (some p) None) (prefix_true (p.address, p.length) is)
+
+prefix_when : (w : List ℕ) (p : AddressBlock) (b : ℕ × ℕ) (t : Bool) → block_of w ≡ Some b → is_prefix b ≡ t → cond t (some (record { address = b.0; length = b.1 })) None ≡ Some p → (w ≡ prefix_word p) × IsPrefix p.address p.length
+prefix_when w p b false r t e = absurd (let z : None ≡ some p = e in cc)
+prefix_when w p b true r t e = subst (λ (q : AddressBlock). (w ≡ prefix_word q) × IsPrefix q.address q.length) (some_is (record { address = b.0; length = b.1 }) p e) (block_only w b r, true_prefix b t)
+
+prefix_at : (w : List ℕ) (p : AddressBlock) (o : Option (ℕ × ℕ)) → block_of w ≡ o → then_some o prefix_by ≡ Some p → (w ≡ prefix_word p) × IsPrefix p.address p.length
+prefix_at w p None r e = absurd (let z : None ≡ some p = e in cc)
+prefix_at w p (Some b) r e = prefix_when w p b (is_prefix b) r refl e
+
+prefix_only : (w : List ℕ) (p : AddressBlock) → prefix_of w ≡ Some p → (w ≡ prefix_word p) × IsPrefix p.address p.length
+unfolding prefix_of
+prefix_only w p e = prefix_at w p (block_of w) refl e
+
+pub read_prefix : IsWordReader (λ p. IsPrefix p.address p.length) prefix_word prefix_of
+read_prefix = record { found = prefix_found; only = prefix_only }
+
+-- a prefix that has the word, where there is one, is what is read
+pub prefix_told : (w : List ℕ) (o : Option AddressBlock) → IfSome o (λ p. w ≡ prefix_word p) → IfSome o (λ p. IsPrefix p.address p.length)
+    → IfNone o ((p : AddressBlock) → IsPrefix p.address p.length → ¬ (w ≡ prefix_word p)) → o ≡ prefix_of w
+prefix_told w (Some p) word valid none = sym (ap prefix_of word ∙ prefix_found p valid)
+prefix_told w None word valid none = sym (is_none (prefix_of w) (λ p e. let h = prefix_only w p e in none p h.1 h.0))
+
 -- ---- words that are spelled out
 
 abbrev pub Any : {A : Type 0} → A → Type 0
@@ -264,6 +309,7 @@ first_word first.Api = codes "api"
 first_word first.Datagram = codes "datagram"
 first_word first.Drain = codes "drain"
 first_word first.State = codes "state"
+first_word first.Return = codes "return"
 
 pub first_again : (n : FirstWord) → first_of (first_word n) ≡ Some n
 unfolding first_of
@@ -276,7 +322,7 @@ first_found n u = first_again n
 first_only : (w : List ℕ) (n : FirstWord) → first_of w ≡ Some n → (w ≡ first_word n) × Any n
 unfolding first_of
 first_only w n e = (
-  one_of first_word n first.Agent w (codes "agent") _ refl (one_of first_word n first.Bytes w (codes "bytes") _ refl (one_of first_word n first.Arrive w (codes "arrive") _ refl (one_of first_word n first.Want w (codes "want") _ refl (one_of first_word n first.Clock w (codes "clock") _ refl (one_of first_word n first.Cut w (codes "cut") _ refl (one_of first_word n first.Hold w (codes "hold") _ refl (one_of first_word n first.Api w (codes "api") _ refl (one_of first_word n first.Datagram w (codes "datagram") _ refl (one_of first_word n first.Drain w (codes "drain") _ refl (one_of first_word n first.State w (codes "state") None refl (no_more n _))))))))))) e,
+  one_of first_word n first.Agent w (codes "agent") _ refl (one_of first_word n first.Bytes w (codes "bytes") _ refl (one_of first_word n first.Arrive w (codes "arrive") _ refl (one_of first_word n first.Want w (codes "want") _ refl (one_of first_word n first.Clock w (codes "clock") _ refl (one_of first_word n first.Cut w (codes "cut") _ refl (one_of first_word n first.Hold w (codes "hold") _ refl (one_of first_word n first.Api w (codes "api") _ refl (one_of first_word n first.Datagram w (codes "datagram") _ refl (one_of first_word n first.Drain w (codes "drain") _ refl (one_of first_word n first.State w (codes "state") _ refl (one_of first_word n first.Return w (codes "return") None refl (no_more n _)))))))))))) e,
   tt,
 )
 

@@ -1,7 +1,9 @@
 -- The lines of a script behind its header: what each is, and its words. The layout is this project's own.
 use Rattle.std.specs.Prelude.{◌≡◌, ℕ, ◌<◌, ◌^◌, Bool, true, false, List, [], ◌∷◌, codes, decimal}
 use Rattle.std.specs.Str.{IsUtf8}
+use Rattle.grasp_text.specs.Line.{prefix_word}
 use Rattle.grasp_text.specs.Words.{words_of}
+use Rattle.grasp_types.specs.Prefix.{IsPrefix}
 use Rattle.grasp_model_network.specs.Events.{AreLengths}
 use Rattle.grasp_model_network.specs.Plans.{IsNode}
 use Rattle.grasp_model_network.specs.declared.event.Event.{Event}
@@ -24,6 +26,7 @@ held false words = words
 abbrev pub event_words : Event → List (List ℕ)
 event_words (event.Clock node millis) = codes "clock" ∷ decimal node ∷ decimal millis ∷ []
 event_words (event.Want node length longest peer) = codes "want" ∷ decimal node ∷ decimal length ∷ decimal longest ∷ decimal peer ∷ []
+event_words (event.Return node prefix peer) = codes "return" ∷ decimal node ∷ prefix_word prefix ∷ decimal peer ∷ []
 event_words (event.Agent node hold) = held hold (codes "agent" ∷ decimal node ∷ [])
 event_words (event.Api node asa call hold) = held hold (codes "api" ∷ decimal node ∷ decimal asa ∷ call_words call)
 event_words (event.Datagram index hold) = held hold (codes "datagram" ∷ decimal index ∷ [])
@@ -41,6 +44,7 @@ act_words (act.State node) = codes "state" ∷ decimal node ∷ []
 abbrev pub IsEvent : ℕ → Event → Type 0
 IsEvent nodes (event.Clock node millis) = IsNode nodes node × (millis < 2 ^ 64)
 IsEvent nodes (event.Want node length longest peer) = IsNode nodes node × AreLengths length longest × IsNode nodes peer
+IsEvent nodes (event.Return node prefix peer) = IsNode nodes node × IsPrefix prefix.address prefix.length × IsNode nodes peer
 IsEvent nodes (event.Agent node hold) = IsNode nodes node
 IsEvent nodes (event.Api node asa call hold) = IsNode nodes node × (asa < 2 ^ 32) × IsCall nodes call × (may_call asa call ≡ true)
 IsEvent nodes (event.Datagram index hold) = index < 2 ^ 64

@@ -1,6 +1,7 @@
--- Inside: reading the words of a line from left to right.
-use Rattle.std.specs.Prelude.{ℕ, nat_le, ◌&&◌, if◌then◌else◌, Bool, true, false, List, Option, Some, None, Ok, Err, codes}
+-- Reading the words of a line from left to right.
+use Rattle.std.specs.Prelude.{ℕ, ◌^◌, ◌%◌, ◌==◌, nat_le, nat_lt, ◌&&◌, if◌then◌else◌, Bool, true, false, List, Option, Some, None, Ok, Err, codes}
 use Rattle.std.specs.Str.{bytes_eq}
+use Rattle.grasp_types.specs.Prefix.{AddressBlock, size_of}
 use Rattle.grasp_types.specs.declared.address.Address.{Address}
 use Rattle.grasp_types.specs.declared.address.Locator.{Locator}
 use Rattle.grasp_types.specs.declared.call.Call.{Call}
@@ -10,7 +11,7 @@ use Rattle.grasp_types.specs.declared.session.Handle.{Handle}
 use Rattle.grasp_types.specs.declared.session.Kind.{Kind}
 use Rattle.grasp_types.specs.declared.session.Kind.TheVariants.{Negotiation, Synchronization}
 use Rattle.grasp_text.specs.Grammar.{ending, number32, reason_at}
-use Rattle.grasp_text.specs.Reading.{Parsed, ◌>>=◌, word_at, number_of, text_of, value_of, maybe_of, then_some}
+use Rattle.grasp_text.specs.Reading.{Parsed, ◌>>=◌, word_at, number_of, text_of, value_of, maybe_of, then_some, block_of}
 use Rattle.grasp_model_network.specs.Setting.{script_address, script_locator}
 use Rattle.grasp_model_network.specs.declared.event.Event.{Event}
 use Rattle.grasp_model_network.specs.declared.event.Event.TheVariants as event
@@ -61,6 +62,7 @@ kind_of word = if bytes_eq word (codes "neg") then Some Negotiation else (if byt
 unfoldable pub dry_of : List ℕ → Option Bool
 dry_of word = if bytes_eq word (codes "dry") then Some true else (if bytes_eq word (codes "wet") then Some false else None)
 
+-- Inside: `far`, which true stands for, or `near`
 unfoldable pub far_of : List ℕ → Option Bool
 far_of word = if bytes_eq word (codes "far") then Some true else (if bytes_eq word (codes "near") then Some false else None)
 
@@ -75,13 +77,13 @@ call_of word =
     else (if bytes_eq word (codes "offer") then Some call.Offer else (if bytes_eq word (codes "unoffer") then Some call.Unoffer else (if bytes_eq word (codes "flood") then Some call.Flood
     else (if bytes_eq word (codes "floods") then Some call.Floods else (if bytes_eq word (codes "expire") then Some call.Expire else None)))))))))))))))))))
 
--- the first word of a line, or the second one behind `hold`
+-- Inside: the first word of a line, or the second one behind `hold`
 unfoldable pub first_of : List ℕ → Option FirstWord
 first_of word =
     if bytes_eq word (codes "agent") then Some first.Agent else (if bytes_eq word (codes "bytes") then Some first.Bytes else (if bytes_eq word (codes "arrive") then Some first.Arrive
     else (if bytes_eq word (codes "want") then Some first.Want else (if bytes_eq word (codes "clock") then Some first.Clock else (if bytes_eq word (codes "cut") then Some first.Cut
     else (if bytes_eq word (codes "hold") then Some first.Hold else (if bytes_eq word (codes "api") then Some first.Api else (if bytes_eq word (codes "datagram") then Some first.Datagram
-    else (if bytes_eq word (codes "drain") then Some first.Drain else (if bytes_eq word (codes "state") then Some first.State else None))))))))))
+    else (if bytes_eq word (codes "drain") then Some first.Drain else (if bytes_eq word (codes "state") then Some first.State else (if bytes_eq word (codes "return") then Some first.Return else None)))))))))))
 
 -- ---- calls, behind their first word
 
@@ -214,6 +216,7 @@ call_at nodes ws = do
 
 -- ---- lines, behind their first word
 
+-- Inside: a clock
 unfoldable pub clock_at : ℕ → List (List ℕ) → Parsed Event
 clock_at nodes ws = do
   node ← word_at (node_of nodes) ws
@@ -224,10 +227,12 @@ clock_at nodes ws = do
 abbrev pub are_lengths : ℕ → ℕ → Bool
 are_lengths length longest = (nat_le 1 length && nat_le length longest) && nat_le longest 128
 
+-- Inside: this where the test says so, and nothing more
 abbrev pub only_if : {A : Type 0} → Bool → A → List (List ℕ) → Parsed A
 only_if true a ws = ending a ws
 only_if false a ws = Err 0
 
+-- Inside: a want
 unfoldable pub want_at : ℕ → List (List ℕ) → Parsed Event
 want_at nodes ws = do
   node ← word_at (node_of nodes) ws
@@ -236,16 +241,38 @@ want_at nodes ws = do
   peer ← word_at (node_of nodes) longest.1
   only_if (are_lengths length.0 longest.0) (event.Want node.0 length.0 longest.0 peer.0) peer.1
 
+-- Inside: an address and a length that are a prefix: no bit past the length is set
+abbrev pub is_prefix : ℕ × ℕ → Bool
+is_prefix b = (nat_le 1 b.1 && nat_le b.1 128) && (nat_lt b.0 (2 ^ 128) && b.0 % size_of b.1 == 0)
+
+-- Inside: the prefix that both are
+abbrev pub prefix_by : ℕ × ℕ → Option AddressBlock
+prefix_by b = if is_prefix b then Some (record { address = b.0; length = b.1 }) else None
+
+-- Inside: the prefix that a word tells
+unfoldable pub prefix_of : List ℕ → Option AddressBlock
+prefix_of word = then_some (block_of word) prefix_by
+
+-- Inside: a node gives this prefix back to a peer
+unfoldable pub return_at : ℕ → List (List ℕ) → Parsed Event
+return_at nodes ws = do
+  node ← word_at (node_of nodes) ws
+  prefix ← word_at prefix_of node.1
+  peer ← word_at (node_of nodes) prefix.1
+  ending (event.Return node.0 prefix.0 peer.0) peer.1
+
+-- Inside: the next call of a node's agent
 unfoldable pub agent_at : ℕ → Bool → List (List ℕ) → Parsed Event
 agent_at nodes hold ws = do
   node ← word_at (node_of nodes) ws
   ending (event.Agent node.0 hold) node.1
 
--- the call, where this agent may make it
+-- Inside: the call, where this agent may make it
 abbrev pub allowed : Bool → Event → List (List ℕ) → Parsed Event
 allowed true e ws = Ok (e, ws)
 allowed false e ws = Err 0
 
+-- Inside: a call of another agent
 unfoldable pub api_at : ℕ → Bool → List (List ℕ) → Parsed Event
 api_at nodes hold ws = do
   node ← word_at (node_of nodes) ws
@@ -253,16 +280,19 @@ api_at nodes hold ws = do
   call ← call_at nodes asa.1
   allowed (may_call asa.0 call.0) (event.Api node.0 asa.0 call.0 hold) call.1
 
+-- Inside: the delivery of a datagram
 unfoldable pub datagram_at : Bool → List (List ℕ) → Parsed Event
 datagram_at hold ws = do
   index ← word_at number64 ws
   ending (event.Datagram index.0 hold) index.1
 
+-- Inside: the arrival of a stream
 unfoldable pub arrive_at : Bool → List (List ℕ) → Parsed Event
 arrive_at hold ws = do
   stream ← word_at number64 ws
   ending (event.Arrive stream.0 hold) stream.1
 
+-- Inside: the delivery of bytes
 unfoldable pub bytes_at : Bool → List (List ℕ) → Parsed Event
 bytes_at hold ws = do
   stream ← word_at number64 ws
@@ -270,24 +300,27 @@ bytes_at hold ws = do
   count ← word_at number64 far.1
   ending (event.Bytes stream.0 far.0 count.0 hold) count.1
 
+-- Inside: the end of a side of a stream
 unfoldable pub cut_at : Bool → List (List ℕ) → Parsed Event
 cut_at hold ws = do
   stream ← word_at number64 ws
   far ← word_at far_of stream.1
   ending (event.Cut stream.0 far.0 hold) far.1
 
+-- Inside: a drain
 unfoldable pub drain_at : ℕ → List (List ℕ) → Parsed Event
 drain_at nodes ws = do
   node ← word_at (node_of nodes) ws
   max ← word_at number32 node.1
   ending (event.Drain node.0 max.0) max.1
 
+-- Inside: the showing of a node's state
 unfoldable pub state_at : ℕ → List (List ℕ) → Parsed LineAct
 state_at nodes ws = do
   node ← word_at (node_of nodes) ws
   ending (act.State node.0) node.1
 
--- a line that may begin with `hold`, behind that
+-- Inside: a line that may begin with `hold`, behind that
 abbrev pub held_at : ℕ → Bool → FirstWord → List (List ℕ) → Parsed Event
 held_at nodes hold first.Agent ws = agent_at nodes hold ws
 held_at nodes hold first.Api ws = api_at nodes hold ws
@@ -297,20 +330,22 @@ held_at nodes hold first.Bytes ws = bytes_at hold ws
 held_at nodes hold first.Cut ws = cut_at hold ws
 held_at nodes hold first.Clock ws = Err 0
 held_at nodes hold first.Want ws = Err 0
+held_at nodes hold first.Return ws = Err 0
 held_at nodes hold first.Drain ws = Err 0
 held_at nodes hold first.State ws = Err 0
 held_at nodes hold first.Hold ws = Err 0
 
+-- Inside: a line that begins with `hold`
 unfoldable pub hold_at : ℕ → List (List ℕ) → Parsed Event
 hold_at nodes ws = do
   name ← word_at first_of ws
   held_at nodes true name.0 name.1
 
--- an event's line
+-- Inside: an event's line
 abbrev pub as_event : Parsed Event → Parsed LineAct
 as_event read = read >>= λ e. Ok (act.Event e.0, e.1)
 
--- the line behind its first word
+-- Inside: the line behind its first word
 abbrev pub named_at : ℕ → FirstWord → List (List ℕ) → Parsed LineAct
 named_at nodes first.Agent ws = as_event (agent_at nodes false ws)
 named_at nodes first.Api ws = as_event (api_at nodes false ws)
@@ -320,10 +355,12 @@ named_at nodes first.Bytes ws = as_event (bytes_at false ws)
 named_at nodes first.Cut ws = as_event (cut_at false ws)
 named_at nodes first.Clock ws = as_event (clock_at nodes ws)
 named_at nodes first.Want ws = as_event (want_at nodes ws)
+named_at nodes first.Return ws = as_event (return_at nodes ws)
 named_at nodes first.Drain ws = as_event (drain_at nodes ws)
 named_at nodes first.State ws = state_at nodes ws
 named_at nodes first.Hold ws = as_event (hold_at nodes ws)
 
+-- Inside: a line
 unfoldable pub act_at : ℕ → List (List ℕ) → Parsed LineAct
 act_at nodes ws = do
   name ← word_at first_of ws

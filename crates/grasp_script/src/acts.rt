@@ -4,12 +4,12 @@ ghost use Rattle.std.specs.Prelude.{◌≡◌, IfOk, IfSome, IfNone, true};
 ghost use Rattle.std.specs.Str.{IsUtf8};
 ghost use Rattle.grasp_text.specs.Reading.{Reads, word_at};
 ghost use Rattle.grasp_script.specs.Acts.{IsLine, IsNoLine};
-ghost use Rattle.grasp_script.specs.Grammar.{are_lengths, first_of, act_at, named_at, hold_at, held_at, clock_at, want_at, agent_at, api_at, datagram_at, arrive_at, bytes_at, cut_at, drain_at, state_at};
+ghost use Rattle.grasp_script.specs.Grammar.{are_lengths, first_of, act_at, named_at, hold_at, held_at, clock_at, want_at, return_at, agent_at, api_at, datagram_at, arrive_at, bytes_at, cut_at, drain_at, state_at};
 
 use crate::called::{may_make, read_call};
 use crate::line::{Line, LineAct};
 use crate::names::{FirstWord, first_word};
-use crate::places::{read_far, read_node};
+use crate::places::{read_far, read_node, read_prefix};
 use grasp_cbor::{Chars, OutOfMemory};
 use grasp_model_network::Event;
 use grasp_text::{WordFault, Words};
@@ -76,6 +76,7 @@ fn read_named(
         FirstWord::Cut => Ok(LineAct::Event(read_cut(words, false)?)),
         FirstWord::Clock => Ok(LineAct::Event(read_clock(words, nodes)?)),
         FirstWord::Want => Ok(LineAct::Event(read_want(words, nodes)?)),
+        FirstWord::Return => Ok(LineAct::Event(read_return(words, nodes)?)),
         FirstWord::Drain => Ok(LineAct::Event(read_drain(words, nodes)?)),
         FirstWord::State => read_state(words, nodes),
         FirstWord::Hold => Ok(LineAct::Event(read_hold(alloc, words, nodes)?)),
@@ -109,6 +110,7 @@ fn read_held(
         FirstWord::Cut => read_cut(words, true),
         FirstWord::Clock => Err(WordFault::Unfit { left: 0 }),
         FirstWord::Want => Err(WordFault::Unfit { left: 0 }),
+        FirstWord::Return => Err(WordFault::Unfit { left: 0 }),
         FirstWord::Drain => Err(WordFault::Unfit { left: 0 }),
         FirstWord::State => Err(WordFault::Unfit { left: 0 }),
         FirstWord::Hold => Err(WordFault::Unfit { left: 0 }),
@@ -126,7 +128,7 @@ fn read_clock(words: &mut Words<'_>, nodes: u8) -> Result<Event, WordFault>
 }
 
 /// Whether a prefix of this length, or of one up to the longest, can be wanted.
-fn are_lengths(length: u8, longest: u8) -> bool
+pub fn are_lengths(length: u8, longest: u8) -> bool
     ensures { result ≡ are_lengths length longest }
 {
     1 <= length && length <= longest && longest <= 128
@@ -150,6 +152,17 @@ fn read_want(words: &mut Words<'_>, nodes: u8) -> Result<Event, WordFault>
         longest,
         peer,
     })
+}
+
+#[tactic(auto, unfolding(crate::specs::Grammar::return_at))]
+fn read_return(words: &mut Words<'_>, nodes: u8) -> Result<Event, WordFault>
+    ensures { Reads (λ e. e) result words.new (return_at nodes words.old) }
+{
+    let node = read_node(words, nodes)?;
+    let prefix = read_prefix(words)?;
+    let peer = read_node(words, nodes)?;
+    words.end()?;
+    Ok(Event::Return { node, prefix, peer })
 }
 
 #[tactic(auto, unfolding(crate::specs::Grammar::agent_at))]

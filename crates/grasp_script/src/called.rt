@@ -15,7 +15,7 @@ use std::alloc::Global;
 
 /// Takes a call, to the end of the line.
 #[tactic(auto, unfolding(crate::specs::Grammar::call_at))]
-pub(crate) fn read_call(alloc: Global, words: &mut Words<'_>, nodes: u8) -> Result<Call, WordFault>
+pub fn read_call(alloc: Global, words: &mut Words<'_>, nodes: u8) -> Result<Call, WordFault>
     ensures { Reads (λ c. c) result words.new (call_at nodes words.old) }
 {
     let name = read_call_name(words)?;
@@ -23,7 +23,7 @@ pub(crate) fn read_call(alloc: Global, words: &mut Words<'_>, nodes: u8) -> Resu
 }
 
 /// Whether an agent of this number may make the call.
-pub(crate) fn may_make(asa: u32, call: &Call) -> bool
+pub fn may_make(asa: u32, call: &Call) -> bool
     ensures { result ≡ may_call asa call.now }
 {
     match call {
@@ -181,7 +181,7 @@ fn read_wait(words: &mut Words<'_>) -> Result<Call, WordFault>
 }
 
 /// Takes a reason, where there is one, and nothing more.
-fn read_reason(alloc: Global, words: &mut Words<'_>) -> Result<Option<Chars>, WordFault>
+pub fn read_reason(alloc: Global, words: &mut Words<'_>) -> Result<Option<Chars>, WordFault>
     ensures { Reads (λ r. r) result words.new (reason_at words.old) }
 {
     if words.is_over() {

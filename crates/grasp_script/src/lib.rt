@@ -22,7 +22,8 @@ mod script;
 mod split;
 mod states;
 
-pub use acts::read_line;
+pub use acts::{are_lengths, read_line};
+pub use called::{may_make, read_call, read_reason};
 pub use calls::push_call;
 pub use fault::ScriptFault;
 pub use header::HeaderLine;
@@ -31,7 +32,8 @@ pub use laws::{
     texts_have_one_script,
 };
 pub use line::{Line, LineAct, Lines};
-pub use replies::push_reply;
-pub use reports::told_report;
+pub use places::{read_handle, read_node};
+pub use replies::{push_api_answer, push_count, push_refusal, push_reply};
+pub use reports::{push_want, told_report};
 pub use script::{Script, parse_script};
 pub use states::told_state;

@@ -44,6 +44,7 @@ pub(crate) enum FirstWord {
     Datagram,
     Drain,
     State,
+    Return,
 }
 
 /// The call that this first word begins.
@@ -123,6 +124,8 @@ pub(crate) fn first_word(word: &[u8]) -> Option<FirstWord>
         Some(FirstWord::Drain)
     } else if word == b"state".as_slice() {
         Some(FirstWord::State)
+    } else if word == b"return".as_slice() {
+        Some(FirstWord::Return)
     } else {
         None
     }

@@ -3,11 +3,11 @@
 ghost use Rattle.std.specs.Prelude.{◌≡◌, ◌<◌, ◌^◌};
 ghost use Rattle.grasp_text.specs.Reading.{Reads, word_at};
 ghost use Rattle.grasp_model_network.specs.Setting.{script_number, script_address, script_locator};
-ghost use Rattle.grasp_script.specs.Grammar.{node_of, peer_of, initiator_of, handle_of, named, kind_of, dry_of, far_of};
+ghost use Rattle.grasp_script.specs.Grammar.{node_of, peer_of, initiator_of, handle_of, named, kind_of, dry_of, far_of, prefix_of};
 
 use crate::names::{dry, far, kind};
-use grasp_text::{WordFault, Words, number};
-use grasp_types::{Address, Handle, Kind, Locator, Proto};
+use grasp_text::{WordFault, Words, number, prefix};
+use grasp_types::{Address, Handle, Kind, Locator, Prefix, Proto};
 
 /// The address before that of node 1: node k has the address fd00::k.
 const BEFORE_NODES: u128 = 0xfd00_0000_0000_0000_0000_0000_0000_0000;
@@ -34,7 +34,7 @@ fn node_address(node: u8) -> u128
 }
 
 /// Takes the number of a node.
-pub(crate) fn read_node(words: &mut Words<'_>, nodes: u8) -> Result<u8, WordFault>
+pub fn read_node(words: &mut Words<'_>, nodes: u8) -> Result<u8, WordFault>
     ensures { Reads (λ k. k) result words.new (word_at (node_of nodes) words.old) }
 {
     let (word, unfit) = words.next()?;
@@ -57,6 +57,21 @@ pub(crate) fn read_peer(words: &mut Words<'_>, nodes: u8) -> Result<Locator, Wor
     }
 }
 
+/// Takes a prefix.
+pub(crate) fn read_prefix(words: &mut Words<'_>) -> Result<Prefix, WordFault>
+    ensures { Reads (λ p. p) result words.new (word_at prefix_of words.old) }
+{
+    let (word, unfit) = words.next()?;
+    told_prefix(word).ok_or(unfit)
+}
+
+/// The prefix of a word.
+fn told_prefix(word: &[u8]) -> Option<Prefix>
+    ensures { result ≡ prefix_of word.now }
+{
+    prefix(word)
+}
+
 /// Takes the number of a node, for its address.
 #[tactic(auto, unfolding(crate::specs::Grammar::initiator_of))]
 pub(crate) fn read_initiator(words: &mut Words<'_>, nodes: u8) -> Result<Address, WordFault>
@@ -71,7 +86,7 @@ pub(crate) fn read_initiator(words: &mut Words<'_>, nodes: u8) -> Result<Address
 
 /// Takes the number of a session. Its place isn't known, and is told as 0.
 #[tactic(auto, unfolding(crate::specs::Grammar::handle_of))]
-pub(crate) fn read_handle(words: &mut Words<'_>) -> Result<Handle, WordFault>
+pub fn read_handle(words: &mut Words<'_>) -> Result<Handle, WordFault>
     ensures { Reads (λ h. h) result words.new (word_at handle_of words.old) }
 {
     let (word, unfit) = words.next()?;

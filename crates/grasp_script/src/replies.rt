@@ -45,9 +45,9 @@ fn push_told(
     push_objective(alloc, out, objective)
 }
 
-/// Appends a word and a number, each behind a blank.
+/// Appends a word and a number, each behind a blank. After an `Err` a part of them may have been appended.
 #[tactic(auto, using(crate::proofs::Pushed::pushes))]
-pub(crate) fn push_count(out: &mut String, word: &str, n: u64) -> Result<(), OutOfMemory>
+pub fn push_count(out: &mut String, word: &str, n: u64) -> Result<(), OutOfMemory>
     ensures text { OnOk result (string_bytes out.new ≡ string_bytes out.old ++ spaced (word.now ∷ decimal n ∷ [])) }
     ensures err { OnErr result (Extends (string_bytes out.old) (string_bytes out.new)) }
 {
@@ -109,9 +109,9 @@ fn push_progress(alloc: Global, out: &mut String, progress: &Progress) -> Result
     }
 }
 
-/// Appends a refusal's words, each behind a blank.
+/// Appends a refusal's words, each behind a blank. After an `Err` a part of them may have been appended.
 #[tactic(auto, using(crate::proofs::Pushed::pushes))]
-fn push_refusal(out: &mut String, refusal: ApiRefused) -> Result<(), OutOfMemory>
+pub fn push_refusal(out: &mut String, refusal: ApiRefused) -> Result<(), OutOfMemory>
     ensures text { OnOk result (string_bytes out.new ≡ string_bytes out.old ++ spaced (reply_words (reply.Refused refusal))) }
     ensures err { OnErr result (Extends (string_bytes out.old) (string_bytes out.new)) }
 {
@@ -175,9 +175,13 @@ fn push_incoming(
     push_objective(alloc, out, objective)
 }
 
-/// Appends the answer to an agent's call, each word behind a blank.
+/// Appends the answer to an agent's call, each word behind a blank. After an `Err` a part of them may have been appended.
 #[tactic(auto, using(crate::proofs::Pushed::pushes))]
-fn push_api_answer(alloc: Global, out: &mut String, answer: &ApiAnswer) -> Result<(), OutOfMemory>
+pub fn push_api_answer(
+    alloc: Global,
+    out: &mut String,
+    answer: &ApiAnswer,
+) -> Result<(), OutOfMemory>
     ensures text { OnOk result (string_bytes out.new ≡ string_bytes out.old ++ spaced (answer_words answer.now)) }
     ensures err { OnErr result (Extends (string_bytes out.old) (string_bytes out.new)) }
 {

@@ -143,7 +143,7 @@ agent_runs law old new node hold i own changed places call r place got steps not
     (quiet_reached s w f c old (record { goes = may.goes; fit = may.fit }) (agent_comes s w node true seat c found.here step) (ap (λ (y : WorldState). y.byte_count) (agent_after s w node true seat c found.here) ∙ agent_count w node seat c)) in
     let mid : World = record old { seats = with_item old.seats i changed } in
     let kept : WorldKeeps (record mid { places = places }) s next =
-    offers_keep (record mid { places = places }) s (own_noted w node seat c) (offers_after w v h.after (after_reply seat.agent r))
+    offers_keep (record mid { places = places }) s (own_noted w node seat c) (offers_after (stepped w v h.after (after_reply seat.agent r)).streams w v h.after (after_reply seat.agent r))
     (noted_keeps mid places s (stepped w v h.after (after_reply seat.agent r)) v seat.agent.asa (next_call seat.agent) r
     (stepped_keeps law old s w next v h.after (after_reply seat.agent r) i changed keeps found.first place h.stands reached (agent_talks w node seat c)) found.first notes) in
     record {

@@ -11,6 +11,7 @@ pub mod NodeRoots
 pub mod Noting
 pub mod PostGoes
 pub mod Puts
+pub mod ReturnGoes
 pub mod SeatCalls
 pub mod SeatLists
 pub mod SeatSteps
@@ -27,6 +28,7 @@ pub mod StreamOpens
 pub mod StreamPlaces
 pub mod StreamTalks
 pub mod StreamUnseen
+pub mod Told
 pub mod Turns
 pub mod WantGoes
 pub mod WayLines

@@ -2,12 +2,13 @@
 use Rattle.std.specs.Prelude.{◌≡◌, ℕ, false, List}
 use Rattle.std.specs.List.{AllZip}
 use Rattle.grasp_agent.specs.Calls.{next_call}
-use Rattle.grasp_agent.specs.Replies.{want_reply, after_want, after_reply}
+use Rattle.grasp_agent.specs.Replies.{want_reply, after_want, return_reply, after_return, after_reply}
 use Rattle.grasp_model_node.specs.Begin.{begin}
 use Rattle.grasp_model_node.specs.Draining.{after_drain}
 use Rattle.grasp_model_node.specs.Node.{NodeState}
 use Rattle.grasp_core.specs.Stands.{NodeStands}
 use Rattle.grasp_model_node.specs.Step.{Coming, IsComing, NodeStep}
+use Rattle.grasp_types.specs.Prefix.{AddressBlock as Prefix}
 use Rattle.grasp_types.specs.declared.address.Locator.{Locator}
 use Rattle.grasp_types.specs.declared.call.Call.{Call}
 use Rattle.grasp_types.specs.declared.reply.Reply.{Reply}
@@ -65,3 +66,7 @@ drained_seat s max = record s { core = after_drain (begin s.core s.core.reading)
 -- Inside: the agent after a want
 abbrev pub wanted : Seat → ℕ → ℕ → Locator → Seat
 wanted s length longest peer = record s { agent = after_want s.agent length longest peer (want_reply s.agent) }
+
+-- Inside: the agent after a return
+abbrev pub returning : Seat → Prefix → Locator → Seat
+returning s prefix peer = record s { agent = after_return s.agent prefix peer (return_reply s.agent prefix) }

@@ -1,17 +1,17 @@
 //! A node of a network with its agent.
 
 ghost use Rattle.std.specs.Prelude.{◌≡◌, ◌≤◌, IfOk, OnOk};
-ghost use Rattle.grasp_agent.specs.Replies.{want_reply};
+ghost use Rattle.grasp_agent.specs.Replies.{want_reply, return_reply};
 ghost use Rattle.grasp_model_node.specs.Begin.{begin};
 ghost use Rattle.grasp_model_node.specs.Draining.{drained};
-ghost use Rattle.grasp_simulator.specs.Seats.{SeatStands, Sitting, SeatMeets, SeatStepped, AgentStepped, clocked, drained_seat, wanted};
+ghost use Rattle.grasp_simulator.specs.Seats.{SeatStands, Sitting, SeatMeets, SeatStepped, AgentStepped, clocked, drained_seat, wanted, returning};
 ghost use Rattle.grasp_model_network.specs.Visits.{is_starved};
 ghost use Rattle.grasp_model_network.specs.World.{Seat as SeatState};
 
-use grasp_agent::{Agent, PrefixAgent, WantFault};
+use grasp_agent::{Agent, PrefixAgent, ReturnFault, WantFault};
 use grasp_cbor::OutOfMemory;
 use grasp_core::NodeCore;
-use grasp_types::{ApiRefused, Call, Input, Locator, Outputs, Plain, Reply};
+use grasp_types::{ApiRefused, Call, Input, Locator, Outputs, Plain, Prefix, Reply};
 
 /// A node and its agent.
 #[derive(Drop)]
@@ -74,6 +74,14 @@ impl Seat {
         ensures stands { (s : SeatState) → SeatStands self.old s → SeatStands self.new (wanted s length longest peer) }
     {
         self.agent.want(length, longest, peer)
+    }
+
+    /// Has the agent give this prefix back to the peer, where it holds all of it. It takes no memory.
+    pub(crate) fn hand_back(&mut self, prefix: Prefix, peer: Locator) -> Result<(), ReturnFault>
+        ensures reply { (s : SeatState) → SeatStands self.old s → result ≡ return_reply s.agent prefix }
+        ensures stands { (s : SeatState) → SeatStands self.old s → SeatStands self.new (returning s prefix peer) }
+    {
+        self.agent.hand_back(prefix, peer)
     }
 }
 

@@ -10,11 +10,11 @@ ghost use Rattle.grasp_simulator.specs.WorldSteps.{IsAsked, Runs, MayStarve, End
 use crate::opening::locator_of;
 use crate::seat::is_starved;
 use crate::world::World;
-use grasp_agent::WantFault;
+use grasp_agent::{ReturnFault, WantFault};
 use grasp_cbor::OutOfMemory;
 use grasp_laws_delivery::streams_are_ready;
 use grasp_model_network::{Event, Report, WorldStop};
-use grasp_types::{Call, Input};
+use grasp_types::{Call, Input, Prefix};
 
 /// So many bytes of datagrams and streams may be sent.
 const MOST_BYTES: u64 = 268_435_456;
@@ -70,6 +70,9 @@ impl World {
                 longest,
                 peer,
             } => Ok(Report::Want(self.want(node, length, longest, peer))),
+            Event::Return { node, prefix, peer } => {
+                Ok(Report::Return(self.hand_back(node, prefix, peer)))
+            }
             Event::Api {
                 node,
                 asa,
@@ -108,6 +111,15 @@ impl World {
         ensures count { length self.new.seats.items ≡ length self.old.seats.items }
     {
         self.seats[usize::from(node - 1)].want(least, longest, locator_of(peer))
+    }
+
+    /// A node's agent is to give a prefix back to a peer. The answer is whether it takes the return.
+    fn hand_back(&mut self, node: u8, prefix: Prefix, peer: u8) -> Result<(), ReturnFault>
+        requires { IsNode (length self.old.seats.items) node }
+        ensures runs { Runs self.old self.new (event.Return node prefix peer) (report.Return result) }
+        ensures count { length self.new.seats.items ≡ length self.old.seats.items }
+    {
+        self.seats[usize::from(node - 1)].hand_back(prefix, locator_of(peer))
     }
 
     /// Another agent of a node makes a call.

@@ -1,12 +1,13 @@
 //! The agents of nodes.
 use crate::answer::{push_floods, push_numbered, push_refused};
+use crate::calls::read_peer;
 use crate::fault::LineFault;
 use crate::plan::locator_of;
-use crate::pool::{push_pool, push_pool_fault, read_roots};
-use grasp_agent::{Agent, Beacon, PrefixAgent, Reader, WantEnd, WantFault};
+use crate::pool::{push_pool, push_pool_fault, read_prefix, read_roots};
+use grasp_agent::{Agent, Beacon, PrefixAgent, Reader, ReturnFault, WantEnd, WantFault};
 use grasp_cbor::OutOfMemory;
 use grasp_text::{Words, push_number, push_prefix, push_word};
-use grasp_types::{Call, Reply};
+use grasp_types::{Call, Prefix, Reply};
 use std::alloc::Global;
 
 /// The agent of a node.
@@ -141,6 +142,45 @@ impl NodeAgent {
         Ok(push_want(out, agent.want(length, longest, peer))?)
     }
 
+    /// Gives a prefix back, and appends whether the return is taken.
+    pub fn hand_back(
+        &mut self,
+        alloc: Global,
+        out: &mut String,
+        words: &mut Words<'_>,
+    ) -> Result<(), LineFault> {
+        let NodeAgent::Prefix(agent) = self else {
+            return Err(LineFault::Bad);
+        };
+        let prefix = read_prefix(words)?;
+        let peer = read_peer(alloc, words)?;
+        Ok(push_return(alloc, out, &agent.hand_back(prefix, peer))?)
+    }
+
+    /// Settles the prefix that comes next, where it is doubtful.
+    pub fn settle(&mut self, out: &mut String, words: &mut Words<'_>) -> Result<(), LineFault> {
+        let NodeAgent::Prefix(agent) = self else {
+            return Err(LineFault::Bad);
+        };
+        let prefix = read_prefix(words)?;
+        if !agent.pool().is_doubtful(prefix) {
+            return Ok(push_word(out, "undoubted")?);
+        }
+        agent.settle(prefix);
+        Ok(push_word(out, "done")?)
+    }
+
+    /// Appends what it hasn't done yet.
+    pub fn tell_undone(&self, alloc: Global, out: &mut String) -> Result<(), LineFault> {
+        let NodeAgent::Prefix(agent) = self else {
+            return Err(LineFault::Bad);
+        };
+        push_undone(alloc, out, "accepting", agent.accepting())?;
+        push_undone(alloc, out, "offering", agent.offering())?;
+        push_undone(alloc, out, "unsent", agent.unsent())?;
+        Ok(())
+    }
+
     /// Appends what can be read of it.
     pub fn tell(&self, alloc: Global, out: &mut String) -> Result<(), OutOfMemory> {
         match self {
@@ -160,6 +200,37 @@ fn push_want(out: &mut String, wanted: Result<(), WantFault>) -> Result<(), OutO
             push_number(out, u64::from(longest))
         }
         Err(WantFault::Full) => push_word(out, "full"),
+    }
+}
+
+/// Appends whether a return is taken.
+fn push_return(
+    alloc: Global,
+    out: &mut String,
+    returned: &Result<(), ReturnFault>,
+) -> Result<(), OutOfMemory> {
+    match returned {
+        Ok(()) => push_word(out, "ok"),
+        Err(ReturnFault::Busy { prefix }) => {
+            push_word(out, "busy")?;
+            push_prefix(alloc, out, *prefix)
+        }
+        Err(ReturnFault::NotFree) => push_word(out, "notfree"),
+        Err(ReturnFault::Full) => push_word(out, "full"),
+    }
+}
+
+/// Appends a word and the prefix, where there is one.
+fn push_undone(
+    alloc: Global,
+    out: &mut String,
+    word: &str,
+    prefix: Option<Prefix>,
+) -> Result<(), OutOfMemory> {
+    push_word(out, word)?;
+    match prefix {
+        Some(prefix) => push_prefix(alloc, out, prefix),
+        None => Ok(()),
     }
 }
 

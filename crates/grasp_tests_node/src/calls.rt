@@ -177,7 +177,7 @@ fn read_choice(words: &mut Words<'_>, first: &[u8], second: &[u8]) -> Result<boo
 }
 
 /// Takes a peer: the number of a node, or `at` and a locator.
-fn read_peer(alloc: Global, words: &mut Words<'_>) -> Result<Locator, LineFault> {
+pub fn read_peer(alloc: Global, words: &mut Words<'_>) -> Result<Locator, LineFault> {
     if words.is_next(b"at") {
         words.exactly(b"at")?;
         Ok(read_locator(alloc, words)?)

@@ -38,13 +38,18 @@
 //! `NODE agent beacon NUMBER TTL LOOPS TEXT VALUE = open` and `NODE agent reader NUMBER TEXT = open` open the others; what is
 //! answered for bad roots stands at the pools. `NODE NOW next CALL = ANSWER` makes the agent's next call, which must be this
 //! one, and tells the agent the answer; where it is another, the answer is `makes` and that call. `NODE want LENGTH LONGEST PEER`
-//! is answered `ok`, `busy LENGTH LONGEST` or `full`. `NODE tells` is answered `wanting` or `content`, how the last want ended, and
+//! is answered `ok`, `busy LENGTH LONGEST` or `full`; `NODE return PREFIX PEER` is answered `ok`, `busy PREFIX`, `notfree` or
+//! `full`; and `NODE settle PREFIX` is answered `done` or `undoubted`. `NODE undone` is answered `accepting`, `offering` and
+//! `unsent`, each with its prefix where there is one. `NODE tells` is answered `wanting` or `content`, how the last want ended, and
 //! the pool; of a reader what it has read; and of a beacon nothing but the word.
 //!
 //! A row may have a pool. `pool open ADDRESS LENGTH .. = open` opens it with these roots, or the answer is `toomany`, `badroot
-//! PLACE` or `overlap FIRST SECOND`. `pool take LENGTH` is answered by a prefix or `none`; `pool back PREFIX`, `pool confirm PREFIX` and
-//! `pool doubt PREFIX` by `done` or `unreserved`; `pool gain PREFIX` by `can gained`, `cannot overlaps PREFIX` or `cannot full`;
-//! `pool room` by a count; and `pool holds` by `free PREFIX .. reserved PREFIX .. doubt PREFIX ..`.
+//! PLACE` or `overlap FIRST SECOND`. `pool reopen PREFIX .. doubt PREFIX .. = open` opens it with these prefixes free and these
+//! doubtful, or the answer is `toomany` or `overlap FIRST SECOND`. `pool take LENGTH` is answered by a prefix or `none`; `pool
+//! takeat PREFIX`, `pool isfree PREFIX` and `pool isdoubtful PREFIX` by `yes` or `no`; `pool settle PREFIX` by `done` or
+//! `undoubted`; `pool back PREFIX`, `pool confirm PREFIX` and `pool doubt PREFIX` by `done` or `unreserved`; `pool gain PREFIX` by
+//! `can gained`, `cannot overlaps PREFIX` or `cannot full`; `pool room` by a count; and `pool holds` by `free PREFIX .. reserved
+//! PREFIX .. doubt PREFIX ..`.
 //!
 //! `item LIMIT BYTES` is answered by the shortest encoding of the item that begins the bytes and, where bytes follow it, by how
 //! many it takes, or by `partial`, `malformed AT`, `nottext AT`, `toodeep AT` or `toolong`. `message LIMIT BYTES` is answered by the line
@@ -54,7 +59,7 @@
 //!
 //! `for COUNT WORD ..` and `end` stand around lines that are run so often. In a line `{i}` is 0, 1, 2 and so on, `{next}` is 1,
 //! 2, 3, `{even}` is 0, 2, 4, `{odd}` is 1, 3, 5, `{word}` is the word of this turn, and `{COUNT*WORD}` is the word so often.
-//! No such block stands in another.
+//! No such block stands in another; rows may begin in one.
 //!
 //! The status is 0 where nothing differs, 1 where something does, 2 where the table can't be read or memory is wanted, and 3
 //! where a line is none of a table.

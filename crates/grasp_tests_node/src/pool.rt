@@ -2,7 +2,7 @@
 use crate::answer::push_numbered;
 use crate::fault::LineFault;
 use grasp_cbor::OutOfMemory;
-use grasp_pool::{GainFault, Pool, PoolFault, RootPrefix};
+use grasp_pool::{GainFault, Pool, PoolFault, PoolImage, PrefixList, RootPrefix};
 use grasp_text::{Words, prefix, push_number, push_prefix, push_word};
 use grasp_types::{Address, Prefix};
 use std::alloc::Global;
@@ -40,9 +40,29 @@ fn read_root(words: &mut Words<'_>) -> Result<RootPrefix, LineFault> {
 }
 
 /// Takes a prefix.
-fn read_prefix(words: &mut Words<'_>) -> Result<Prefix, LineFault> {
+pub fn read_prefix(words: &mut Words<'_>) -> Result<Prefix, LineFault> {
     let (word, _) = words.next()?;
     prefix(word).ok_or(LineFault::Bad)
+}
+
+/// Takes the prefixes that stand before the word `doubt`, or before the end.
+fn read_prefixes(alloc: Global, words: &mut Words<'_>) -> Result<PrefixList, LineFault> {
+    let mut prefixes = PrefixList::new(alloc);
+    for _ in 0..words.left() {
+        if words.is_over() || words.is_next(b"doubt") {
+            break;
+        }
+        prefixes.push(read_prefix(words)?)?;
+    }
+    Ok(prefixes)
+}
+
+/// Takes an image: the free prefixes, the word `doubt`, and the doubtful ones.
+fn read_image(alloc: Global, words: &mut Words<'_>) -> Result<PoolImage, LineFault> {
+    let free = read_prefixes(alloc, words)?;
+    words.exactly(b"doubt")?;
+    let doubtful = read_prefixes(alloc, words)?;
+    Ok(PoolImage { free, doubtful })
 }
 
 /// Appends why a pool isn't opened.
@@ -100,14 +120,15 @@ pub fn ask_pool(
     pool: &mut Option<Pool>,
 ) -> Result<(), LineFault> {
     let (call, _) = words.next()?;
-    if call == b"open".as_slice() {
-        *pool = open_pool(alloc, out, words)?;
-        return Ok(());
+    match call {
+        b"open" => *pool = open_pool(alloc, out, words)?,
+        b"reopen" => *pool = reopen_pool(alloc, out, words)?,
+        _ => match pool {
+            Some(pool) => ask_open(alloc, out, words, call, pool)?,
+            None => return Err(LineFault::Bad),
+        },
     }
-    match pool {
-        Some(pool) => ask_open(alloc, out, words, call, pool),
-        None => Err(LineFault::Bad),
-    }
+    Ok(())
 }
 
 /// Opens a pool, where its roots are good.
@@ -117,7 +138,25 @@ fn open_pool(
     words: &mut Words<'_>,
 ) -> Result<Option<Pool>, LineFault> {
     let roots = read_roots(alloc, words)?;
-    match Pool::open(alloc, roots.as_slice()) {
+    push_opened(out, Pool::open(alloc, roots.as_slice()))
+}
+
+/// Opens a pool with an image, where one can have it.
+fn reopen_pool(
+    alloc: Global,
+    out: &mut String,
+    words: &mut Words<'_>,
+) -> Result<Option<Pool>, LineFault> {
+    let image = read_image(alloc, words)?;
+    push_opened(out, Pool::reopen(alloc, &image))
+}
+
+/// Appends whether a pool was opened, and gives it.
+fn push_opened(
+    out: &mut String,
+    opened: Result<Pool, PoolFault>,
+) -> Result<Option<Pool>, LineFault> {
+    match opened {
         Ok(pool) => {
             may_cross(&pool);
             push_word(out, "open")?;
@@ -140,6 +179,8 @@ fn ask_open(
 ) -> Result<(), LineFault> {
     match call {
         b"take" => take(alloc, out, words, pool),
+        b"takeat" | b"isfree" | b"isdoubtful" => push_yes(out, words, call, pool),
+        b"settle" => settle(out, words, pool),
         b"gain" => gain(alloc, out, words, pool),
         b"room" => Ok(push_number(out, pool.room())?),
         b"holds" => Ok(push_pool(alloc, out, pool)?),
@@ -162,6 +203,32 @@ fn take(
         Some(prefix) => push_prefix(alloc, out, prefix),
         None => push_word(out, "none"),
     }?)
+}
+
+/// Appends whether the prefix that comes next is free, or doubtful, or was reserved by this call.
+fn push_yes(
+    out: &mut String,
+    words: &mut Words<'_>,
+    call: &[u8],
+    pool: &mut Pool,
+) -> Result<(), LineFault> {
+    let prefix = read_prefix(words)?;
+    let is_so = match call {
+        b"takeat" => pool.take_at(prefix),
+        b"isfree" => pool.is_free(prefix),
+        _ => pool.is_doubtful(prefix),
+    };
+    Ok(push_word(out, if is_so { "yes" } else { "no" })?)
+}
+
+/// Settles the prefix that comes next, where it is doubtful.
+fn settle(out: &mut String, words: &mut Words<'_>, pool: &mut Pool) -> Result<(), LineFault> {
+    let prefix = read_prefix(words)?;
+    if !pool.is_doubtful(prefix) {
+        return Ok(push_word(out, "undoubted")?);
+    }
+    pool.settle(prefix);
+    Ok(push_word(out, "done")?)
 }
 
 /// Gains the prefix that comes next. Whether it would be gained is asked before.

@@ -169,6 +169,9 @@ fn ask_seat(
     match word {
         b"agent" => seat.open_agent(alloc, out, words),
         b"want" => seat.want(out, words),
+        b"return" => seat.hand_back(alloc, out, words),
+        b"settle" => seat.settle(out, words),
+        b"undone" => seat.tell_undone(alloc, out),
         b"tells" => seat.tell_agent(alloc, out),
         _ => match number(word, u64::MAX) {
             Some(now) => step(alloc, out, words, seat, now),

@@ -104,6 +104,26 @@ impl RowNode {
         self.agent()?.want(out, words)
     }
 
+    /// Lets the agent give a prefix back, and appends whether the return is taken.
+    pub fn hand_back(
+        &mut self,
+        alloc: Global,
+        out: &mut String,
+        words: &mut Words<'_>,
+    ) -> Result<(), LineFault> {
+        self.agent()?.hand_back(alloc, out, words)
+    }
+
+    /// Lets the agent settle a prefix, and appends whether it was doubtful.
+    pub fn settle(&mut self, out: &mut String, words: &mut Words<'_>) -> Result<(), LineFault> {
+        self.agent()?.settle(out, words)
+    }
+
+    /// Appends what the agent hasn't done yet.
+    pub fn tell_undone(&mut self, alloc: Global, out: &mut String) -> Result<(), LineFault> {
+        self.agent()?.tell_undone(alloc, out)
+    }
+
     /// Appends what can be read of the agent.
     pub fn tell_agent(&mut self, alloc: Global, out: &mut String) -> Result<(), LineFault> {
         self.agent()?.tell(alloc, out)?;

@@ -1,5 +1,5 @@
 -- Reading the parts of a message's line from left to right. Public calls cite `objective_at`, `locator_at` and
--- `optional_locator_at`, which the laws of Laws.antt determine; all else is inside: only private calls cite it.
+-- `optional_locator_at`, which the laws of Laws.antt determine, and those of crates above what isn't marked as inside.
 use Rattle.std.specs.Prelude.{ℕ, zero, suc, if◌then◌else◌, List, [], ◌∷◌, ◌++◌, length, Option, Some, None, Ok, Err, codes, Bool, true, false}
 use Rattle.std.specs.Str.{bytes_eq}
 use Rattle.grasp_types.specs.declared.address.Locator.{Locator}
@@ -18,11 +18,11 @@ use Rattle.grasp_text.specs.declared.names.Host.TheVariants.{Ipv6, Ipv4, Domain,
 use Rattle.grasp_text.specs.declared.names.MessageName.{MessageName}
 use Rattle.grasp_text.specs.declared.names.MessageName.TheVariants.{Noop, Discovery, Response, RequestNegotiation, RequestSynchronization, Negotiate, End, Wait, Synch, Flood, Invalid}
 
--- Inside: the words are over, and this is what was read
+-- the words are over, and this is what was read
 abbrev pub ending : {A : Type 0} → A → List (List ℕ) → Parsed A
 ending a ws = end_at {A = Unit {0}} tt ws >>= λ e. Ok (a, e.1)
 
--- Inside: a number of 32 bits
+-- a number of 32 bits
 abbrev pub number32 : List ℕ → Option ℕ
 number32 = number_of 4294967295
 
@@ -193,7 +193,7 @@ objective_of_session_at ws = do
   objective ← objective_at session.1
   ending (session.0, objective.0) objective.1
 
--- Inside: a reason, where there is one
+-- a reason, where there is one
 abbrev pub reason_at : List (List ℕ) → Parsed (Option (List ℕ))
 reason_at ws = or_end None (λ ws. word_at text_of ws >>= λ reason. ending (Some reason.0) reason.1) ws
 

@@ -1,7 +1,7 @@
 -- Reading words from left to right, as functions: a value and the words after it, or how many bytes the line has from
 -- the word on that doesn't fit. Public calls cite `Reads`, `word_at`, `end_at`, `exactly`, `maybe_of`, and `number_of`,
--- `text_of`, `value_of` and `address_of`, which the laws of Laws.antt determine; all else is inside: only private calls
--- cite it.
+-- `text_of`, `value_of` and `address_of`, which the laws of Laws.antt determine, and those of crates above what isn't
+-- marked as inside.
 use Rattle.std.specs.Prelude.{◌≡◌, ℕ, ◌+◌, ◌-◌, ◌*◌, ◌/◌, ◌%◌, ◌==◌, Bool, true, not, nat_le, nat_lt, ◌&&◌, if◌then◌else◌, List, [], ◌∷◌, length, take, drop, Option, Some, None, Result, Ok, Err, codes, decimal, slice_index}
 use Rattle.std.specs.List.{AllByRecursion}
 use Rattle.std.specs.Int.{Width, w32, w128, from_be_bytes}
@@ -190,7 +190,7 @@ exactly expected word = if bytes_eq word expected then Some tt else None
 unfoldable pub proto_of : List ℕ → Option Proto
 proto_of word = if bytes_eq word (codes "tcp") then Some Tcp else (if bytes_eq word (codes "udp") then Some Udp else None)
 
--- Inside: what is made of a value, where there is one
+-- what is made of a value, where there is one
 abbrev pub then_some : {A B : Type 0} → Option A → (A → Option B) → Option B
 then_some None f = None
 then_some (Some a) f = f a
@@ -204,7 +204,7 @@ abbrev pub end_at : {A : Type 0} → A → List (List ℕ) → Parsed A
 end_at a [] = Ok (a, [])
 end_at a (word ∷ words) = Err (length (joined (word ∷ words)))
 
--- Inside: this value where the words are over
+-- this value where the words are over
 abbrev pub or_end : {A : Type 0} → A → (List (List ℕ) → Parsed A) → List (List ℕ) → Parsed A
 or_end a read [] = Ok (a, [])
 or_end a read (word ∷ words) = read (word ∷ words)

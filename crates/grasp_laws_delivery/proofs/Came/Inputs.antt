@@ -142,6 +142,7 @@ clock_quiet s w node millis v is = quiet_as v node (input.Drain 0) (clock_visit_
 pub takes_nothing : (s : Setting) (w : WorldState) (e : Event) (v : Visit) → visit_of s w e ≡ Some v → IsStep e → TakesNothing v.input
 takes_nothing s w (event.Clock node millis) v is step = quiet_takes v.input (clock_quiet s w node millis v is)
 takes_nothing s w (event.Want node length longest peer) v is step = absurd step
+takes_nothing s w (event.Return node prefix peer) v is step = absurd step
 takes_nothing s w (event.Agent node hold) v is step = quiet_takes v.input (agent_quiet s w node hold v is)
 takes_nothing s w (event.Api node asa call hold) v is step = quiet_takes v.input (call_quiet s w (event.Api node asa call hold) v node (input.Api asa call) is tt)
 takes_nothing s w (event.Datagram index hold) v is step = quiet_takes v.input (datagram_quiet s w index hold v is)

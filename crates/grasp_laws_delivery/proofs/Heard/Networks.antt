@@ -28,10 +28,11 @@ use Rattle.grasp_wire.specs.Cutter.{Past, Waits, no_past}
 use Rattle.grasp_wire.specs.Stream.{waiting}
 use Rattle.grasp_laws_network.proofs.EachNode.{IsMade, is_made, drain_steps, reached_each, nodes_are_sound}
 use Rattle.grasp_laws_network.proofs.Here.{visits_are_here}
+use Rattle.grasp_laws_network.proofs.Telling.{one_agent}
 use Rattle.grasp_laws_node.proofs.PlansStay.{step_plan}
 use Rattle.grasp_model_network.proofs.Facts.{numbered_all}
 use Rattle.grasp_model_network.specs.StreamChanges.{arrived, told, Reached, reached_side, side_named, delivered}
-use Rattle.grasp_model_network.specs.Events.{Occurs, visit_of, after_visit, after_none}
+use Rattle.grasp_model_network.specs.Events.{Occurs, visit_of, after_visit}
 use Rattle.grasp_model_network.specs.GoodSetting.{IsGoodMember}
 use Rattle.grasp_model_network.specs.Runs.{IsReached, answered_seat, first_seat, first_world}
 use Rattle.grasp_model_network.specs.Sending as network
@@ -43,7 +44,7 @@ use Rattle.grasp_model_network.specs.World.{Seat, WorldState, seat_at, with_seat
 use Rattle.grasp_model_network.specs.declared.event.Event.{Event}
 use Rattle.grasp_model_network.specs.declared.event.Event.TheVariants as event
 use Rattle.grasp_laws_delivery.specs.Ready.{StreamsAreReady}
-use Rattle.grasp_laws_delivery.proofs.AfterSteps.{streams_before, streams_stepped, seats_stepped, each_seat, each_drained, want_keeps, none_wanted}
+use Rattle.grasp_laws_delivery.proofs.AfterSteps.{streams_before, streams_stepped, seats_stepped, each_seat, each_drained, agent_keeps}
 use Rattle.grasp_laws_delivery.proofs.Heard.Steps.{made_heard, dial_heard, all_sent_heard, all_closed_heard, IsReachedSide, reached_is, delivered_heard, piece_heard, told_heard, arrived_heard, opened_heard}
 use Rattle.grasp_laws_delivery.proofs.Heard.Talks.{IsHeard}
 use Rattle.grasp_laws_delivery.proofs.Holding.{IsStep, PartsKeep, parts_keep}
@@ -232,6 +233,7 @@ module _ (ready : StreamsAreReady) where
       → Turns (HeardOn w.streams v.node v.seat v.seat.core.plan.limit) (HeardOn (made v c (streams_before s w e v c)) v.node v.seat v.seat.core.plan.limit) (begin v.seat.core v.now) c.coming c.reply v.input
   step_turns s w (event.Clock node millis) v c r here some is step = quiet_step w v c (clock_quiet s w node millis v is)
   step_turns s w (event.Want node length longest peer) v c r here some is step = absurd step
+  step_turns s w (event.Return node prefix peer) v c r here some is step = absurd step
   step_turns s w (event.Agent node hold) v c r here some is step = quiet_step w v c (agent_quiet s w node hold v is)
   step_turns s w (event.Api node asa call hold) v c r here some is step = quiet_step w v c (call_quiet s w (event.Api node asa call hold) v node (input.Api asa call) is tt)
   step_turns s w (event.Datagram index hold) v c r here some is step = quiet_step w v c (datagram_quiet s w index hold v is)
@@ -371,7 +373,7 @@ module _ (ready : StreamsAreReady) where
   unfolding network.drained
   parts_hear s = record {
     steps = λ w e c v r all o is step reached. step_hears s w e c v r all o is step;
-    wants = λ w e r all fit. want_keeps Hears w (after_none s w e) (λ node seat agent each. record { each = each.each }) (none_wanted s w e fit) all;
+    told = λ w x e r t all. agent_keeps Hears w x (one_agent s w e x t) (λ each. record { each = each.each }) all;
     drains = λ w node max r all least. drain_hears s w node max (seat_at w node) r least refl all;
   }
 

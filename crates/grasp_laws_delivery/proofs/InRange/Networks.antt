@@ -5,7 +5,7 @@ use Rattle.std.proofs.lemmas.List.Elements.{All-nil, All-replicate}
 use Rattle.std.proofs.lemmas.Option.{none-some}
 use Rattle.grasp_laws_agent.proofs.LawKept.{kept_reply}
 use Rattle.grasp_agent.specs.Kept.{IsKept}
-use Rattle.grasp_agent.specs.Replies.{after_reply, want_reply, after_want}
+use Rattle.grasp_agent.specs.Replies.{after_reply}
 use Rattle.grasp_agent.specs.States.{AgentState}
 use Rattle.grasp_model_node.specs.Begin.{begin}
 use Rattle.grasp_model_node.specs.Draining.{drained, after_drain}
@@ -14,7 +14,6 @@ use Rattle.grasp_model_node.specs.Queue.{encoding}
 use Rattle.grasp_model_node.specs.Step.{Coming, NodeStep}
 use Rattle.grasp_model_node.specs.declared.plan.NodePlan.{NodePlan}
 use Rattle.grasp_pool.proofs.Opening.{opened_pool}
-use Rattle.grasp_types.specs.declared.address.Locator.{Locator}
 use Rattle.grasp_types.specs.declared.reply.ApiAnswer.{ApiAnswer}
 use Rattle.grasp_types.specs.declared.reply.ApiAnswer.TheVariants as answer
 use Rattle.grasp_types.specs.declared.reply.Reply.{Reply}
@@ -23,11 +22,12 @@ use Rattle.grasp_types.specs.declared.traffic.Input.{Input}
 use Rattle.grasp_types.specs.declared.traffic.Input.TheVariants as input
 use Rattle.grasp_laws_network.proofs.EachNode.{IsMade, is_made, drain_steps, reached_each}
 use Rattle.grasp_laws_network.proofs.Here.{visits_are_here}
+use Rattle.grasp_laws_network.proofs.Telling.{one_agent}
 use Rattle.grasp_laws_network.proofs.Openings.{worlds_begin}
 use Rattle.grasp_laws_node.proofs.PlansStay.{step_plan}
 use Rattle.grasp_model_network.proofs.Facts.{numbered_all}
-use Rattle.grasp_model_network.specs.EventSteps.{agent_visit, agent_seat, agent_input, wanted_by, wanted_at, after_wanting, datagram_visit}
-use Rattle.grasp_model_network.specs.Events.{IsFit, Occurs, visit_of, after_visit, after_none}
+use Rattle.grasp_model_network.specs.EventSteps.{agent_visit, agent_seat, agent_input, datagram_visit}
+use Rattle.grasp_model_network.specs.Events.{IsFit, Occurs, visit_of, after_visit}
 use Rattle.grasp_model_network.specs.GoodSetting.{IsGoodMember}
 use Rattle.grasp_laws_network.specs.Laws.{IsAnswered, OpeningsAreSteps}
 use Rattle.grasp_model_network.specs.StreamChanges.{side_named}
@@ -39,8 +39,8 @@ use Rattle.grasp_model_network.specs.Visits.{Visit, Choice, VisitStep, MayCome, 
 use Rattle.grasp_model_network.specs.World.{Seat, SentDatagram, WorldState, seat_at}
 use Rattle.grasp_model_network.specs.declared.event.Event.{Event}
 use Rattle.grasp_model_network.specs.declared.event.Event.TheVariants as event
-use Rattle.grasp_laws_delivery.proofs.AfterSteps.{seats_stepped, each_seat, each_drained, IsPutOr, put_or}
-use Rattle.grasp_laws_delivery.proofs.AgentCalls.{agent_call_is, want_kept, first_kept}
+use Rattle.grasp_laws_delivery.proofs.AfterSteps.{seats_stepped, each_seat, each_drained, agent_keeps}
+use Rattle.grasp_laws_delivery.proofs.AgentCalls.{agent_call_is, told_kept, first_kept}
 use Rattle.grasp_laws_delivery.proofs.Fine.Cache.{IsKept as IsKeptEntry}
 use Rattle.grasp_laws_delivery.proofs.Fine.Registry.{IsEntry}
 use Rattle.grasp_laws_delivery.proofs.Fine.Sessions.{IsFine}
@@ -82,6 +82,7 @@ pub input_good : (s : Setting) (w : WorldState) (e : Event) (v : Visit) → AllR
 unfolding agent_visit datagram_visit
 input_good s w (event.Clock node millis) v all fit is step = as_input v node (input.Drain 0) (clock_visit_is node millis v (seat_at w node) is) tt
 input_good s w (event.Want node length longest peer) v all fit is step = absurd step
+input_good s w (event.Return node prefix peer) v all fit is step = absurd step
 input_good s w (event.Agent node hold) v all fit is step = agent_good w node v (seat_at w node) refl all is
 input_good s w (event.Api node asa call hold) v all fit is step = as_input v node (input.Api asa call) (at_visit w node (input.Api asa call) v is) fit.2
 input_good s w (event.Datagram index hold) v all fit is step = by_datagram (datagram_visit_is w v (numbered w.datagrams index) is) where
@@ -132,33 +133,6 @@ drained_real s w node max (Some seat) r least here all =
             (real_plan s w r node seat here) tt (all node seat here).real (drain_steps seat.core max no_choice.coming);
         agent = (all node seat here).agent;
       }
-
--- ---- a want
-
-wanted_now : (w : WorldState) (node : ℕ) (seat : Seat) (length longest : ℕ) (peer : Option Locator) → 1 ≤ node → (1 ≤ length) × (length ≤ longest) × (longest ≤ 128) → seat_at w node ≡ Some seat → AllReal w
-    → AllReal (wanted_by w node seat length longest peer)
-wanted_now w node seat length longest None least range here all = all
-wanted_now w node seat length longest (Some peer) least range here all = put where
-  own : IsRealSeat (seat_with seat seat.core (after_want seat.agent length longest peer (want_reply seat.agent)))
-  own = record { real = (all node seat here).real; agent = want_kept seat.agent length longest peer range (all node seat here).agent }
-
-  by_node : (n : ℕ) (x : Seat) → IsPutOr w.seats node (seat_with seat seat.core (after_want seat.agent length longest peer (want_reply seat.agent))) n x → IsRealSeat x
-  by_node n x (inl t) = subst IsRealSeat t.1 own
-  by_node n x (inr t) = all n x t.1
-
-  put : (n : ℕ) (x : Seat) → seat_at (wanted_by w node seat length longest (Some peer)) n ≡ Some x → IsRealSeat x
-  put n x found = by_node n x (put_or w.seats node (seat_with seat seat.core (after_want seat.agent length longest peer (want_reply seat.agent))) n x least found)
-
-wanted_there : (s : Setting) (w : WorldState) (node length longest peer : ℕ) (o : Option Seat) → 1 ≤ node → (1 ≤ length) × (length ≤ longest) × (longest ≤ 128) → seat_at w node ≡ o → AllReal w
-    → AllReal (wanted_at s w node length longest peer o)
-wanted_there s w node length longest peer None least range here all = all
-wanted_there s w node length longest peer (Some seat) least range here all = wanted_now w node seat length longest (numbered s.peers peer) least range here all
-
-none_real : (s : Setting) (w : WorldState) (e : Event) → IsFit s w e → AllReal w → AllReal (after_none s w e)
-unfolding after_wanting
-none_real s w (event.Want node length longest peer) fit all =
-    wanted_there s w node length longest peer (seat_at w node) fit.0.least (fit.2.least, fit.2.rising, fit.2.most) refl all
-none_real s w _ fit all = all
 
 -- ---- the first network
 
@@ -220,7 +194,7 @@ real_parts : (s : Setting) → PartsKeep s AllReal
 unfolding network.drained
 real_parts s = record {
   steps = λ w e c v r all o is step reached. real_stepped s w e c v r all o is step;
-  wants = λ w e r all fit. none_real s w e fit all;
+  told = λ w x e r t all. agent_keeps (λ ts node seat. IsRealSeat seat) w x (one_agent s w e x t) (λ k. record { real = k.real; agent = told_kept t.seat.agent t.telling.what t.possible k.agent }) all;
   drains = λ w node max r all least. drained_real s w node max (seat_at w node) r least refl all;
 }
 

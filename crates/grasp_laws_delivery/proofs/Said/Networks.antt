@@ -10,9 +10,10 @@ use Rattle.grasp_model_node.specs.Queue.{Queued}
 use Rattle.grasp_session.specs.Messages.{Side, Near, Far}
 use Rattle.grasp_laws_network.proofs.EachNode.{IsMade, is_made}
 use Rattle.grasp_laws_network.proofs.Here.{visits_are_here}
+use Rattle.grasp_laws_network.proofs.Telling.{one_agent}
 use Rattle.grasp_laws_network.proofs.Queues.{queues_grow}
 use Rattle.grasp_model_network.specs.StreamChanges.{arrival_by, arrived, reached_side, side_named}
-use Rattle.grasp_model_network.specs.Events.{Occurs, visit_of, after_visit, after_none}
+use Rattle.grasp_model_network.specs.Events.{Occurs, visit_of, after_visit}
 use Rattle.grasp_model_network.specs.Runs.{IsReached, first_world}
 use Rattle.grasp_model_network.specs.Sending.{gained, having_made, streams_made, seat_with, having_sent, handed_over, drained, drained_at, drained_from}
 use Rattle.grasp_model_network.specs.Setting.{Setting}
@@ -22,7 +23,7 @@ use Rattle.grasp_model_network.specs.World.{Seat, WorldState, seat_at, with_seat
 use Rattle.grasp_model_network.specs.declared.event.Event.{Event}
 use Rattle.grasp_model_network.specs.declared.event.Event.TheVariants as event
 use Rattle.grasp_laws_delivery.specs.Ready.{StreamsAreReady}
-use Rattle.grasp_laws_delivery.proofs.AfterSteps.{streams_before, streams_stepped, seats_stepped, each_seat, each_drained, want_keeps, none_wanted}
+use Rattle.grasp_laws_delivery.proofs.AfterSteps.{streams_before, streams_stepped, seats_stepped, each_seat, each_drained, agent_keeps}
 use Rattle.grasp_laws_delivery.proofs.Fresh.{DialsAreFresh, fresh_behind}
 use Rattle.grasp_laws_delivery.proofs.Holding.{IsStep, PartsKeep, parts_keep}
 use Rattle.grasp_laws_delivery.proofs.Came.Inputs.{takes_nothing, IsOpening, opening_is}
@@ -177,8 +178,7 @@ module _ (ready : StreamsAreReady) where
   unfolding drained
   parts_speak s = record {
     steps = λ w e c v r all o is step reached. step_speaks s w e c v r all o is step reached;
-    wants = λ w e r all fit.
-        want_keeps Speak w (after_none s w e) (λ node seat agent each. seat_speaks node seat seat.core agent seat.core.queue w.streams each) (none_wanted s w e fit) all;
+    told = λ w x e r t all. let o = one_agent s w e x t in agent_keeps Speak w x o (λ each. seat_speaks o.node o.seat o.seat.core o.agent o.seat.core.queue w.streams each) all;
     drains = λ w node max r all least. drain_speaks s w node max (seat_at w node) least refl all;
   }
 

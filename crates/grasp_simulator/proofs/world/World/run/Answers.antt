@@ -25,6 +25,11 @@ want-requires-clause-lengths c =
     let e : Event = event.Want c.in-Want.node c.in-Want.length c.in-Want.longest c.in-Want.peer in
     asked_of c.args.self.now e (AreLengths c.in-Want.length c.in-Want.longest) (subst (IsAsked c.args.self.now) c.in-Want.is c.requires.asked) c.requires.goes (λ s w fit. fit.2)
 
+pub hand_back-requires : goal.hand_back-requires
+hand_back-requires c =
+    let e : Event = event.Return c.in-Return.node c.in-Return.prefix c.in-Return.peer in
+    asked_node c.args.self.now e c.in-Return.node (subst (IsAsked c.args.self.now) c.in-Return.is c.requires.asked) c.requires.goes (λ s w fit. fit.0)
+
 pub call-requires : goal.call-requires
 call-requires c =
     let e : Event = event.Api c.in-Api.node c.in-Api.asa c.in-Api.call c.in-Api.hold in
@@ -40,6 +45,9 @@ returns-in-Clock-clause-runs c = subst (λ (e : Event). Runs c.args.self.now c.c
 
 pub returns-in-Want-clause-runs : goal.returns-in-Want-clause-runs
 returns-in-Want-clause-runs c = subst (λ (e : Event). Runs c.args.self.now c.want.new.self e (report.Want c.want.result)) (sym c.in-Want.is) c.want.ensures.runs
+
+pub returns-in-Return-clause-runs : goal.returns-in-Return-clause-runs
+returns-in-Return-clause-runs c = subst (λ (e : Event). Runs c.args.self.now c.hand_back.new.self e (report.Return c.hand_back.result)) (sym c.in-Return.is) c.hand_back.ensures.runs
 
 pub returns-in-Api-clause-runs : goal.returns-in-Api-clause-runs
 returns-in-Api-clause-runs c = subst (λ (e : Event). IfOk c.call.result (λ report. Runs c.args.self.now c.call.new.self e report)) (sym c.in-Api.is) c.call.ensures.runs

@@ -1,0 +1,12 @@
+-- Where one node is another one now, what holds of that one and of each other node holds of every node.
+use Rattle.std.proofs.Common.{◌≡◌, ◌≢◌, sym, ap, ◌∙◌, subst, ℕ, inl, inr, ◌⊎◌, Some}
+use Rattle.std.proofs.lemmas.Bool.{cases_eq}
+use Rattle.std.proofs.lemmas.Option.{same_Some}
+use Rattle.grasp_model_network.specs.World.{Seat, WorldState, seat_at}
+
+pub each_node : (w x : WorldState) (node : ℕ) (new : Seat) → seat_at x node ≡ Some new → ((n : ℕ) → n ≢ node → seat_at x n ≡ seat_at w n) → (P : ℕ → Seat → Type 0) → P node new
+    → ((n : ℕ) (seat : Seat) → n ≢ node → seat_at w n ≡ Some seat → P n seat) → (n : ℕ) (seat : Seat) → seat_at x n ≡ Some seat → P n seat
+each_node w x node new there same P own others n seat found = by_node (cases_eq n node) where
+  by_node : (n ≡ node) ⊎ (n ≡ node → ⊥) → P n seat
+  by_node (inl e) = subst (λ m. P m seat) (sym e) (subst (λ (z : Seat). P node z) (same_Some new seat (sym there ∙ (ap (λ m. seat_at x m) (sym e) ∙ found))) own)
+  by_node (inr apart) = others n seat apart (sym (same n apart) ∙ found)
