@@ -1,0 +1,14 @@
+mod AnswerLaws
+mod Divided
+mod Each
+mod InputLaws
+mod LineLaws
+mod NameReaders
+mod OctetWords
+mod OutcomeLaws
+mod OutputLaws
+mod Pushed
+mod RecordLaws
+mod RecordWords
+mod Signs
+mod SomeWords
