@@ -5,13 +5,14 @@ usage: hostile_peer.py PROGRAM [SECONDS [SEED]]
 
 PROGRAM is grasp_node. For SECONDS (60) the peer sends what the draws from SEED (the time) say: random bytes and messages,
 whole, spoilt and half, as datagrams and on up to 100 streams, which it ends, resets or leaves as they are; requests for
-prefixes that it never accepts; and it reads little of what comes. The node has 2500 turns for each of these seconds, up to
-1,000,000, and is sent at most six tenths as many things in them; then it is flooded until it has made all its turns.
+prefixes that it never accepts; returns, of prefixes inside 2001:dba::/32, of such inside or around the node's roots, and bad
+ones; and it reads little of what comes. The node has 2500 turns for each of these seconds, up to 1,000,000, and is sent at
+most six tenths as many things in them; then it is flooded until it has made all its turns.
 
-It prints the node's resident memory (VmRSS) at the beginning and the end, and the most, and what was sent. It ends with 1
-where the node doesn't end by itself with status 0 and an empty standard error; where the prefixes that it holds, has
-reserved and has in doubt overlap, or aren't all of those that it began with and no more; or where its memory grew by more
-than 64 megabytes.
+It prints the node's resident memory (VmRSS) at the beginning and the end, and the most, what was sent, and how many prefixes
+the node has at its end. It ends with 1 where the node doesn't end by itself, after SECONDS, with status 0 and an empty
+standard error; where the prefixes that it holds, has reserved and has in doubt overlap, or those outside 2001:dba::/32
+aren't exactly its roots; or where its memory grew by more than 64 megabytes.
 """
 import collections
 import os
@@ -32,6 +33,8 @@ from make_messages import Messages, array, data, head, text, uint  # noqa: E402
 NODE, PEER, PORT = "127.0.0.1", "127.0.0.2", 7017
 TURNS_A_SECOND, MOST_TURNS = 2500, 1_000_000
 ROOTS = [(0x20010DB8 << 96, 48), (0x20010DB9 << 96, 56)]
+# Of what the peer returns the node may take what is inside this, and nothing else.
+GIVEN = (0x20010DBA << 96, 32)
 MOST_STREAMS = 100
 MOST_GROWTH_KB = 64 * 1024
 # How long the flood behind SECONDS may last.
@@ -99,21 +102,38 @@ class Peer:
             array(uint(9), uint(self.draw.getrandbits(32))) + b"\x5f" * 100,
         ])
 
-    def request(self):
-        """A request for a prefix, as the agents of prefixes make it."""
-        wanted = array(uint(self.draw.choice([50, 56, 64, 64, 64, 127, 128, 129])))
-        objective = array(text("PrefixManager"), uint(3), uint(self.draw.choice([0, 1, 6, 255])), wanted)
+    def wanted(self):
+        """A value that asks for a prefix."""
+        return array(uint(self.draw.choice([50, 56, 64, 64, 64, 127, 128, 129])))
+
+    def returned(self):
+        """A value that returns a prefix: inside GIVEN, or inside or around a root; or one that returns none."""
+        address, fixed = self.draw.choice([GIVEN, GIVEN, GIVEN, *ROOTS])
+        length = self.draw.choice([36, 48, 48, 56, 64, 100, 128])
+        # Only bits below what it is inside of are drawn: beside a root the node would rightly take it.
+        address |= self.draw.getrandbits(max(0, length - fixed)) << 128 - length
+        if self.draw.randrange(8) == 0:
+            address, length = self.draw.getrandbits(128), self.draw.choice([0, 32, 129, 2**40])
+        mark = self.draw.choice([b"\xf5"] * 6 + [b"\xf4", b"\x15", array()])
+        return array(uint(length), data(address.to_bytes(16, "big")), mark)
+
+    def request(self, value):
+        """A request of PrefixManager, as the agents of prefixes make it."""
+        objective = array(text("PrefixManager"), uint(3), uint(self.draw.choice([0, 1, 6, 255])), value)
         return array(uint(3), uint(self.draw.getrandbits(32)), objective)
 
     def drawn(self):
         """What is sent at once, with its kind."""
-        kind = self.draw.choice(["random", "message", "message", "spoilt", "spoilt", "half", "bomb", "request"])
+        kinds = ["random", "message", "message", "spoilt", "spoilt", "half", "bomb", "request", "return"]
+        kind = self.draw.choice(kinds)
         if kind == "random":
             return kind, self.draw.randbytes(self.draw.choice([1, 10, 100, 1000, 9000]))
         if kind == "bomb":
             return kind, self.bomb()
         if kind == "request":
-            return kind, self.request()
+            return kind, self.request(self.wanted())
+        if kind == "return":
+            return kind, self.request(self.returned())
         octets = self.messages.message()
         if kind == "spoilt":
             return kind, self.spoilt(octets)
@@ -224,14 +244,14 @@ class Watched:
         return self.child.poll() is None
 
 
+def spread(address, length):
+    """The first and the last address of a prefix."""
+    return address, address + (1 << 128 - length) - 1
+
+
 def pieces_of(words):
     """Prefixes as pairs of the first and the last address."""
-    pieces = []
-    for word in words:
-        address, length = word.split("/")
-        first = int(address, 16)
-        pieces.append((first, first + (1 << 128 - int(length)) - 1))
-    return sorted(pieces)
+    return sorted(spread(int(address, 16), int(length)) for address, length in (word.split("/") for word in words))
 
 
 def joined(pieces):
@@ -254,12 +274,16 @@ def wrong_prefixes(output):
     if not found:
         return f"no line of prefixes: {line!r}"
     told = [(part or "").split() for part in found.groups()]
-    print(f"prefixes: {len(told[0])} held, {len(told[1])} reserved, {len(told[2])} in doubt")
-    whole = joined(pieces_of(word for part in told for word in part))
-    if whole is None:
+    pieces = pieces_of(word for part in told for word in part)
+    first, last = spread(*GIVEN)
+    own = [piece for piece in pieces if piece[0] < first or last < piece[1]]
+    counts = ", ".join(f"{len(part)} {name}" for part, name in zip(told, ["held", "reserved", "in doubt"]))
+    print(f"prefixes: {counts}; {len(pieces) - len(own)} of these inside what was returned")
+    if joined(pieces) is None:
         return "prefixes overlap"
-    began = [(address, address + (1 << 128 - length) - 1) for address, length in ROOTS]
-    return None if whole == sorted(began) else "the prefixes aren't those that the node began with"
+    if joined(own) != sorted(spread(*root) for root in ROOTS):
+        return "the prefixes that weren't returned aren't exactly the roots"
+    return None
 
 
 def attack(peer, node, seconds):
