@@ -6,4 +6,5 @@ pub mod Keeping
 pub mod OfferPools
 pub mod Offers
 pub mod Reading
+pub mod Retiring
 pub mod Returning

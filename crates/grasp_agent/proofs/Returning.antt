@@ -94,11 +94,10 @@ kept_returning s p peer pool none v takes is k = subst (λ h. IsKept (record s {
 -- ---- a return ends
 
 -- a return ends, where the sessions' offers are left
-pub kept_ended : (s : AgentState) (pool : Holding) → s.act ≡ None → is_open s.stage ≡ true → IsBacked pool (offers s.giving) → IsKept s
-    → IsKept (record s { pool = pool; back = None })
-kept_ended s pool idle serves b k =
+pub kept_ended : (s : AgentState) (pool : Holding) → s.act ≡ None → IsBacked pool (offers s.giving) → IsKept s → IsKept (record s { pool = pool; back = None })
+kept_ended s pool idle b k =
     let t : AgentState = record s { pool = pool; back = None }
-    in kept_of t b k.few k.first k.want (opened s t serves) (no_act t idle)
+    in kept_of t b k.few k.first k.want (λ shut. ((k.idle shut).0, (k.idle shut).1, refl, idle)) (no_act t idle)
 
 module _ (s : AgentState) (p : Prefix) (is : returned s.back ≡ Some p) (k : IsKept s) where
   -- the pool, with the return before the sessions' offers
@@ -110,12 +109,12 @@ module _ (s : AgentState) (p : Prefix) (is : returned s.back ≡ Some p) (k : Is
   returned_reserved = middle_reserved s.pool [] (offers s.giving) p with_return
 
   -- a return that was never offered goes back
-  pub kept_unsent : s.act ≡ None → is_open s.stage ≡ true → IsKept (record s { back = None; pool = after_back s.pool p })
-  kept_unsent idle serves = kept_ended s (after_back s.pool p) idle serves (backed_back s.pool [] (offers s.giving) p with_return) k
+  pub kept_unsent : s.act ≡ None → IsKept (record s { back = None; pool = after_back s.pool p })
+  kept_unsent idle = kept_ended s (after_back s.pool p) idle (backed_back s.pool [] (offers s.giving) p with_return) k
 
   -- its session ended
-  pub kept_heard : (e : Outcome) → s.act ≡ None → is_open s.stage ≡ true → IsKept (record s { pool = settled s.pool p e; back = None })
-  kept_heard e idle serves = kept_ended s (settled s.pool p e) idle serves (backed_settled s.pool [] (offers s.giving) p with_return e) k
+  pub kept_heard : (e : Outcome) → s.act ≡ None → IsKept (record s { pool = settled s.pool p e; back = None })
+  kept_heard e idle = kept_ended s (settled s.pool p e) idle (backed_settled s.pool [] (offers s.giving) p with_return e) k
 
 pub return_reserved : (s : AgentState) (r : Return) → s.back ≡ Some r → IsKept s → Contains s.pool.reserved r.prefix
 return_reserved s r is k = returned_reserved s r.prefix (ap returned is) k

@@ -4,6 +4,7 @@ pub mod Deciding
 pub mod Decisions
 pub mod Kept
 pub mod Laws
+pub mod Reopening
 pub mod Replies
 pub mod States
 pub mod Stored

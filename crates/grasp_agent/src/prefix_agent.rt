@@ -1,8 +1,9 @@
 //! The agent that manages prefixes (RFC 8992).
 
-ghost use Rattle.std.specs.Prelude.{◌≡◌, ◌↔◌, ◌≤◌, true, Some, None, IfOk, IfSome, IsSome, IsTrue, MatchResult, Contains, slice_get};
-ghost use Rattle.grasp_pool.specs.Answers.{IsOpened, IsRootFault};
-ghost use Rattle.grasp_pool.specs.Functions.{pool_of};
+ghost use Rattle.std.specs.Prelude.{◌≡◌, ◌↔◌, ◌≤◌, true, [], Some, None, IfOk, IfSome, IsSome, IsTrue, MatchResult, Contains, slice_get};
+ghost use Rattle.grasp_pool.specs.Answers.{IsOpened, IsReopened, IsRootFault, IsImageFault};
+ghost use Rattle.grasp_pool.specs.Functions.{pool_of, pool_of_image};
+ghost use Rattle.grasp_pool.specs.declared.fault.PoolFault.TheVariants as pool_fault;
 ghost use Rattle.grasp_agent.specs.Calls.{next_call, opening_call, asking_call, returning_call};
 ghost use Rattle.grasp_agent.specs.Decisions.{giver_decision, after_deciding};
 ghost use Rattle.grasp_agent.specs.Kept.{IsKept, returned};
@@ -23,7 +24,7 @@ use crate::requester::ask;
 use crate::stage::Stage;
 use crate::want::{Want, WantEnd, WantFault, is_asking, session_of};
 use grasp_cbor::{Chars, OutOfMemory};
-use grasp_pool::{Pool, PoolFault, RootPrefix};
+use grasp_pool::{Pool, PoolFault, PoolImage, RootPrefix};
 use grasp_types::{By, Call, Flags, Handle, Locator, Objective, Outcome, Prefix, Progress, Reply};
 use std::alloc::Global;
 use std::marker::Model;
@@ -34,7 +35,7 @@ const MOST_GIVING: usize = 64;
 /// The agent that manages the prefixes of a node: it gives prefixes to the agents of other nodes, asks for one where it is
 /// told to want one, and gives one back where it is told to.
 ///
-/// `open` takes all the memory that it will need, but for what a call holds.
+/// `open` and `reopen` take all the memory that it will need, but for what a call holds.
 #[derive(Drop)]
 pub struct PrefixAgent {
     alloc: Global,
@@ -70,6 +71,28 @@ impl PrefixAgent {
         ensures kept { IfOk result IsKept }
     {
         let pool = Pool::open(alloc, roots)?;
+        PrefixAgent::with_pool(alloc, pool)
+    }
+
+    /// An agent whose pool is that of the image, and that has made no call.
+    ///
+    /// The faults are those of `Pool::reopen`, in its order. It takes all the memory that the agent will need, but for what a call
+    /// holds.
+    pub fn reopen(alloc: Global, image: &PoolImage) -> Result<PrefixAgent, PoolFault>
+        ensures agent { IfOk result (λ agent. agent ≡ first_agent (pool_of_image image.now)) }
+        ensures reopened { MatchResult result (λ _. IsReopened image.now (pool_of_image image.now)) (λ fault. IsImageFault image.now fault) }
+        ensures kept { IfOk result IsKept }
+    {
+        let pool = Pool::reopen(alloc, image)?;
+        PrefixAgent::with_pool(alloc, pool)
+    }
+
+    /// An agent with this pool that has made no call.
+    fn with_pool(alloc: Global, pool: Pool) -> Result<PrefixAgent, PoolFault>
+        requires { pool.reserved ≡ [] }
+        ensures agent { MatchResult result (λ agent. agent ≡ first_agent pool) (λ fault. fault ≡ pool_fault.OutOfMemory) }
+        ensures kept { IfOk result IsKept }
+    {
         let Ok(giving) = Vec::with_capacity(alloc, MOST_GIVING) else {
             return Err(PoolFault::OutOfMemory);
         };

@@ -108,6 +108,13 @@ impl NodeCore {
         self.table.state(stream)
     }
 
+    /// How many streams the node has dialled: the next one that it dials gets twice this number.
+    pub fn dialled(&self) -> u64
+        ensures { (n : NodeState) → NodeStands self.now n → result ≡ n.streams.dialled }
+    {
+        self.streams.dialled
+    }
+
     /// How many bytes are kept of what came on open streams: of each those behind its last message, in all at most
     /// `u64::MAX`.
     pub fn kept(&self) -> u64

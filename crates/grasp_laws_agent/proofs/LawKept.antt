@@ -131,21 +131,20 @@ sending_kept s None o is idle serves k = k
 sending_kept s (Some b) None is idle serves k = k
 sending_kept s (Some b) (Some h) is idle serves k = kept_handed s b h is idle serves k
 
-unsent_kept : (s : AgentState) (b : Option Return) → s.back ≡ b → s.act ≡ None → is_open s.stage ≡ true → IsKept s → IsKept (after_unsent s b)
-unsent_kept s None is idle serves k = k
-unsent_kept s (Some b) is idle serves k = kept_unsent s b.prefix (ap given_back is) k idle serves
+unsent_kept : (s : AgentState) (b : Option Return) → s.back ≡ b → s.act ≡ None → IsKept s → IsKept (after_unsent s b)
+unsent_kept s None is idle k = k
+unsent_kept s (Some b) is idle k = kept_unsent s b.prefix (ap given_back is) k idle
 
 returning_kept : (s : AgentState) (r : Reply) → s.act ≡ None → is_open s.stage ≡ true → IsKept s → IsKept (after_returning s r)
-returning_kept s (reply.Refused x) idle serves k = unsent_kept s s.back refl idle serves k
+returning_kept s (reply.Refused x) idle serves k = unsent_kept s s.back refl idle k
 returning_kept s (reply.Api a) idle serves k = sending_kept s s.back (started_in (Some a)) refl idle serves k
 returning_kept s _ idle serves k = sending_kept s s.back None refl idle serves k
 
 -- ---- duties
 
-back_kept : (s : AgentState) (b : Option Return) (p : Option Progress) → s.back ≡ b → s.act ≡ None → is_open s.stage ≡ true → IsKept s
-    → IsKept (after_back_progress s b p)
-back_kept s (Some b) (Some (progress.Ended e)) is idle serves k = kept_heard s b.prefix (ap given_back is) k e idle serves
-back_kept s _ _ is idle serves k = k
+back_kept : (s : AgentState) (b : Option Return) (p : Option Progress) → s.back ≡ b → s.act ≡ None → IsKept s → IsKept (after_back_progress s b p)
+back_kept s (Some b) (Some (progress.Ended e)) is idle k = kept_heard s b.prefix (ap given_back is) k e idle
+back_kept s _ _ is idle k = k
 
 want_kept : (s : AgentState) (w : Option Want) (h : Handle) (p : Option Progress) → w ≡ s.want → s.act ≡ None → is_open s.stage ≡ true
     → want_session s.want ≡ Some h
@@ -167,7 +166,7 @@ duty_kept : (s : AgentState) (r : Reply) (d : Duty) → duty_of s ≡ d → s.ac
 duty_kept s r duty.Listen e idle serves k = kept_incoming s (incoming_in (answer_in r)) serves k
 duty_kept s r (duty.Want h) e idle serves k =
     want_kept s s.want h (progress_in (answer_in r)) refl idle serves (its_duty s (duty.Want h) e) k
-duty_kept s r (duty.Return h) e idle serves k = back_kept s s.back (progress_in (answer_in r)) refl idle serves k
+duty_kept s r (duty.Return h) e idle serves k = back_kept s s.back (progress_in (answer_in r)) refl idle k
 duty_kept s r (duty.Give place h) e idle serves k = giving_kept s place (slice_get s.giving place) (progress_in (answer_in r)) refl idle serves k
 
 advanced_kept : (s : AgentState) → IsKept s → IsKept (advanced s)

@@ -215,22 +215,23 @@ making s r a k (is, done) =
         in (refl, (refl, refl), refl, refl, subst (λ x. Gains s.pool x p) (sym gained) (gain_means s.pool p k.pool stands.1 new.0))
     by _ f = (refl, (refl, refl), refl, refl, refl)
 
+-- an act is dropped
+pub drops_so : (s : AgentState) (a : Act) → s.act ≡ Some a → IsKept s → Effect s (is_dropped a) (after_dropping s a)
+drops_so s (act.Offer place h p) is k =
+    let stands : ActStands s (act.Offer place h p) = act_stands s (act.Offer place h p) is k
+    in (
+      (refl, refl),
+      refl,
+      refl,
+      (back_means s.pool p k.pool (act_reserved s place h p is k), without_is s.giving place (record { handle = h; offer = Some p; first = false }) stands),
+    )
+drops_so s _ is k = ((refl, refl), refl, refl, (refl, refl))
+
 dropping : (s : AgentState) (r : Reply) (a : Act) → IsKept s → Happens s r (is_dropped a) → Effect s (is_dropped a) (after_reply s r)
 dropping s r a k (is, refused, last) =
     let e : after_reply s r ≡ after_dropping s a
     = at_serving s r (Some a) last (act_serves s a is k) is ∙ ap (after_act s a) refused.1
-    in subst (Effect s (is_dropped a)) (sym e) (by a is)
-  where
-    by : (x : Act) → s.act ≡ Some x → Effect s (is_dropped x) (after_dropping s x)
-    by (act.Offer place h p) f =
-        let stands : ActStands s (act.Offer place h p) = act_stands s (act.Offer place h p) f k
-        in (
-          (refl, refl),
-          refl,
-          refl,
-          (back_means s.pool p k.pool (act_reserved s place h p f k), without_is s.giving place (record { handle = h; offer = Some p; first = false }) stands),
-        )
-    by _ f = ((refl, refl), refl, refl, (refl, refl))
+    in subst (Effect s (is_dropped a)) (sym e) (drops_so s a is k)
 
 -- ---- giving sessions
 

@@ -13,4 +13,6 @@ pub mod LawRequester
 pub mod LawReturns
 pub mod LawSending
 pub mod LawStays
+pub mod Reopening
+pub mod Retiring
 pub mod Returning

@@ -2,6 +2,7 @@
 #![tactic(auto)]
 
 mod laws;
+mod retiring_laws;
 mod return_laws;
 
 pub use laws::{
@@ -9,6 +10,7 @@ pub use laws::{
     next_calls_are, offers_stay_listed, openings_go_on, readers_agree, requesters_decide,
     values_are_read, values_are_values,
 };
+pub use retiring_laws::{agents_may_reopen, agents_retire, settling_keeps};
 pub use return_laws::{
     duties_are_in_order, refusals_are_repeated, returns_are_answered, returns_are_read,
     returns_are_requested, settlings_settle,

@@ -1,7 +1,8 @@
 -- What each agent of prefixes of a network offers stands as it is to, and what its next call makes of that.
-use Rattle.std.proofs.Common.{◌≡◌, refl, sym, ap, ◌∙◌, subst, arith, ℕ, ◌-◌, ◌==◌, Bool, true, false, cond, List, [], Contains, inl, inr, map, slice_get, Option, None, Some, option_map, Ok, Err, Result}
-use Rattle.std.proofs.lemmas.Option.{none-some, slice_get-map}
+use Rattle.std.proofs.Common.{◌≡◌, refl, sym, ap, ◌∙◌, subst, arith, ℕ, ◌-◌, List, [], Contains, inl, inr, slice_get, Option, None, Some, Ok, Err, Result}
+use Rattle.std.proofs.lemmas.Option.{none-some}
 use Rattle.grasp_laws_agent.proofs.LawKept.{kept_event, kept_reply}
+use Rattle.grasp_laws_agent.proofs.Retiring.{agents_retire, settling_keeps}
 use Rattle.grasp_agent.specs.Calls.{next_call, agent_name, objective_name}
 use Rattle.grasp_agent.specs.Kept.{IsKept}
 use Rattle.grasp_agent.specs.Replies as agent
@@ -19,13 +20,17 @@ use Rattle.grasp_model_node.specs.Moves.{with_reading, with_registrations, with_
 use Rattle.grasp_model_node.specs.Node.{NodeState}
 use Rattle.grasp_model_node.specs.BoundedNodes.{IsBoundedNode}
 use Rattle.grasp_model_node.specs.Step.{Coming, NodeStep, Calls}
+use Rattle.grasp_model_node.specs.declared.plan.NodePlan.{NodePlan}
 use Rattle.grasp_laws_node.specs.Consistent.{IsConsistent, TiesAreKept}
 use Rattle.grasp_laws_network.proofs.EachNode.{first_is}
-use Rattle.grasp_model_network.proofs.Facts.{first_reached}
 use Rattle.grasp_model_network.specs.EventSteps.{agent_input}
-use Rattle.grasp_model_network.specs.Runs.{IsReached, answered_seat, first_seat, first_world}
-use Rattle.grasp_model_network.specs.Setting.{Member, Setting, numbered}
-use Rattle.grasp_model_network.specs.World.{Seat, WorldState, seat_at}
+use Rattle.grasp_model_network.specs.Runs.{IsReached}
+use Rattle.grasp_model_network.specs.Openings.{answered_seat, opened_seat}
+use Rattle.grasp_model_network.specs.Setting.{Setting}
+use Rattle.grasp_model_network.specs.World.{Seat, WorldState}
+use Rattle.grasp_pool.specs.Functions.{after_settle}
+use Rattle.grasp_pool.specs.Holdings.{Holding}
+use Rattle.grasp_laws_session.proofs.Made.{views_built}
 use Rattle.grasp_laws_session.proofs.Runs.{none_live}
 use Rattle.grasp_session.proofs.Tables.{state_slot}
 use Rattle.grasp_session.specs.Messages.{Side}
@@ -38,11 +43,12 @@ use Rattle.grasp_types.specs.declared.reply.Reply.TheVariants as reply
 use Rattle.grasp_types.specs.declared.session.Handle.{Handle}
 use Rattle.grasp_types.specs.declared.traffic.Input.TheVariants as input
 use Rattle.grasp_laws_network.specs.Telling.{IsNoReply}
-use Rattle.grasp_laws_agents.proofs.EachSeat.{Keeps, reached_members}
+use Rattle.grasp_laws_agents.proofs.EachSeat.{Keeps, reached_seats}
 use Rattle.grasp_laws_agents.proofs.Owning.{others_same}
-use Rattle.grasp_laws_agents.proofs.Serving.{IsServed, serving_kept, first_serves}
+use Rattle.grasp_laws_agents.proofs.Reserving.{opened_kept}
+use Rattle.grasp_laws_agents.proofs.Retiring.{gives_with, gives_retired}
+use Rattle.grasp_laws_agents.proofs.Serving.{IsServed, serving_kept, opened_serves}
 use Rattle.grasp_laws_agents.specs.GoingOn.{OwnGoOn}
-use Rattle.grasp_laws_agents.specs.Laws.{AgentsAreKept}
 use Rattle.grasp_laws_agents.specs.Serving.{OfEachSeat}
 use Rattle.grasp_laws_agents.proofs.Begun.{moves_before}
 use Rattle.grasp_laws_agents.proofs.Calling.{called}
@@ -70,7 +76,6 @@ wants_given n a wanted longest peer (Ok done) k = record {
   apart = k.apart;
   kinds = k.kinds;
   live = λ h side x p own pending. same_has a (after_want a wanted longest peer (Ok done)) refl refl h side (k.live h side x p own pending);
-  gone = k.gone;
 } where
   none : {A : Type 0} (h : Handle) → None ≡ Some h → A
   none h e = absurd (cc)
@@ -89,7 +94,6 @@ returns_given n a None p peer k = by_reply (return_reply (record a { back = None
     apart = k.apart;
     kinds = k.kinds;
     live = λ h side x q own pending. by_session h side (k.live h side x q own pending);
-    gone = k.gone;
   } where
     by_session : (h : Handle) (side : Side) → IsOffersSession (record a { back = None }) side h → IsOffersSession (after_return (record a { back = None }) p peer (Ok done)) side h
     by_session h side (of_entry far place g at same) = of_entry far place g at same
@@ -99,6 +103,48 @@ told_given : (n : NodeState) (a : AgentState) (e : AgentEvent) → IsNoReply e �
 told_given n a (agent.wanted wanted longest peer) other k = wants_given n a wanted longest peer (want_reply a) k
 told_given n a (agent.returned p peer) other k = returns_given n a a.back p peer k
 told_given n a (agent.replied r) other k = absurd other
+
+-- ---- the beginning of a life
+
+record IsEmptySeat (s : Seat) : Type 0 where
+  sessions : s.core.sessions ≡ no_sessions
+  want : s.agent.want ≡ None
+  back : s.agent.back ≡ None
+  giving : s.agent.giving ≡ []
+
+opened_empty : (plan : NodePlan) (h : Holding) → IsEmptySeat (opened_seat plan h)
+unfolding answered_seat opened_seat next_call agent_name objective_name after_reply begin expired with_reading with_registrations with_sessions with_discoveries with_floods begin_closing
+opened_empty plan h = record { sessions = refl; want = refl; back = refl; giving = refl }
+
+empty_gives : (n : NodeState) (a : AgentState) → n.sessions ≡ no_sessions → a.want ≡ None → a.back ≡ None → a.giving ≡ [] → Gives n a
+empty_gives n a z w b g = record {
+  want = λ h e. no_want h (sym (ap want_session w) ∙ e);
+  entries = λ place f at. nothing f (sym (ap (λ (l : List Giving). slice_get l place) g) ∙ at);
+  back = λ r h is f. absurd (none-some r (sym b ∙ is));
+  apart = λ i j f h at there same. nothing f (sym (ap (λ (l : List Giving). slice_get l i) g) ∙ at);
+  kinds = λ x made owner. none_made x (subst (λ (y : Sessions). WasMade y x) z made);
+  live = λ h side x p own pending. absurd (none_live 64 h.place x (state_slot no_sessions h x (subst (λ (y : Sessions). session_at y h ≡ Some x) z own.at)));
+} where
+  no_want : {A : Type 0} (h : Handle) → None ≡ Some h → A
+  no_want h e = absurd (cc)
+
+  nothing : {A : Type 0} (f : Giving) → None ≡ Some f → A
+  nothing f e = absurd (cc)
+
+  nobody : {A : Type 0} (x : SessionState) → Contains {X = SessionState} [] x → A
+  nobody x (i, below, is) = absurd (omega (arith, below))
+
+  none_made : {A : Type 0} (x : SessionState) → WasMade no_sessions x → A
+  none_made x (inl i) = absurd (none_live 64 i.0 x i.1)
+  none_made x (inr c) = nobody x c
+
+opened_gives : (plan : NodePlan) (h : Holding) → Gives (opened_seat plan h).core (opened_seat plan h).agent
+opened_gives plan h = let e = opened_empty plan h in empty_gives (opened_seat plan h).core (opened_seat plan h).agent e.sessions e.want e.back e.giving
+
+opened_tied : TiesAreKept → (plan : NodePlan) (h : Holding) → IsConsistent (opened_seat plan h).core
+opened_tied ties plan h =
+    (first_is (λ k n. IsBoundedNode n × IsConsistent n) 1 plan h (λ k n after now i x r p step. (nodes_kept.1 n after now i x r p.0 step, ties.1 n after now i x r p.0 p.1 step))
+    (nodes_kept.0 plan, ties.0 plan)).1
 
 -- ---- a step
 
@@ -140,75 +186,33 @@ module _ (ties : TiesAreKept) (means : CallsMean) (begins : (n : NodeState) (now
       kept = kept_event a e possible k.kept;
       gives = told_given n a e other k.gives;
     };
+    settles = λ n a p has k. record {
+      served = serving_kept.settles n a p has k.served;
+      tied = k.tied;
+      kept = settling_keeps a p k.kept has;
+      gives = gives_with n a (after_settle a.pool p) k.gives;
+    };
+    retires = λ n a k. record {
+      served = serving_kept.retires n a k.served;
+      tied = k.tied;
+      kept = (agents_retire a).kept k.kept;
+      gives = gives_retired n a (λ q x at. views_built n.sessions x k.served.sound.sessions (inl (q, at))) k.kept k.gives;
+    };
+    opens = λ plan h pool none. record {
+      served = opened_serves plan h;
+      tied = opened_tied ties plan h;
+      kept = opened_kept plan h pool none;
+      gives = opened_gives plan h;
+    };
   }
 
--- ---- the beginning
+  -- ---- networks
 
-record IsEmptySeat (s : Seat) : Type 0 where
-  sessions : s.core.sessions ≡ no_sessions
-  want : s.agent.want ≡ None
-  back : s.agent.back ≡ None
-  giving : s.agent.giving ≡ []
-
-first_empty : (m : Member) → IsEmptySeat (first_seat m)
-unfolding answered_seat first_seat next_call agent_name objective_name after_reply begin expired with_reading with_registrations with_sessions with_discoveries with_floods begin_closing
-first_empty m = record { sessions = refl; want = refl; back = refl; giving = refl }
-
-empty_gives : (n : NodeState) (a : AgentState) → n.sessions ≡ no_sessions → a.want ≡ None → a.back ≡ None → a.giving ≡ [] → Gives n a
-empty_gives n a z w b g = record {
-  want = λ h e. no_want h (sym (ap want_session w) ∙ e);
-  entries = λ place f at. nothing f (sym (ap (λ (l : List Giving). slice_get l place) g) ∙ at);
-  back = λ r h is f. absurd (none-some r (sym b ∙ is));
-  apart = λ i j f h at there same. nothing f (sym (ap (λ (l : List Giving). slice_get l i) g) ∙ at);
-  kinds = λ x made owner. none_made x (subst (λ (y : Sessions). WasMade y x) z made);
-  live = λ h side x p own pending. absurd (none_live 64 h.place x (state_slot no_sessions h x (subst (λ (y : Sessions). session_at y h ≡ Some x) z own.at)));
-  gone = λ x p has owner pending. nobody x (subst (λ (y : Sessions). Contains y.gone x) z has);
-} where
-  no_want : {A : Type 0} (h : Handle) → None ≡ Some h → A
-  no_want h e = absurd (cc)
-
-  nothing : {A : Type 0} (f : Giving) → None ≡ Some f → A
-  nothing f e = absurd (cc)
-
-  nobody : {A : Type 0} (x : SessionState) → Contains {X = SessionState} [] x → A
-  nobody x (i, below, is) = absurd (omega (arith, below))
-
-  none_made : {A : Type 0} (x : SessionState) → WasMade no_sessions x → A
-  none_made x (inl i) = absurd (none_live 64 i.0 x i.1)
-  none_made x (inr c) = nobody x c
-
-first_gives : (m : Member) → Gives (first_seat m).core (first_seat m).agent
-first_gives m = let e = first_empty m in empty_gives (first_seat m).core (first_seat m).agent e.sessions e.want e.back e.giving
-
-first_tied : TiesAreKept → (m : Member) → IsConsistent (first_seat m).core
-first_tied ties m =
-    (first_is (λ k n. IsBoundedNode n × IsConsistent n) 1 m (λ k n after now i x r p step. (nodes_kept.1 n after now i x r p.0 step, ties.1 n after now i x r p.0 p.1 step))
-    (nodes_kept.0 m.plan, ties.0 m.plan)).1
-
-first_stands : (s : Setting) (k : ℕ) (m : Member) → numbered s.members k ≡ Some m → seat_at (first_world s) k ≡ Some (first_seat m)
-unfolding first_world
-first_stands s k m e = by_zero (k == 0) e where
-  by_zero : (b : Bool) → cond b None (slice_get s.members (k - 1)) ≡ Some m → cond b None (slice_get (map first_seat s.members) (k - 1)) ≡ Some (first_seat m)
-  by_zero true f = absurd (none-some m f)
-  by_zero false f = slice_get-map first_seat s.members (k - 1) ∙ ap (λ o. option_map first_seat o) f
-
--- ---- networks
-
-module _ (ties : TiesAreKept) (means : CallsMean) (begins : (n : NodeState) (now : ℕ) → OwnGoOn n.sessions (begin n now).sessions)
-    (are_kept : AgentsAreKept) where
   reached_giving : (s : Setting) (w : WorldState) → IsReached s w → OfEachSeat IsGiving w
-  reached_giving s w r =
-      reached_members IsGiving (giving_kept ties means begins) s
-      (λ k m e. record {
-        served = first_serves m;
-        tied = first_tied ties m;
-        kept = are_kept s (first_world s) (first_reached s r.good) k (first_seat m) (first_stands s k m e);
-        gives = first_gives m;
-      })
-      w r
+  reached_giving s w r = reached_seats IsGiving giving_kept s w r
 
   pub agents_give : AgentsGive
   agents_give s w r node seat here = (reached_giving s w r node seat here).gives
 
   pub agents_move : AgentsMove
-  agents_move s w r node seat here now x q after step = own_moves ties means begins seat.core after seat.agent now x q (reached_giving s w r node seat here) step
+  agents_move s w r node seat here now x q after step = own_moves seat.core after seat.agent now x q (reached_giving s w r node seat here) step

@@ -16,7 +16,7 @@ use Rattle.grasp_types.specs.declared.session.Handle.{Handle}
 use Rattle.grasp_types.specs.declared.session.Outcome.{Outcome}
 use Rattle.grasp_laws_agents.proofs.Dropping.{want_rests}
 use Rattle.grasp_laws_agents.proofs.Entries.{some_is}
-use Rattle.grasp_laws_agents.proofs.Leaving.{node_left, left_gone, left_moves}
+use Rattle.grasp_laws_agents.proofs.Leaving.{node_left, left_moves}
 use Rattle.grasp_laws_agents.proofs.Sides.{kinds_left}
 use Rattle.grasp_laws_agents.proofs.Standing.{same_apart, same_entry, same_own, same_streams, sides_apart, asked_apart, Moved, rests, idle_entry, own_was, plain_elsewhere, want_elsewhere, quiet}
 use Rattle.grasp_laws_agents.proofs.Starting.{Begins, begun_own, begun_want, begun_streams, begun_left, begun_gives}
@@ -56,7 +56,7 @@ module _ (n after : NodeState) (a b : AgentState) (h : Handle) (new : SessionSta
       let same : sent ≡ r = some_is sent r (sym now ∙ at) in
       let there : h ≡ l = some_is h l (ap (λ (u : Return). u.session) same ∙ f) in
       subst (ReturnStands after.sessions l) (ap (λ (u : Return). u.prefix) same)
-      (subst (λ u. ReturnStands after.sessions u v.prefix) there (record { session = new; own = begun_own n after a b h new k idle s e.0 e.1 e.3; offer = offer }))
+      (subst (λ u. ReturnStands after.sessions u v.prefix) there (record { session = new; own = begun_own n after a b h new k idle s e.1 e.3; offer = offer }))
 
   handed_offers : (side : Side) (l : Handle) (p : Prefix) → OffersIn b side l p → WasOffered n a b side l p
   handed_offers side l p (in_entry far place g at same given) = was_there (in_entry far place g (same_entry a b e.1 place g at) same given)
@@ -65,13 +65,13 @@ module _ (n after : NodeState) (a b : AgentState) (h : Handle) (new : SessionSta
 
   pub handed : Moved n after a b
   handed = record {
-    gives = begun_gives n after a b h new k idle s e.0 e.1 e.3 (begun_want n after a b h new k idle s e.0 e.1 e.3 e.2.0) handed_back (λ p pending. of_return refl sent now refl) (entries_only a v is none b e.1);
+    gives = begun_gives n after a b h new k idle s e.1 e.3 (begun_want n after a b h new k idle s e.1 e.3 e.2.0) handed_back (λ p pending. of_return refl sent now refl) (entries_only a v is none b e.1);
     moves = quiet n after a b (record {
-      streams = begun_streams n after a b h new k idle s e.0 e.1 e.3;
+      streams = begun_streams n after a b h new k idle s e.1 e.3;
       pool = e.0;
       offered = handed_offers;
       unsent = λ p f. absurd (none-some p (sym (ap unsent_of now) ∙ f));
-      left = begun_left n after a b h new k idle s e.0 e.1 e.3;
+      left = begun_left n after a b h new k idle s e.1 e.3;
     });
   }
 
@@ -108,7 +108,6 @@ module _ (n : NodeState) (a b : AgentState) (x : ApiRefused) (k : Gives n a) (id
       apart = same_apart n a b e.0 k;
       kinds = k.kinds;
       live = λ l side y p own pending. entries_only a v is none b e.0 l side (k.live l side y p own pending);
-      gone = λ y p has owner pending. subst (λ l. Contains l p) (sym free_again.doubtful) (k.gone y p has owner pending);
     };
     moves = record {
       streams = λ l y u at owner there. same_streams n.sessions n.sessions refl l y u at there;
@@ -177,7 +176,6 @@ module _ (n : NodeState) (a b : AgentState) (h : Handle) (x : SessionState) (k :
       apart = same_apart n a b e.0 k;
       kinds = kinds_left n.sessions h x own.at k.kinds;
       live = heard_live;
-      gone = left_gone n a b Near h x k own (Some v.prefix) offer return_offers o told settled;
     };
-    moves = left_moves n a b Near h x k own (Some v.prefix) offer return_offers o told settled (over_offers n a b e.0 e.3) (over_unsent n a b e.0 e.3);
+    moves = left_moves n a b Near h x own (Some v.prefix) offer return_offers o told settled (over_offers n a b e.0 e.3) (over_unsent n a b e.0 e.3);
   }

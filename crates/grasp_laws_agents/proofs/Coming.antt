@@ -5,7 +5,6 @@ use Rattle.grasp_agent.specs.States.{AgentState, want_session}
 use Rattle.grasp_agent.specs.declared.back.Return.{Return}
 use Rattle.grasp_agent.specs.declared.giving.Giving.{Giving}
 use Rattle.grasp_model_node.specs.Node.{NodeState}
-use Rattle.grasp_pool.specs.Holdings.{Holding}
 use Rattle.grasp_laws_session.proofs.Runs.{some_state}
 use Rattle.grasp_session.specs.Conversation.{has_offered}
 use Rattle.grasp_session.specs.Made.{IsFresh}
@@ -69,9 +68,6 @@ module _ (n after : NodeState) (a b : AgentState) (h : Handle) (x : SessionState
   came_left : (y : SessionState) → Contains after.sessions.gone y → Contains n.sessions.gone y
   came_left y has = subst (λ (l : List SessionState). Contains l y) gone has
 
-  came_gone : (y : SessionState) (p : Prefix) → Contains after.sessions.gone y → y.owner ≡ 1 → IsOpenOffer y.view p → Contains b.pool.doubtful p
-  came_gone y p has owner pending = subst (λ (q : Holding). Contains q.doubtful p) (sym pool) (k.gone y p (came_left y has) owner pending)
-
   came_streams : (l : Handle) (u y : SessionState) → session_at n.sessions l ≡ Some u → session_at after.sessions l ≡ Some y → y.stream ≡ u.stream
   came_streams =
       set_streams n.sessions after.sessions h.place (Some new) set
@@ -87,7 +83,6 @@ module _ (n after : NodeState) (a b : AgentState) (h : Handle) (x : SessionState
       apart = same_apart n a b giving k;
       kinds = came_kinds;
       live = λ l side y p has pending. same_has a b giving back l side (came_live l side y p has pending);
-      gone = came_gone;
     };
     moves = same_quiet n after a b came_streams pool giving back (λ y p pending has. came_left y has);
   }
@@ -140,7 +135,6 @@ module _ (n after : NodeState) (a b : AgentState) (h : Handle) (x : SessionState
         apart = listed_apart;
         kinds = came_kinds;
         live = λ l side y p has pending. listed_has l side (came_live l side y p has pending);
-        gone = came_gone;
       };
       moves = quiet n after a b (record { streams = came_streams; pool = pool; offered = listed_offers; unsent = same_unsent a b back; left = λ y p pending has. came_left y has });
     }

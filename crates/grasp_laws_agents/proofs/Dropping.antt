@@ -9,7 +9,7 @@ use Rattle.grasp_agent.specs.declared.act.Act.TheVariants as act
 use Rattle.grasp_agent.specs.declared.giving.Giving.{Giving}
 use Rattle.grasp_agent.specs.declared.want.Want.{Want}
 use Rattle.grasp_model_node.specs.Node.{NodeState}
-use Rattle.grasp_pool.specs.Holdings.{Holding, IsFree, GivesBack}
+use Rattle.grasp_pool.specs.Holdings.{IsFree, GivesBack}
 use Rattle.grasp_session.proofs.Tables.{state_slot}
 use Rattle.grasp_session.specs.Made.{IsBuilt}
 use Rattle.grasp_session.specs.Messages.{Side, Near, Far}
@@ -38,7 +38,6 @@ refused n a b x k idle e = record {
     apart = same_apart n a b e.1 k;
     kinds = k.kinds;
     live = λ l side y p own pending. same_has a b e.1 e.2 l side (k.live l side y p own pending);
-    gone = λ y p has owner pending. subst (λ (q : Holding). Contains q.doubtful p) (sym e.0) (k.gone y p has owner pending);
   };
   moves = same_quiet n n a b (same_streams n.sessions n.sessions refl) e.0 e.1 e.2 (λ y p pending has. has);
 }
@@ -61,7 +60,6 @@ ends_idle n a b k offers pool giving want back none = record {
     apart = same_apart n a b giving k;
     kinds = k.kinds;
     live = λ l side y p own pending. same_has a b giving back l side (k.live l side y p own pending);
-    gone = λ y p has owner pending. subst (λ (q : Holding). Contains q.doubtful p) (sym pool) (k.gone y p has owner pending);
   };
   moves = same_quiet n n a b (same_streams n.sessions n.sessions refl) pool giving back (λ y p pending has. has);
 }
@@ -121,7 +119,6 @@ module _ (n : NodeState) (a b : AgentState) (built : (q : ℕ) (x : SessionState
       apart = still_apart a b place old new here refl set n k;
       kinds = k.kinds;
       live = still_live a b place old new here refl set n e.1 k;
-      gone = λ y q has owner pending. subst (λ l. Contains l q) (sym free_again.doubtful) (k.gone y q has owner pending);
     };
     moves = record {
       streams = λ l y u at owner there. same_streams n.sessions n.sessions refl l y u at there;

@@ -103,7 +103,6 @@ gives_on n m a g k = record {
   apart = k.apart;
   kinds = kinds_on n.sessions m.sessions g k.kinds;
   live = live;
-  gone = λ x p has owner pending. k.gone x p (g.left x owner has) owner pending;
 } where
   want : (h : Handle) → want_session a.want ≡ Some h → WantStands m.sessions a h
   want h e =

@@ -72,7 +72,6 @@ module _ (n : NodeState) (a b : AgentState) (h : Handle) (x : SessionState) (k :
       apart = same_apart n a b e.1 k;
       kinds = kinds_left n.sessions h x asked.own.at k.kinds;
       live = finished_live;
-      gone = λ y p has owner pending. subst (λ (q : Holding). Contains q.doubtful p) (sym e.0) (k.gone y p (open_gone y p pending has) owner pending);
     };
     moves = same_quiet n (node_left n h x) a b (left_streams n h x) e.0 e.1 e.2 open_gone;
   }
@@ -173,7 +172,7 @@ open_offer None v p s pending = absurd (s p pending)
 open_offer (Some q) v p s pending = sym s.offer ∙ pending.offered.offer
 
 -- the session, in which the agent offers this or nothing, has ended so, and the offer is settled
-module _ (n : NodeState) (a b : AgentState) (side : Side) (h : Handle) (x : SessionState) (k : Gives n a) (own : IsOwnSession n.sessions h side x) (offer : Option Prefix) (stands : OfferStands false offer x.view)
+module _ (n : NodeState) (a b : AgentState) (side : Side) (h : Handle) (x : SessionState) (own : IsOwnSession n.sessions h side x) (offer : Option Prefix) (stands : OfferStands false offer x.view)
     (offers : (p : Prefix) → offer ≡ Some p → OffersIn a side h p) (o : Outcome) (told : outcome_of x.view ≡ Some o) (settled : SettlesOffer offer o a.pool b.pool) where
   t : Leaves o offer a.pool b.pool
   t = leaves_offer o offer a.pool b.pool settled
@@ -188,12 +187,6 @@ module _ (n : NodeState) (a b : AgentState) (side : Side) (h : Handle) (x : Sess
 
     doubted_here : Contains b.pool.doubtful p
     doubted_here = t.doubted p offered_here (open_not_theirs x.view o p told open_here)
-
-  pub left_gone : (y : SessionState) (p : Prefix) → Contains (x ∷ n.sessions.gone) y → y.owner ≡ 1 → IsOpenOffer y.view p → Contains b.pool.doubtful p
-  left_gone y p has owner pending = by_case (cons_cases x y n.sessions.gone has) where
-    by_case : (x ≡ y) ⊎ Contains n.sessions.gone y → Contains b.pool.doubtful p
-    by_case (inl c) = doubted_here y p c pending
-    by_case (inr c) = t.still p (k.gone y p c owner pending)
 
   left_freed : (address : ℕ) → IsFree b.pool address → IsFree a.pool address ⊎ FreedBy n (node_left n h x) a address
   left_freed address f = by_case (t.free address f) where
@@ -287,7 +280,6 @@ module _ (n : NodeState) (a b : AgentState) (place : ℕ) (g : Giving) (x : Sess
       apart = λ i j f h at there same. before_apart place i j (k.apart (place_before place i) (place_before place j) f h (was i f at) (was j h there) same);
       kinds = kinds_left n.sessions g.handle x own.at k.kinds;
       live = left_live;
-      gone = left_gone n a b Far g.handle x k own g.offer offer entry_offers o told e.3;
     };
-    moves = left_moves n a b Far g.handle x k own g.offer offer entry_offers o told e.3 left_offers (same_unsent a b e.1);
+    moves = left_moves n a b Far g.handle x own g.offer offer entry_offers o told e.3 left_offers (same_unsent a b e.1);
   }

@@ -20,6 +20,7 @@ pub mod Places
 pub mod Registering
 pub mod Replacing
 pub mod Reserving
+pub mod Retiring
 pub mod SameRegistered
 pub mod Serving
 pub mod Sides

@@ -15,7 +15,7 @@ use Rattle.grasp_agent.specs.declared.decision.Reason.{Reason}
 use Rattle.grasp_agent.specs.declared.giving.Giving.{Giving}
 use Rattle.grasp_laws_node.proofs.Meaning.Acts.{number_at}
 use Rattle.grasp_model_node.specs.Node.{NodeState}
-use Rattle.grasp_pool.specs.Holdings.{Holding, IsFree, Gains}
+use Rattle.grasp_pool.specs.Holdings.{IsFree, Gains}
 use Rattle.grasp_laws_session.proofs.Runs.{some_state}
 use Rattle.grasp_session.proofs.Tables.{state_slot}
 use Rattle.grasp_session.specs.Messages.{Side, Near, Far, other}
@@ -85,9 +85,6 @@ module _ (n after : NodeState) (a b : AgentState) (h : Handle) (x : SessionState
   said_left : (y : SessionState) → Contains after.sessions.gone y → Contains n.sessions.gone y
   said_left y has = subst (λ (l : List SessionState). Contains l y) gone has
 
-  still_gone : b.pool.doubtful ≡ a.pool.doubtful → (y : SessionState) (p : Prefix) → Contains after.sessions.gone y → y.owner ≡ 1 → IsOpenOffer y.view p → Contains b.pool.doubtful p
-  still_gone same y p has owner pending = subst (λ (l : List Prefix). Contains l p) (sym same) (k.gone y p (said_left y has) owner pending)
-
   said_quiet : b.pool ≡ a.pool → AgentMoves n after a b
   said_quiet pool = same_quiet n after a b said_streams pool giving back (λ y p pending has. said_left y has)
 
@@ -119,19 +116,18 @@ module _ (n after : NodeState) (a b : AgentState) (h : Handle) (x : SessionState
           absurd (none_offered new.view p asked.own.role kind asks (subst (λ (u : SessionState). IsOpenOffer u.view p) (sym same) pending).offered)
       by_case (inr c) = same_has a b giving back l side (k.live l side y p c.1 pending)
 
-    pub near_gives : b.pool.doubtful ≡ a.pool.doubtful → Gives after b
-    near_gives same = record {
+    pub near_gives : Gives after b
+    near_gives = record {
       want = near_want;
       entries = near_entry;
       back = near_back;
       apart = same_apart n a b giving k;
       kinds = kinds_new n.sessions after.sessions h.place new set gone kind k.kinds;
       live = near_live;
-      gone = still_gone same;
     }
 
     pub near_said : b.pool ≡ a.pool → Moved n after a b
-    near_said pool = record { gives = near_gives (ap (λ (q : Holding). q.doubtful) pool); moves = said_quiet pool }
+    near_said pool = record { gives = near_gives; moves = said_quiet pool }
 
   -- ---- in a session in which it gives
   module _ (place : ℕ) (g : Giving) (lies : slice_get a.giving place ≡ Some g) (same_g : g.handle ≡ h) (own : IsOwnSession n.sessions h Far x) (kind : KeepsKind x.view.role new.view) (offers : (i : ℕ) → i ≢ place → is_offering a.act i ≡ false)
@@ -169,19 +165,18 @@ module _ (n after : NodeState) (a b : AgentState) (h : Handle) (x : SessionState
           (ap (λ (u : List Giving). slice_get u place) giving ∙ lies) (same_g ∙ here l side y c.0 c.1 has)
       by_case (inr c) = same_has a b giving back l side (k.live l side y p c.1 pending)
 
-    pub far_gives : b.pool.doubtful ≡ a.pool.doubtful → Gives after b
-    far_gives same = record {
+    pub far_gives : Gives after b
+    far_gives = record {
       want = far_want;
       entries = far_entry;
       back = far_back;
       apart = same_apart n a b giving k;
       kinds = kinds_new n.sessions after.sessions h.place new set gone kind k.kinds;
       live = far_live;
-      gone = still_gone same;
     }
 
     pub far_said : b.pool ≡ a.pool → Moved n after a b
-    far_said pool = record { gives = far_gives (ap (λ (q : Holding). q.doubtful) pool); moves = said_quiet pool }
+    far_said pool = record { gives = far_gives; moves = said_quiet pool }
 
 -- ---- each act
 
@@ -253,7 +248,7 @@ module _ (n after : NodeState) (a b : AgentState) (k : Gives n a) (kept : IsKept
       closed : (q : Prefix) → ¬ IsOpenOffer (having_said x.view now (SayEnd d)) q
       closed q o = before q (open_before x.view now d q o)
 
-    entry_ended : b.giving ≡ a.giving → b.want ≡ a.want → b.back ≡ a.back → b.act ≡ None → b.pool.doubtful ≡ a.pool.doubtful → Gives after b
+    entry_ended : b.giving ≡ a.giving → b.want ≡ a.want → b.back ≡ a.back → b.act ≡ None → Gives after b
     entry_ended giving want back idle =
         far_gives n after a b h x now (SayEnd d) k s.there s.set s.gone giving want back idle place g lies same own (end_kind x.view now d (own_kind n a h Far x k own))
         (λ i apart. ap (λ (o : Option Act). is_offering o i) is ∙ none i) still_closed
@@ -263,19 +258,16 @@ module _ (n after : NodeState) (a b : AgentState) (k : Gives n a) (kept : IsKept
     asked : IsAsked n.sessions h x
     asked = want_asked n a h x k f s.there
 
-    want_ended : b.giving ≡ a.giving → b.want ≡ a.want → b.back ≡ a.back → b.act ≡ None → b.pool.doubtful ≡ a.pool.doubtful → Gives after b
+    want_ended : b.giving ≡ a.giving → b.want ≡ a.want → b.back ≡ a.back → b.act ≡ None → Gives after b
     want_ended giving want back idle =
         near_gives n after a b h x now (SayEnd d) k s.there s.set s.gone giving want back idle asked asked.asks (end_kind x.view now d (own_kind n a h Near x k asked.own))
         (λ place. ap (λ (o : Option Act). is_offering o place) is ∙ none place)
 
   pub made_decline : (h : Handle) (reason : Reason) (d : Verdict) → a.act ≡ Some (act.Decline h reason) → MayDecline (want_session a.want) a.giving h → Says n after h x now (SayEnd d) → Effect a (is_made (act.Decline h reason)) b → Moved n after a b
   made_decline h reason d is may s e = record { gives = by_session may; moves = said_quiet n after a b h x now (SayEnd d) k s.there s.set s.gone e.0 e.1.0 e.2 e.3 e.4 } where
-    doubtful : b.pool.doubtful ≡ a.pool.doubtful
-    doubtful = ap (λ (q : Holding). q.doubtful) e.4
-
     by_session : MayDecline (want_session a.want) a.giving h → Gives after b
-    by_session (declines_in_want f) = want_ended h d (act.Decline h reason) is (λ i. refl) f s e.0 e.1.0 e.2 e.3 doubtful
-    by_session (declines_in_giving place g lies same no_offer) = entry_ended h d (act.Decline h reason) is (λ i. refl) place g lies same no_offer s e.0 e.1.0 e.2 e.3 doubtful
+    by_session (declines_in_want f) = want_ended h d (act.Decline h reason) is (λ i. refl) f s e.0 e.1.0 e.2 e.3
+    by_session (declines_in_giving place g lies same no_offer) = entry_ended h d (act.Decline h reason) is (λ i. refl) place g lies same no_offer s e.0 e.1.0 e.2 e.3
 
   -- ---- an acceptance
 
@@ -339,9 +331,9 @@ module _ (n after : NodeState) (a b : AgentState) (k : Gives n a) (kept : IsKept
     by_session : MayAccept (want_session a.want) a.giving h → Moved n after a b
     by_session (accepts_in_want f) =
         let w = k.want h f in
-        accepted Near (accepts_at h Near p w.session is w.own w.accept s.there) (want_ended h verdict.Accept (act.Accept h p) is (λ i. refl) f s e.0 e.1.0 e.2 e.3 gains.doubtful)
+        accepted Near (accepts_at h Near p w.session is w.own w.accept s.there) (want_ended h verdict.Accept (act.Accept h p) is (λ i. refl) f s e.0 e.1.0 e.2 e.3)
     by_session (accepts_in_giving place g lies same no_offer) =
         let f : EntryStands n.sessions a place g = k.entries place g lies in
         let own : IsOwnSession n.sessions h Far f.session = subst (λ l. IsOwnSession n.sessions l Far f.session) same f.own in
         let accept : AcceptStands a.act h Far f.session.view = subst (λ l. AcceptStands a.act l Far f.session.view) same f.accept in
-        accepted Far (accepts_at h Far p f.session is own accept s.there) (entry_ended h verdict.Accept (act.Accept h p) is (λ i. refl) place g lies same no_offer s e.0 e.1.0 e.2 e.3 gains.doubtful)
+        accepted Far (accepts_at h Far p f.session is own accept s.there) (entry_ended h verdict.Accept (act.Accept h p) is (λ i. refl) place g lies same no_offer s e.0 e.1.0 e.2 e.3)

@@ -16,9 +16,10 @@ use Rattle.grasp_model_node.specs.RegistryCalls.{with_mark}
 use Rattle.grasp_model_node.specs.Refusals.{early}
 use Rattle.grasp_model_node.specs.Step.{Coming, NodeStep, MayCall, Calls, Drains, after_call}
 use Rattle.grasp_model_node.specs.Tests.{act_tests}
+use Rattle.grasp_model_node.specs.declared.plan.NodePlan.{NodePlan}
+use Rattle.grasp_pool.specs.Holdings.{Holding}
 use Rattle.grasp_model_network.specs.EventSteps.{agent_input}
-use Rattle.grasp_model_network.specs.Runs.{first_seat, answered_seat}
-use Rattle.grasp_model_network.specs.Setting.{Member}
+use Rattle.grasp_model_network.specs.Openings.{opened_seat, answered_seat}
 use Rattle.grasp_laws_session.proofs.Runs.{none_live}
 use Rattle.grasp_laws_session.proofs.Streams.{is_least}
 use Rattle.grasp_session.proofs.Tables.{state_slot}
@@ -44,7 +45,7 @@ use Rattle.grasp_laws_agents.proofs.EachSeat.{Keeps, reached_seats}
 use Rattle.grasp_laws_agents.proofs.Hearing.{SameAt, begins, bytes_come, opening_comes, closing_comes}
 use Rattle.grasp_laws_agents.proofs.OthersCalls.{others_call}
 use Rattle.grasp_laws_agents.proofs.Owned.{IsClear, AreClear, clear_owned, Same, self, and_then, set_clear, one_clear, says_clear, leaves_clear}
-use Rattle.grasp_laws_agents.proofs.Serving.{IsServed, IsServing, serving_kept, first_serves, next_serving, begin_holds}
+use Rattle.grasp_laws_agents.proofs.Serving.{IsServed, IsServing, serving_kept, opened_serves, next_serving, begin_holds}
 use Rattle.grasp_laws_agents.proofs.Tested.{none_of, acts_in, owner_is}
 use Rattle.grasp_laws_agents.specs.Laws.{SessionsAreOwned, GoneSessionsAreOwned}
 use Rattle.grasp_laws_agents.specs.Staying.{IsOthers}
@@ -140,25 +141,28 @@ own_keeps n after a now x r k step = record {
   clear = own_clear (begin n now) ((begins n now).clear k.clear) after (next_call a) r (next_serving a k.served.stage) (subst (λ asa. Calls (begin n now) asa (next_call a) r after) k.served.number step.acts);
 }
 
+opened_sessions : (plan : NodePlan) (h : Holding) → (opened_seat plan h).core.sessions ≡ no_sessions
+unfolding answered_seat opened_seat next_call agent_name objective_name after_reply begin expired with_reading with_registrations with_sessions with_discoveries with_floods begin_closing
+opened_sessions plan h = refl
+
+nobody : AreClear no_sessions
+nobody = record { live = λ place x at. absurd (none_live 64 place x at); gone = λ x i. absurd (omega (arith, i.1)) }
+
+opened_owns : (plan : NodePlan) (h : Holding) → IsOwning (opened_seat plan h).core (opened_seat plan h).agent
+opened_owns plan h = record { served = opened_serves plan h; clear = subst AreClear (sym (opened_sessions plan h)) nobody }
+
 pub owning_kept : Keeps IsOwning
 owning_kept = record {
   others = λ n after a now i x r k o step. record { served = serving_kept.others n after a now i x r k.served o step; clear = (others_same n after a now i x r k.served o step).clear k.clear };
   own = own_keeps;
   told = λ n a e possible other k. record { served = serving_kept.told n a e possible other k.served; clear = k.clear };
+  settles = λ n a p has k. record { served = serving_kept.settles n a p has k.served; clear = k.clear };
+  retires = λ n a k. record { served = serving_kept.retires n a k.served; clear = k.clear };
+  opens = λ plan h pool none. opened_owns plan h;
 }
 
-first_sessions : (m : Member) → (first_seat m).core.sessions ≡ no_sessions
-unfolding answered_seat first_seat next_call agent_name objective_name after_reply begin expired with_reading with_registrations with_sessions with_discoveries with_floods begin_closing
-first_sessions m = refl
-
-nobody : AreClear no_sessions
-nobody = record { live = λ place x at. absurd (none_live 64 place x at); gone = λ x i. absurd (omega (arith, i.1)) }
-
-pub first_owns : (m : Member) → IsOwning (first_seat m).core (first_seat m).agent
-first_owns m = record { served = first_serves m; clear = subst AreClear (sym (first_sessions m)) nobody }
-
 pub sessions_owned : SessionsAreOwned
-sessions_owned s w r node seat here = clear_owned seat.core.sessions (reached_seats IsOwning owning_kept s first_owns w r node seat here).clear
+sessions_owned s w r node seat here = clear_owned seat.core.sessions (reached_seats IsOwning owning_kept s w r node seat here).clear
 
 pub gone_owned : GoneSessionsAreOwned
-gone_owned s w r node seat here = (reached_seats IsOwning owning_kept s first_owns w r node seat here).clear.gone
+gone_owned s w r node seat here = (reached_seats IsOwning owning_kept s w r node seat here).clear.gone

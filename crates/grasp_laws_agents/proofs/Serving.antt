@@ -3,11 +3,13 @@ use Rattle.std.proofs.Common.{◌≡◌, ◌≢◌, refl, sym, ap, ◌∙◌, su
 use Rattle.std.proofs.lemmas.Bool.{false≢true}
 use Rattle.grasp_laws_agent.proofs.LawCursors.{openings_go_on}
 use Rattle.grasp_laws_agent.proofs.LawNext.{next_calls_are}
+use Rattle.grasp_laws_agent.proofs.Retiring.{agents_retire}
 use Rattle.grasp_agent.specs.Calls.{next_call, act_call, duty_call, objective_name, agent_name}
 use Rattle.grasp_laws_agent.specs.Moves.{OpeningGoes}
 use Rattle.grasp_laws_agent.specs.Next.{NextIs, opens, acts, requests, hands_back, does}
 use Rattle.grasp_agent.specs.Replies as agent
 use Rattle.grasp_agent.specs.Replies.{AgentEvent, after_reply, want_reply, after_want, return_reply, after_return, after_event}
+use Rattle.grasp_agent.specs.Reopening.{retired}
 use Rattle.grasp_agent.specs.States.{AgentState, is_open}
 use Rattle.grasp_agent.specs.declared.act.Act.{Act}
 use Rattle.grasp_agent.specs.declared.act.Act.TheVariants as act
@@ -32,6 +34,8 @@ use Rattle.grasp_model_node.specs.Node.{NodeState}
 use Rattle.grasp_model_node.specs.RegistryCalls.{declines_for, without_agent, without_objective, without_searches, with_mark}
 use Rattle.grasp_model_node.specs.BoundedNodes.{IsBoundedNode}
 use Rattle.grasp_model_node.specs.Step.{Coming, NodeStep, Calls, Drains, after_call}
+use Rattle.grasp_model_node.specs.declared.plan.NodePlan.{NodePlan}
+use Rattle.grasp_pool.specs.Holdings.{Holding}
 use Rattle.grasp_session.specs.Sessions.{untaken_reply}
 use Rattle.grasp_types.specs.declared.call.Call.{Call}
 use Rattle.grasp_types.specs.declared.call.Call.TheVariants as call
@@ -44,8 +48,7 @@ use Rattle.grasp_types.specs.Prefix.{AddressBlock as Prefix}
 use Rattle.grasp_types.specs.declared.address.Locator.{Locator}
 use Rattle.grasp_laws_network.proofs.EachNode.{first_is}
 use Rattle.grasp_model_network.specs.EventSteps.{agent_input}
-use Rattle.grasp_model_network.specs.Runs.{first_seat, answered_seat}
-use Rattle.grasp_model_network.specs.Setting.{Member}
+use Rattle.grasp_model_network.specs.Openings.{opened_seat, answered_seat}
 use Rattle.grasp_laws_network.specs.Telling.{IsNoReply}
 use Rattle.grasp_laws_agents.proofs.EachSeat.{Keeps, reached_seats}
 use Rattle.grasp_laws_agents.proofs.Registering.{Has, as_before, listened_again, has_flags, has_listener, no_other}
@@ -189,6 +192,45 @@ told_serves n a (agent.wanted wanted longest peer) other k = want_serves n a wan
 told_serves n a (agent.returned p peer) other k = return_serves n a p peer (return_reply a p) k
 told_serves n a (agent.replied r) other k = absurd other
 
+-- an agent at the end of its life has its number, and its opening calls are done
+retired_serves : (n : NodeState) (a : AgentState) → IsServed n a → IsServed n (retired a)
+retired_serves n a k = record {
+  sound = k.sound;
+  holds = k.holds;
+  number = ap (λ (x : AgentState). x.asa) (agents_retire a).same ∙ k.number;
+  stage = ap (λ (x : AgentState). x.stage) (agents_retire a).same ∙ k.stage;
+}
+
+-- ---- the beginning of a life
+
+opened_holds : (plan : NodePlan) (h : Holding) → Has objective_name (opened_seat plan h).core.registrations
+unfolding answered_seat opened_seat next_call agent_name objective_name after_reply begin expired with_reading with_registrations with_sessions with_discoveries with_floods begin_closing
+opened_holds plan h = record {
+  registered = refl;
+  objective = record { owner = 1; name = objective_name; flags = 3; listening = true; offered = None };
+  found = refl;
+  flags = refl;
+  listening = refl;
+}
+
+opened_number : (plan : NodePlan) (h : Holding) → (opened_seat plan h).agent.asa ≡ 1
+unfolding answered_seat opened_seat next_call agent_name objective_name after_reply begin expired with_reading with_registrations with_sessions with_discoveries with_floods begin_closing
+opened_number plan h = refl
+
+opened_stage : (plan : NodePlan) (h : Holding) → (opened_seat plan h).agent.stage ≡ stage.Serving
+unfolding answered_seat opened_seat next_call agent_name objective_name after_reply begin expired with_reading with_registrations with_sessions with_discoveries with_floods begin_closing
+opened_stage plan h = refl
+
+pub opened_serves : (plan : NodePlan) (h : Holding) → IsServed (opened_seat plan h).core (opened_seat plan h).agent
+opened_serves plan h = record {
+  sound = first_is (λ k n. IsBoundedNode n) 1 plan h (λ k n after now i x r. nodes_kept.1 n after now i x r) (nodes_kept.0 plan);
+  holds = opened_holds plan h;
+  number = opened_number plan h;
+  stage = opened_stage plan h;
+}
+
+-- ---- networks
+
 pub serving_kept : Keeps IsServed
 serving_kept = record {
   others = λ n after a now i x r k o step. record {
@@ -199,32 +241,9 @@ serving_kept = record {
   };
   own = own_serves;
   told = λ n a e possible other k. told_serves n a e other k;
-}
-
-first_holds : (m : Member) → Has objective_name (first_seat m).core.registrations
-unfolding answered_seat first_seat next_call agent_name objective_name after_reply begin expired with_reading with_registrations with_sessions with_discoveries with_floods begin_closing
-first_holds m = record {
-  registered = refl;
-  objective = record { owner = 1; name = objective_name; flags = 3; listening = true; offered = None };
-  found = refl;
-  flags = refl;
-  listening = refl;
-}
-
-first_number : (m : Member) → (first_seat m).agent.asa ≡ 1
-unfolding answered_seat first_seat next_call agent_name objective_name after_reply begin expired with_reading with_registrations with_sessions with_discoveries with_floods begin_closing
-first_number m = refl
-
-first_stage : (m : Member) → (first_seat m).agent.stage ≡ stage.Serving
-unfolding answered_seat first_seat next_call agent_name objective_name after_reply begin expired with_reading with_registrations with_sessions with_discoveries with_floods begin_closing
-first_stage m = refl
-
-pub first_serves : (m : Member) → IsServed (first_seat m).core (first_seat m).agent
-first_serves m = record {
-  sound = first_is (λ k n. IsBoundedNode n) 1 m (λ k n after now i x r. nodes_kept.1 n after now i x r) (nodes_kept.0 m.plan);
-  holds = first_holds m;
-  number = first_number m;
-  stage = first_stage m;
+  settles = λ n a p has k. record { sound = k.sound; holds = k.holds; number = k.number; stage = k.stage };
+  retires = retired_serves;
+  opens = λ plan h pool none. opened_serves plan h;
 }
 
 pub serves : (n : NodeState) (a : AgentState) → IsServed n a → Serves n a
@@ -238,4 +257,4 @@ serves n a k = record {
 }
 
 pub agents_serve : AgentsServe
-agents_serve s w r node seat here = serves seat.core seat.agent (reached_seats IsServed serving_kept s first_serves w r node seat here)
+agents_serve s w r node seat here = serves seat.core seat.agent (reached_seats IsServed serving_kept s w r node seat here)

@@ -4,7 +4,7 @@ use Rattle.std.proofs.lemmas.Option.{none-some}
 use Rattle.grasp_agent.specs.States.{AgentState}
 use Rattle.grasp_agent.specs.Values.{length_value, returned_in}
 use Rattle.grasp_cbor.specs.DataItem.{DataItem}
-use Rattle.grasp_laws_network.specs.Authorities.{offering_by}
+use Rattle.grasp_model_network.specs.Accepting.{offering_by}
 use Rattle.grasp_laws_session.proofs.Runs.{some_state, set_some}
 use Rattle.grasp_model_node.specs.Node.{NodeState}
 use Rattle.grasp_session.proofs.Tables.{state_slot}

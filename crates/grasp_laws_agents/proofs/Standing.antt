@@ -143,47 +143,42 @@ module _ (z w : Sessions) (p : ℕ) (v : Option SessionState) (set : w.places �
 pub same_streams : (z w : Sessions) → w ≡ z → (h : Handle) (x y : SessionState) → session_at z h ≡ Some x → session_at w h ≡ Some y → y.stream ≡ x.stream
 same_streams z w same h x y e g = ap (λ (u : SessionState). u.stream) (some_state y x (sym (ap (λ (s : Sessions). session_at s h) (sym same) ∙ g) ∙ e))
 
--- ---- where the agent changes nothing, and the node none of its sessions
+-- ---- where the agent changes nothing but its pool, and the node none of its sessions
 
-pub gives_again : (n m : NodeState) (a b : AgentState) → m.sessions ≡ n.sessions → NothingMoves a b → Gives n a → Gives m b
-gives_again n m a b z q k = record {
+pub gives_again : (n m : NodeState) (a b : AgentState) → m.sessions ≡ n.sessions → b.giving ≡ a.giving → b.want ≡ a.want → b.back ≡ a.back → b.act ≡ a.act → Gives n a → Gives m b
+gives_again n m a b z giving wants returns act k = record {
   want = want;
   entries = entries;
   back = back;
-  apart = same_apart n a b q.giving k;
+  apart = same_apart n a b giving k;
   kinds = subst KeepKinds (sym z) k.kinds;
   live = live;
-  gone = gone;
 } where
   want : (h : Handle) → want_session b.want ≡ Some h → WantStands m.sessions b h
   want h e =
-      let s = k.want h (ap want_session (sym q.want.0) ∙ e) in
+      let s = k.want h (ap want_session (sym wants) ∙ e) in
       record {
         session = s.session;
         own = subst (λ (y : Sessions). IsOwnSession y h Near s.session) (sym z) s.own;
-        accept = subst (λ (o : Option Act). AcceptStands o h Near s.session.view) (sym q.act) s.accept;
+        accept = subst (λ (o : Option Act). AcceptStands o h Near s.session.view) (sym act) s.accept;
         asks = s.asks;
       }
 
   entries : (place : ℕ) (g : Giving) → slice_get b.giving place ≡ Some g → EntryStands m.sessions b place g
   entries place g at =
-      let s = k.entries place g (same_entry a b q.giving place g at) in
+      let s = k.entries place g (same_entry a b giving place g at) in
       record {
         session = s.session;
         own = subst (λ (y : Sessions). IsOwnSession y g.handle Far s.session) (sym z) s.own;
-        offer = subst (λ (o : Option Act). OfferStands (is_offering o place) g.offer s.session.view) (sym q.act) s.offer;
-        accept = subst (λ (o : Option Act). AcceptStands o g.handle Far s.session.view) (sym q.act) s.accept;
+        offer = subst (λ (o : Option Act). OfferStands (is_offering o place) g.offer s.session.view) (sym act) s.offer;
+        accept = subst (λ (o : Option Act). AcceptStands o g.handle Far s.session.view) (sym act) s.accept;
       }
 
   back : (r : Return) (h : Handle) → b.back ≡ Some r → r.session ≡ Some h → ReturnStands m.sessions h r.prefix
-  back r h is f = subst (λ (y : Sessions). ReturnStands y h r.prefix) (sym z) (same_back n a b q.back k r h is f)
+  back r h is f = subst (λ (y : Sessions). ReturnStands y h r.prefix) (sym z) (same_back n a b returns k r h is f)
 
   live : (h : Handle) (side : Side) (x : SessionState) (p : Prefix) → IsOwnSession m.sessions h side x → IsOpenOffer x.view p → IsOffersSession b side h
-  live h side x p own pending = same_has a b q.giving q.back h side (k.live h side x p (subst (λ (y : Sessions). IsOwnSession y h side x) z own) pending)
-
-  gone : (x : SessionState) (p : Prefix) → Contains m.sessions.gone x → x.owner ≡ 1 → IsOpenOffer x.view p → Contains b.pool.doubtful p
-  gone x p has owner pending =
-      subst (λ (h : Holding). Contains h.doubtful p) (sym q.pool) (k.gone x p (subst (λ (y : Sessions). Contains y.gone x) z has) owner pending)
+  live h side x p own pending = same_has a b giving returns h side (k.live h side x p (subst (λ (y : Sessions). IsOwnSession y h side x) z own) pending)
 
 -- ---- where the pool stays, and so do offers
 
@@ -215,6 +210,6 @@ same_quiet n after a b streams pool giving back left =
 
 pub nothing_moved : (n m : NodeState) (a b : AgentState) → m.sessions ≡ n.sessions → NothingMoves a b → Gives n a → Moved n m a b
 nothing_moved n m a b z q k = record {
-  gives = gives_again n m a b z q k;
+  gives = gives_again n m a b z q.giving q.want.0 q.back q.act k;
   moves = same_quiet n m a b (same_streams n.sessions m.sessions z) q.pool q.giving q.back (λ x p pending has. subst (λ (y : Sessions). Contains y.gone x) z has);
 }

@@ -7,7 +7,6 @@ use Rattle.grasp_agent.specs.declared.back.Return.{Return}
 use Rattle.grasp_agent.specs.declared.giving.Giving.{Giving}
 use Rattle.grasp_laws_node.proofs.Meaning.Acts.{number_at}
 use Rattle.grasp_model_node.specs.Node.{NodeState}
-use Rattle.grasp_pool.specs.Holdings.{Holding}
 use Rattle.grasp_laws_session.proofs.Runs.{some_state}
 use Rattle.grasp_session.specs.Messages.{Side, Near, Far}
 use Rattle.grasp_session.specs.Says.{IsAt}
@@ -31,7 +30,7 @@ pub record Begins (n after : NodeState) (h : Handle) (new : SessionState) : Type
   pub set : after.sessions.places ≡ slice_set n.sessions.places h.place (Some new)
   pub gone : after.sessions.gone ≡ n.sessions.gone
 
-module _ (n after : NodeState) (a b : AgentState) (h : Handle) (new : SessionState) (k : Gives n a) (idle : a.act ≡ None) (s : Begins n after h new) (pool : b.pool ≡ a.pool) (giving : b.giving ≡ a.giving) (act : b.act ≡ a.act) where
+module _ (n after : NodeState) (a b : AgentState) (h : Handle) (new : SessionState) (k : Gives n a) (idle : a.act ≡ None) (s : Begins n after h new) (giving : b.giving ≡ a.giving) (act : b.act ≡ a.act) where
   pub begun_own : IsOwnSession after.sessions h Near new
   begun_own = record { at = new_here n.sessions after.sessions new h s.set s.below s.number; owner = s.owner; role = s.near }
 
@@ -77,7 +76,6 @@ module _ (n after : NodeState) (a b : AgentState) (h : Handle) (new : SessionSta
     apart = same_apart n a b giving k;
     kinds = kinds_new n.sessions after.sessions h.place new s.set s.gone s.kind k.kinds;
     live = live;
-    gone = λ y p has owner pending. subst (λ (q : Holding). Contains q.doubtful p) (sym pool) (k.gone y p (begun_left y p pending has) owner pending);
   } where
     live : (l : Handle) (side : Side) (y : SessionState) (p : Prefix) → IsOwnSession after.sessions l side y → IsOpenOffer y.view p → IsOffersSession b side l
     live l side y p has pending = by_case (begun_was l side y has) where
@@ -94,11 +92,11 @@ module _ (n after : NodeState) (a b : AgentState) (h : Handle) (new : SessionSta
       let same : Some h ≡ Some l = sym (ap want_session e.5.2) ∙ f in
       let there : h ≡ l = cc in
       subst (WantStands after.sessions b) there
-      (record { session = new; own = begun_own n after a b h new k idle s e.0 e.1 e.3; accept = none_accepts b h Near new.view (e.3 ∙ idle); asks = asks })
+      (record { session = new; own = begun_own n after a b h new k idle s e.1 e.3; accept = none_accepts b h Near new.view (e.3 ∙ idle); asks = asks })
 
   pub started : Moved n after a b
   started = record {
-    gives = begun_gives n after a b h new k idle s e.0 e.1 e.3 started_want (begun_back n after a b h new k idle s e.0 e.1 e.3 e.2)
+    gives = begun_gives n after a b h new k idle s e.1 e.3 started_want (begun_back n after a b h new k idle s e.1 e.3 e.2)
         (λ p pending. absurd (none_offered new.view p s.near s.kind asks pending.offered)) (same_has a b e.1 e.2);
-    moves = same_quiet n after a b (begun_streams n after a b h new k idle s e.0 e.1 e.3) e.0 e.1 e.2 (begun_left n after a b h new k idle s e.0 e.1 e.3);
+    moves = same_quiet n after a b (begun_streams n after a b h new k idle s e.1 e.3) e.0 e.1 e.2 (begun_left n after a b h new k idle s e.1 e.3);
   }

@@ -10,7 +10,7 @@ use Rattle.grasp_laws_agents.proofs.EachSeat.{reached_seats}
 use Rattle.grasp_laws_agents.proofs.GoingOn.{heard_alike}
 use Rattle.grasp_laws_agents.proofs.Hearing.{begins}
 use Rattle.grasp_laws_agents.proofs.Owning.{others_same}
-use Rattle.grasp_laws_agents.proofs.Serving.{IsServed, serving_kept, first_serves}
+use Rattle.grasp_laws_agents.proofs.Serving.{IsServed, serving_kept}
 use Rattle.grasp_laws_agents.specs.GoingOn.{OwnGoOn}
 use Rattle.grasp_laws_agents.specs.Laws.{OwnSessionsStay, OwnSessionsGoOn}
 use Rattle.grasp_laws_agents.specs.Staying.{IsOwn, OwnStay}
@@ -41,7 +41,7 @@ own_stay z w g h side = (stays z w g h side, was z w g h side)
 
 pub own_sessions_go_on : OwnSessionsGoOn
 own_sessions_go_on = record {
-  steps = λ s w r node seat here now i x reply after o step. (others_same seat.core after seat.agent now i x reply (reached_seats IsServed serving_kept s first_serves w r node seat here) o step).goes_on;
+  steps = λ s w r node seat here now i x reply after o step. (others_same seat.core after seat.agent now i x reply (reached_seats IsServed serving_kept s w r node seat here) o step).goes_on;
   begins = λ n now. (begins n now).goes_on;
 }
 

@@ -81,7 +81,6 @@ module _ (n : NodeState) (a b : AgentState) (h : Handle) (x : SessionState) (k :
       apart = same_apart n a b e.1 k;
       kinds = k.kinds;
       live = λ l side y p own pending. same_has a b e.1 e.3 l side (k.live l side y p own pending);
-      gone = λ y p has owner pending. subst (λ (q : Holding). Contains q.doubtful p) (sym e.0) (k.gone y p has owner pending);
     };
     moves = same_quiet n n a b (same_streams n.sessions n.sessions refl) e.0 e.1 e.3 (λ y p pending has. has);
   }
@@ -247,7 +246,6 @@ module _ (n : NodeState) (a b : AgentState) (place : ℕ) (g : Giving) (x : Sess
       apart = still_apart a b place g new here handle set n k;
       kinds = k.kinds;
       live = still_live a b place g new here handle set n returns k;
-      gone = λ y p has owner pending. subst (λ l. Contains l p) (sym doubtful_same) (k.gone y p has owner pending);
     };
     moves = record {
       streams = λ h y u at owner there. same_streams n.sessions n.sessions refl h y u at there;

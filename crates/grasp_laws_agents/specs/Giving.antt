@@ -1,5 +1,5 @@
 -- How the sessions of the agent of prefixes at a node stand with what it offers and wants (RFC 8992, sections 4.1 and 4.2).
-use Rattle.std.specs.Prelude.{◌≡◌, ◌⊎◌, ℕ, ◌==◌, Bool, true, false, Contains, Option, None, Some, slice_get}
+use Rattle.std.specs.Prelude.{◌≡◌, ◌⊎◌, ℕ, ◌==◌, Bool, true, false, Option, None, Some, slice_get}
 use Rattle.grasp_agent.specs.States.{AgentState, want_session}
 use Rattle.grasp_agent.specs.Values.{offered_in, returned_in}
 use Rattle.grasp_cbor.specs.DataItem.{DataItem}
@@ -7,7 +7,7 @@ use Rattle.grasp_agent.specs.declared.act.Act.{Act}
 use Rattle.grasp_agent.specs.declared.act.Act.TheVariants as act
 use Rattle.grasp_agent.specs.declared.back.Return.{Return}
 use Rattle.grasp_agent.specs.declared.giving.Giving.{Giving}
-use Rattle.grasp_laws_network.specs.Authorities.{is_return, offering_by}
+use Rattle.grasp_model_network.specs.Accepting.{is_return, offering_by}
 use Rattle.grasp_model_node.specs.Node.{NodeState}
 use Rattle.grasp_session.specs.Conversation.{answered, accepted_by, ended, has_offered, turn}
 use Rattle.grasp_session.specs.Messages.{Side, Near, Far, other}
@@ -129,5 +129,3 @@ pub record Gives (n : NodeState) (a : AgentState) : Type 0 where
   pub kinds : (x : SessionState) → WasMade n.sessions x → x.owner ≡ 1 → KeepsKind x.view.role x.view
   -- an open offer of a live session is the agent's own
   pub live : (h : Handle) (side : Side) (x : SessionState) (p : Prefix) → IsOwnSession n.sessions h side x → IsOpenOffer x.view p → IsOffersSession a side h
-  -- the prefix of an open offer in a session that is no longer live is in doubt
-  pub gone : (x : SessionState) (p : Prefix) → Contains n.sessions.gone x → x.owner ≡ 1 → IsOpenOffer x.view p → Contains a.pool.doubtful p

@@ -1,4 +1,4 @@
--- What is so of the agent of prefixes at each node of every network that events lead to.
+-- What is so of the agent of prefixes at each node of every network that turns lead to.
 use Rattle.std.specs.Prelude.{◌≡◌, ℕ, Some}
 use Rattle.grasp_agent.specs.Kept.{IsKept}
 use Rattle.grasp_model_node.specs.Node.{NodeState}

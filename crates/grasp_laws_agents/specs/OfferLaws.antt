@@ -1,4 +1,4 @@
--- What the agent of prefixes at each node of every network that events lead to offers, and what its next call makes of that.
+-- What the agent of prefixes at each node of every network that turns lead to offers, and what its next call makes of that.
 use Rattle.std.specs.Prelude.{◌≡◌, ◌⊎◌, ℕ, Contains, None, Some}
 use Rattle.grasp_agent.specs.Replies.{after_reply}
 use Rattle.grasp_agent.specs.States.{AgentState, back_session, unsent_of}

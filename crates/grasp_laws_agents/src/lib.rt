@@ -1,4 +1,4 @@
-//! Laws of the agents of prefixes in a network and of what they offer, which hold of every network that events lead to. No code runs here.
+//! Laws of the agents of prefixes in a network and of what they offer, which hold of every network that turns lead to. No code runs here.
 #![tactic(auto)]
 
 mod agent_laws;

@@ -3,7 +3,7 @@
 ghost use Rattle.grasp_laws_agents.specs.Calls.{CallsMean};
 ghost use Rattle.grasp_laws_agents.specs.OfferLaws.{AgentsGive, AgentsMove};
 
-use crate::agent_laws::{agents_are_kept, own_sessions_go_on};
+use crate::agent_laws::own_sessions_go_on;
 use grasp_laws_node::{
     end_means, listen_means, poll_means, request_means, step_means, ties_are_kept,
 };
@@ -19,15 +19,13 @@ pub fn calls_mean()
     request_means();
 }
 
-/// What each agent of prefixes offers is the last offer of its session, and an offer is reserved or in doubt as long as it isn't known what
-/// became of it.
+/// What each agent of prefixes offers is the last offer of its session, and each open offer of a live session is its own.
 pub fn agents_give()
     ensures { AgentsGive }
 {
     ties_are_kept();
     calls_mean();
     own_sessions_go_on();
-    agents_are_kept();
 }
 
 /// The next call of an agent frees only an offer that wasn't accepted, what was to be returned and wasn't requested, or what it accepts itself.
@@ -37,5 +35,4 @@ pub fn agents_move()
     ties_are_kept();
     calls_mean();
     own_sessions_go_on();
-    agents_are_kept();
 }

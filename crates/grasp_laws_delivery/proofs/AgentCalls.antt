@@ -1,5 +1,5 @@
 -- What the agent of a node calls is in range, and it stays the agent that it is.
-use Rattle.std.proofs.Common.{refl, ℕ, ◌≤◌, ◌<◌, ◌^◌, arith, List, [], None, Some}
+use Rattle.std.proofs.Common.{◌≡◌, ◌≤◌, ◌<◌, ◌^◌, arith, [], None, Some}
 use Rattle.std.proofs.lemmas.List.Elements.{All-nil}
 use Rattle.grasp_laws_agent.proofs.LawKept.{kept_event, agents_are_kept}
 use Rattle.grasp_laws_agent.proofs.LawNext.{next_calls_are}
@@ -7,6 +7,7 @@ use Rattle.grasp_laws_agent.proofs.LawSending.{calls_are_short}
 use Rattle.grasp_agent.specs.Calls.{act_call, duty_call, opening_call, next_call}
 use Rattle.grasp_agent.specs.Kept.{IsKept}
 use Rattle.grasp_agent.specs.Laws.{IsPossible}
+use Rattle.grasp_agent.specs.Reopening.{MayReopen}
 use Rattle.grasp_agent.specs.Replies.{AgentEvent, after_event}
 use Rattle.grasp_laws_agent.specs.Next.{NextIs, opens, acts, requests, hands_back, does}
 use Rattle.grasp_laws_agent.specs.Sending.{IsShortCall, IsShortVerdict}
@@ -17,9 +18,12 @@ use Rattle.grasp_agent.specs.declared.duty.Duty.{Duty}
 use Rattle.grasp_agent.specs.declared.duty.Duty.TheVariants as duty
 use Rattle.grasp_agent.specs.declared.stage.Stage.{Stage}
 use Rattle.grasp_agent.specs.declared.stage.Stage.TheVariants.{Declaring}
+use Rattle.grasp_pool.proofs.Opening.{reopened_pool}
+use Rattle.grasp_pool.specs.Functions.{pool_of_image}
+use Rattle.grasp_pool.specs.Holdings.{Holding}
 use Rattle.grasp_pool.specs.Pools.{IsPool}
-use Rattle.grasp_pool.specs.Functions.{pool_of}
-use Rattle.grasp_pool.specs.declared.roots.RootPrefix.{RootPrefix}
+use Rattle.grasp_pool.specs.declared.image.PoolImage.{PoolImage}
+use Rattle.grasp_laws_network.proofs.Begun.{reopened}
 use Rattle.grasp_model_network.specs.Ranges.{IsCall}
 use Rattle.grasp_types.specs.Message.{IsVerdict}
 use Rattle.grasp_types.specs.declared.call.Call.{Call}
@@ -89,5 +93,9 @@ agent_call_is s k = short_is (next_call s) (calls_are_short s k) (modest_call s 
 pub told_kept : (s : AgentState) (e : AgentEvent) → IsPossible e → IsKept s → IsKept (after_event s e)
 told_kept = kept_event
 
-pub first_kept : (roots : List RootPrefix) → IsPool (pool_of roots) → IsKept (first_agent (pool_of roots))
-first_kept roots pool = agents_are_kept (pool_of roots) [] pool refl (All-nil (λ e. IsPossible e))
+pub fresh_kept : (h : Holding) → IsPool h → h.reserved ≡ [] → IsKept (first_agent h)
+fresh_kept h pool none = agents_are_kept h [] pool none (All-nil (λ e. IsPossible e))
+
+-- the pool of an image by which an agent may be opened anew
+pub image_pool : (a : AgentState) (image : PoolImage) → MayReopen a image → IsPool (pool_of_image image)
+image_pool a image may = reopened_pool image (reopened a image may)

@@ -28,7 +28,7 @@ use Rattle.grasp_model_network.specs.Sending.{seat_with, posted, dialled, sent_a
 use Rattle.grasp_model_network.specs.Setting.{Setting, numbered}
 use Rattle.grasp_model_network.specs.Streams.{StreamEnd, with_number, with_sent, with_ended}
 use Rattle.grasp_model_network.specs.Visits.{no_choice}
-use Rattle.grasp_model_network.specs.World.{Seat, WorldState, end_of, seat_at, with_seat}
+use Rattle.grasp_model_network.specs.World.{Seat, WorldState, end_of, member_of, seat_at, with_seat}
 use Rattle.grasp_laws_delivery.specs.Heads.{heads, first_end}
 use Rattle.grasp_laws_delivery.specs.Kept.{IsArrived, QueueKept, NodeKept, GoodHead, StreamsKept}
 use Rattle.grasp_laws_delivery.specs.Ready.{Every, FarWaits}
@@ -72,7 +72,7 @@ module _ (s : Setting) (good : IsGoodSetting s) (seats : List Seat) (nodes node 
   }
 
   goes_one : (q : Queued) (qs : List Queued) (w : WorldState) → Goes s seats nodes node core (q ∷ qs) w → Goes s seats nodes node core qs (having_sent s node seat w q)
-  goes_one (datagram link to m) qs w g = goes_datagram link to m qs w (route_of s node link to) g
+  goes_one (datagram link to m) qs w g = goes_datagram link to m qs w (route_of s (member_of w node) link to) g
   goes_one (dial stream to) qs w g = subst (λ e. Goes s seats nodes node core qs (dialled w e)) (sym (end_is stream)) (goes_dial stream to qs w g)
   goes_one (send stream m) qs w g = goes_message (end_of node seat stream) stream m qs w g
 

@@ -45,7 +45,7 @@ changed_keeps : (f : StreamState → Side → StreamState) → KeepsHead f → (
 changed_keeps f keeps t None = refl
 changed_keeps f keeps t (Some side) = keeps t side
 
-both : (h k : Head) (hs ks : List Head) → h ≡ k → hs ≡ ks → h ∷ hs ≡ k ∷ ks
+pub both : (h k : Head) (hs ks : List Head) → h ≡ k → hs ≡ ks → h ∷ hs ≡ k ∷ ks
 both h k hs ks e f = ap (λ x. x ∷ hs) e ∙ ap (λ xs. k ∷ xs) f
 
 pub change_keeps : (f : StreamState → Side → StreamState) → KeepsHead f → (e : StreamEnd) (ts : List StreamState) → heads (change_at_end ts e f) ≡ heads ts

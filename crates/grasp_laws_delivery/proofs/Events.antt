@@ -19,7 +19,7 @@ use Rattle.grasp_model_network.specs.Notes.{noted}
 use Rattle.grasp_model_network.specs.Setting.{Setting, numbered}
 use Rattle.grasp_model_network.specs.Streams.{StreamEnd, StreamState, told_closed, is_waiting, is_number, stream_numbered, change_at_end, with_side, with_delivered, with_far}
 use Rattle.grasp_model_network.specs.Visits.{Visit, Choice, VisitStep}
-use Rattle.grasp_model_network.specs.World.{WorldState, seat_at, end_of}
+use Rattle.grasp_model_network.specs.World.{WorldState, present_life, seat_at, end_of}
 use Rattle.grasp_model_network.specs.declared.event.Event.{Event}
 use Rattle.grasp_model_network.specs.declared.event.Event.TheVariants as event
 use Rattle.grasp_laws_delivery.specs.Heads.{head_of, heads, first_end}
@@ -127,7 +127,7 @@ module _ (ties : TiesAreKept) (s : Setting) (good : IsGoodSetting s) (w : WorldS
   visit_kept (event.Return node prefix peer) is = kept
   visit_kept (event.Agent node hold) is = plain w (after_agent w v c) (after_reply v.seat.agent c.reply) refl kept (agent_plain_input s w node hold v is) (record { seats = refl; streams = refl; dials = refl })
   visit_kept (event.Api node asa call hold) is =
-      plain w (after_agent_call w v asa call c) v.seat.agent refl kept (subst IsPlain (visit_input node (input.Api asa call) v (seat_at w node) is) tt) (record { seats = refl; streams = refl; dials = refl })
+      plain w (after_agent_call w v asa call c) v.seat.agent refl kept (subst IsPlain (visit_input (present_life w node) (input.Api asa call) v (seat_at w (present_life w node)) is) tt) (record { seats = refl; streams = refl; dials = refl })
   visit_kept (event.Datagram index hold) is = plain w (after_delivery w v index c) v.seat.agent refl kept (datagram_input s w index hold v is) (record { seats = refl; streams = refl; dials = refl })
   visit_kept (event.Arrive stream hold) is = arrives_kept stream (arrives s w stream hold v is)
   visit_kept (event.Bytes stream far count hold) is =

@@ -1,4 +1,4 @@
--- Each node of a network that events lead to is fed, and whatever an event brings to it is bytes.
+-- Each node of a network that turns lead to is fed, and whatever an event brings to it is bytes.
 use Rattle.std.proofs.Common.{◌≡◌, refl, sym, subst, arith, ℕ, ◌<◌, ◌≤◌, Bool, Option, None, Some, All}
 use Rattle.std.proofs.lemmas.Option.{none-some}
 use Rattle.grasp_laws_node.proofs.Divided.Nodes.{fed_nodes_kept}
@@ -10,6 +10,7 @@ use Rattle.grasp_model_node.specs.Node.{NodeState, first_node}
 use Rattle.grasp_model_node.specs.Queue.{encoding}
 use Rattle.grasp_model_node.specs.BoundedNodes.{IsBoundedNode}
 use Rattle.grasp_model_node.specs.Step.{Coming, NodeStep}
+use Rattle.grasp_pool.specs.Holdings.{Holding}
 use Rattle.grasp_session.specs.Messages.{other}
 use Rattle.grasp_types.specs.declared.reply.ApiAnswer.{ApiAnswer}
 use Rattle.grasp_types.specs.declared.reply.ApiAnswer.TheVariants as answer
@@ -27,11 +28,12 @@ use Rattle.grasp_model_network.specs.GoodSetting.{IsGoodMember, IsGoodSetting}
 use Rattle.grasp_laws_network.specs.Keeping.{IsFedWhere}
 use Rattle.grasp_laws_network.specs.Laws.{IsAnswered}
 use Rattle.grasp_model_network.specs.StreamChanges.{side_named}
-use Rattle.grasp_model_network.specs.Runs.{IsReached, fresh_seat, answered_seat, first_seat}
+use Rattle.grasp_model_network.specs.Runs.{IsReached}
+use Rattle.grasp_model_network.specs.Openings.{fresh_seat, answered_seat, opened_seat}
 use Rattle.grasp_model_network.specs.Setting.{Member, Setting, numbered}
 use Rattle.grasp_model_network.specs.Streams.{next_bytes}
 use Rattle.grasp_model_network.specs.Visits.{Visit, MayCome, no_choice}
-use Rattle.grasp_model_network.specs.World.{Seat, SentDatagram, WorldState, seat_at}
+use Rattle.grasp_model_network.specs.World.{Seat, SentDatagram, WorldState, present_life, seat_at}
 use Rattle.grasp_model_network.specs.declared.event.Event.{Event}
 use Rattle.grasp_model_network.specs.declared.event.Event.TheVariants as event
 use Rattle.grasp_laws_delivery.proofs.FitNetworks.{said_fits}
@@ -55,7 +57,8 @@ agent_bytes node v (Some seat) is = as_bytes v node (agent_input seat.agent) (se
 datagram_bytes : (w : WorldState) (index : ℕ) (v : Visit) (o : Option SentDatagram) → All (λ d. IsSentMessage d.message) w.datagrams → numbered w.datagrams index ≡ o → datagram_at w o ≡ Some v → HasBytes v.input
 datagram_bytes w index v None sent found is = absurd (none-some v is)
 datagram_bytes w index v (Some d) sent found is =
-    as_bytes v d.route.receiver (input.Datagram d.route.link d.route.from (encoding d.message)) (at_visit w d.route.receiver (input.Datagram d.route.link d.route.from (encoding d.message)) v is)
+    as_bytes v (present_life w d.route.receiver) (input.Datagram d.route.link d.route.from (encoding d.message))
+    (at_visit w (present_life w d.route.receiver) (input.Datagram d.route.link d.route.from (encoding d.message)) v is)
     (numbered_all (λ x. IsSentMessage x.message) w.datagrams index d sent found).bytes
 
 piece_bytes : (s : Setting) (w : WorldState) → IsReached s w → (stream count : ℕ) (far hold : Bool) (v : Visit) → visit_of s w (event.Bytes stream far count hold) ≡ Some v → HasBytes v.input
@@ -71,16 +74,16 @@ piece_bytes s w r stream count far hold v is = from (piece_is w stream (side_nam
 
 pub brings_bytes : (s : Setting) (w : WorldState) (e : Event) (v : Visit) → IsReached s w → visit_of s w e ≡ Some v → HasBytes v.input
 unfolding agent_visit datagram_visit
-brings_bytes s w (event.Clock node millis) v r is = as_bytes v node (input.Drain 0) (clock_visit_is node millis v (seat_at w node) is) tt
+brings_bytes s w (event.Clock node millis) v r is = as_bytes v (present_life w node) (input.Drain 0) (clock_visit_is (present_life w node) millis v (seat_at w (present_life w node)) is) tt
 brings_bytes s w (event.Want node length longest peer) v r is = absurd (none-some v is)
 brings_bytes s w (event.Return node prefix peer) v r is = absurd (none-some v is)
-brings_bytes s w (event.Agent node hold) v r is = agent_bytes node v (seat_at w node) is
-brings_bytes s w (event.Api node asa call hold) v r is = as_bytes v node (input.Api asa call) (at_visit w node (input.Api asa call) v is) tt
+brings_bytes s w (event.Agent node hold) v r is = agent_bytes (present_life w node) v (seat_at w (present_life w node)) is
+brings_bytes s w (event.Api node asa call hold) v r is = as_bytes v (present_life w node) (input.Api asa call) (at_visit w (present_life w node) (input.Api asa call) v is) tt
 brings_bytes s w (event.Datagram index hold) v r is = datagram_bytes w index v (numbered w.datagrams index) (datagrams_are_messages s w r) refl is
 brings_bytes s w (event.Arrive stream hold) v r is = subst HasBytes (sym (opening_is s w stream v is).is.input_is) tt
 brings_bytes s w (event.Bytes stream far count hold) v r is = piece_bytes s w r stream count far hold v is
 brings_bytes s w (event.Cut stream far hold) v r is = subst HasBytes (sym (cut_is w stream (side_named far) v is).is.input_is) tt
-brings_bytes s w (event.Drain node max) v r is = as_bytes v node (input.Drain max) (at_visit w node (input.Drain max) v is) tt
+brings_bytes s w (event.Drain node max) v r is = as_bytes v (present_life w node) (input.Drain max) (at_visit w (present_life w node) (input.Drain max) v is) tt
 
 -- ---- each node
 
@@ -97,18 +100,18 @@ some_limit limit least e h = omega (arith, e, h)
 answered_fed : (seat : Seat) (x : Coming) (a : ApiAnswer) → IsSoundFed seat.core → IsAnswered seat x a → IsSoundFed (answered_seat seat a).core
 answered_fed seat x a k s = step_fed seat.core (answered_seat seat a).core 0 (agent_input seat.agent) x (reply.Api a) k tt s
 
-first_fed : (limit : ℕ) (m : Member) → 2048 ≤ limit → IsGoodMember limit m → IsSoundFed (first_seat m).core
-unfolding first_seat
-first_fed limit m least good =
-    let o = worlds_begin m no_choice.coming in
-    answered_fed (answered_seat (answered_seat (fresh_seat m) (answer.Asa 1)) answer.Done) no_choice.coming answer.NotYet
-    (answered_fed (answered_seat (fresh_seat m) (answer.Asa 1)) no_choice.coming answer.Done (answered_fed (fresh_seat m) no_choice.coming (answer.Asa 1) fresh o.registers) o.declares) o.listens where
+opened_fed : (limit : ℕ) (m : Member) (h : Holding) → 2048 ≤ limit → IsGoodMember limit m → IsSoundFed (opened_seat m.plan h).core
+unfolding opened_seat
+opened_fed limit m h least good =
+    let o = worlds_begin m.plan h no_choice.coming in
+    answered_fed (answered_seat (answered_seat (fresh_seat m.plan h) (answer.Asa 1)) answer.Done) no_choice.coming answer.NotYet
+    (answered_fed (answered_seat (fresh_seat m.plan h) (answer.Asa 1)) no_choice.coming answer.Done (answered_fed (fresh_seat m.plan h) no_choice.coming (answer.Asa 1) fresh o.registers) o.declares) o.listens where
       fresh : IsSoundFed (first_node m.plan)
       fresh = record { node = nodes_kept.0 m.plan; fed = fed_nodes_kept.0 m.plan (some_limit m.plan.limit limit good.limit_is least) }
 
 fed_keep : (s : Setting) → IsGoodSetting s → NodesKeep s IsSoundFed
 fed_keep s good = record {
-  first = λ node m is. first_fed good.limit m good.least_limit (numbered_all (IsGoodMember good.limit) s.members node m good.members is);
+  begins = λ node m h is. opened_fed good.limit m h good.least_limit (numbered_all (IsGoodMember good.limit) s.members node m good.members is);
   steps = λ w e c v r k o is here step. step_fed v.seat.core c.after v.now v.input c.coming c.reply k (brings_bytes s w e v r is) (subst (λ (x : Option Visit). MayCome x c) is o.comes).steps;
   drains = λ w node seat max r here k.
       step_fed seat.core (after_drain (begin seat.core seat.core.reading) max) seat.core.reading (input.Drain max) no_choice.coming

@@ -1,5 +1,5 @@
--- In every network that events lead to, each message that is said fits.
-use Rattle.std.proofs.Common.{◌≡◌, ◌≢◌, refl, sym, ap, ◌∙◌, subst, ℕ, ◌+◌, ◌⊎◌, inl, inr, true, List, [], ◌∷◌, ◌++◌, length, fold, take, Option, None, Some, All}
+-- In every network that turns lead to, each message that is said fits.
+use Rattle.std.proofs.Common.{◌≡◌, ◌≢◌, refl, sym, ap, ◌∙◌, subst, ℕ, ◌+◌, ◌⊎◌, inl, inr, true, List, [], ◌∷◌, ◌++◌, length, fold, map, reverse, take, Option, None, Some, All}
 use Rattle.std.proofs.lemmas.List.Elements.{All-nil, All-head, All-tail, All-push, All-take, All-drop}
 use Rattle.std.proofs.lemmas.Option.{none-some}
 use Rattle.grasp_laws_node.proofs.Beginning.{beginnings_end}
@@ -8,23 +8,27 @@ use Rattle.grasp_model_node.specs.Draining.{closes, after_drain}
 use Rattle.grasp_model_node.specs.Node.{NodeState}
 use Rattle.grasp_model_node.specs.Queue.{Queued, datagram, dial, send}
 use Rattle.grasp_model_node.specs.declared.plan.NodePlan.{NodePlan}
+use Rattle.grasp_session.specs.Conversation.{Said, spoken}
 use Rattle.grasp_session.specs.Messages.{Side, Near, Far, other}
 use Rattle.grasp_types.specs.declared.address.Locator.{Locator}
 use Rattle.grasp_types.specs.declared.message.Message.{Message}
 use Rattle.grasp_wire.specs.Laws.{IsSendable}
 use Rattle.grasp_laws_network.proofs.Here.{visits_are_here}
+use Rattle.grasp_laws_network.proofs.Telling.{one_agent}
+use Rattle.grasp_laws_network.specs.Telling.{OneAgent}
 use Rattle.grasp_laws_node.proofs.PlansStay.{step_plan}
 use Rattle.grasp_model_network.specs.StreamChanges.{arrival_by, arrived, told, Reached, reached_side, side_named, delivered}
 use Rattle.grasp_model_network.specs.Events.{Occurs, visit_of, after_visit}
 use Rattle.grasp_model_network.specs.GoodSetting.{IsGoodSetting}
+use Rattle.grasp_model_network.specs.Restarting.{told_at}
 use Rattle.grasp_model_network.specs.Routes.{route_of}
 use Rattle.grasp_model_network.specs.Runs.{IsReached, first_world}
 use Rattle.grasp_model_network.specs.Sending as network
 use Rattle.grasp_model_network.specs.Sending.{gained, having_made, streams_made, seat_with, having_sent, having_closed, handed_over, drained_at, drained_from}
 use Rattle.grasp_model_network.specs.Setting.{Setting}
-use Rattle.grasp_model_network.specs.Streams.{StreamEnd, StreamState, Arrival, Direction, told_closed, fresh_stream, end_at, sent_by, next_bytes, with_direction, with_side, with_said, with_sent, with_ended, with_delivered, with_number, with_far, at_end, stream_numbered}
+use Rattle.grasp_model_network.specs.Streams.{StreamEnd, StreamState, Arrival, Direction, told_closed, fresh_stream, sent_by, next_bytes, with_direction, with_side, with_said, with_sent, with_ended, with_delivered, with_number, with_far, at_end, stream_numbered}
 use Rattle.grasp_model_network.specs.Visits.{Visit, Choice, VisitStep, MayCome}
-use Rattle.grasp_model_network.specs.World.{Seat, WorldState, seat_at, with_seat, end_of}
+use Rattle.grasp_model_network.specs.World.{Seat, WorldState, present_life, member_of, seat_at, with_seat, end_of}
 use Rattle.grasp_model_network.specs.declared.event.Event.{Event}
 use Rattle.grasp_model_network.specs.declared.event.Event.TheVariants as event
 use Rattle.grasp_laws_delivery.proofs.AfterSteps.{posted_each, streams_before, streams_stepped}
@@ -33,7 +37,8 @@ use Rattle.grasp_laws_delivery.proofs.Holding.{IsStep, PartsKeep, parts_keep}
 use Rattle.grasp_laws_delivery.proofs.InRange.Moves.{CanSend}
 use Rattle.grasp_laws_delivery.proofs.InRange.Networks.{all_real, step_queues}
 use Rattle.grasp_laws_delivery.proofs.Said.Talks.{said_more, said_beside, said_sends, direction_says, direction_is, direction_beside}
-use Rattle.grasp_laws_delivery.proofs.Sides.{sides_tell, at_end_has, each_changed, each_push}
+use Rattle.grasp_laws_delivery.proofs.Sides.{sides_tell, at_end_has, each_mapped, each_changed, each_push, closed_sends, closed_says}
+use Rattle.grasp_laws_delivery.proofs.Turned.{told_by}
 use Rattle.grasp_laws_delivery.specs.Fits.{CanBeSent, AllCanBeSent, SaidFits}
 use Rattle.grasp_laws_delivery.specs.Saying.{said_by}
 
@@ -86,20 +91,12 @@ numbered_can limit e n t k = at_end_has (CanBeSent limit) e (with_number n) t (�
   sends Near = refl
   sends Far = refl
 
+shut_can : (limit : ℕ) (t : StreamState) (by : Side) → CanBeSent limit t → CanBeSent limit (with_side told_closed t by)
+shut_can limit t by k =
+    same_can limit t (with_side told_closed t by) (λ side. ap (λ (said : List Said). reverse (spoken side said)) (closed_says t by)) (λ side. ap (λ (d : Direction). d.sent) (closed_sends t by side)) k
+
 told_can : (limit : ℕ) (e : StreamEnd) (t : StreamState) → CanBeSent limit t → CanBeSent limit (at_end e (with_side told_closed) t)
-told_can limit e t k = at_end_has (CanBeSent limit) e (with_side told_closed) t (λ none. k) some where
-  sends : (by side : Side) → (sent_by (with_side told_closed t by) side).sent ≡ (sent_by t side).sent
-  sends Near Near = refl
-  sends Near Far = refl
-  sends Far Near = refl
-  sends Far Far = refl
-
-  says : (by side : Side) → said_by (with_side told_closed t by) side ≡ said_by t side
-  says Near side = refl
-  says Far side = refl
-
-  some : (by : Side) → end_at t by ≡ Some e → CanBeSent limit (with_side told_closed t by)
-  some by at = same_can limit t (with_side told_closed t by) (says by) (sends by) k
+told_can limit e t k = at_end_has (CanBeSent limit) e (with_side told_closed) t (λ none. k) (λ by at. shut_can limit t by k)
 
 opened_can : (limit : ℕ) (e far : StreamEnd) (a : Arrival) (t : StreamState) → CanBeSent limit t → CanBeSent limit (at_end e (with_far far a) t)
 opened_can limit e far a t k = at_end_has (CanBeSent limit) e (with_far far a) t (λ none. k) (λ by at. same_can limit t (record t { far = Some far; far_side = a }) (λ side. refl) sends k) where
@@ -169,7 +166,7 @@ handed_can : (limit : ℕ) (s : Setting) (node : ℕ) (seat : Seat) (qs : List Q
     → AllCanBeSent limit (fold (having_sent s node seat) w qs).streams
 handed_can limit s node seat [] w can each = each
 handed_can limit s node seat (datagram link to m ∷ qs) w can each =
-    handed_can limit s node seat qs (having_sent s node seat w (datagram link to m)) (All-tail (CanSend limit) (datagram link to m) qs can) (posted_each (CanBeSent limit) w m (route_of s node link to) each)
+    handed_can limit s node seat qs (having_sent s node seat w (datagram link to m)) (All-tail (CanSend limit) (datagram link to m) qs can) (posted_each (CanBeSent limit) w m (route_of s (member_of w node) link to) each)
 handed_can limit s node seat (dial stream to ∷ qs) w can each =
     handed_can limit s node seat qs (having_sent s node seat w (dial stream to)) (All-tail (CanSend limit) (dial stream to) qs can)
     (each_changed (CanBeSent limit) (CanBeSent limit) w.streams (end_of node seat stream) (with_number (w.dials + 1)) (numbered_can limit (end_of node seat stream) (w.dials + 1)) each)
@@ -197,14 +194,22 @@ drained_can s good w node max (Some seat) r here each = from (begin seat.core se
       (handed_can good.limit s node seat (take max m.queue) (with_seat w node (seat_with seat (after_drain m max) seat.agent))
       (All-take (CanSend good.limit) max m.queue (subst (λ (q : List Queued). All (CanSend good.limit) q) (sym e) queue)) each)
 
--- ---- every event
+-- ---- every turn
+
+one_can : (limit : ℕ) (w x : WorldState) → OneAgent w x → AllCanBeSent limit w.streams → AllCanBeSent limit x.streams
+one_can limit w x o each = subst (λ (y : WorldState). AllCanBeSent limit y.streams) (sym o.after) each
+
+restart_can : (limit : ℕ) (s : Setting) (node life : ℕ) (ts : List StreamState) → AllCanBeSent limit ts → AllCanBeSent limit (map (told_at s node life) ts)
+restart_can limit s node life ts each = each_mapped (CanBeSent limit) (CanBeSent limit) (told_at s node life) ts (told_by (CanBeSent limit) (shut_can limit) s node life) each
 
 fit_parts : (s : Setting) (good : IsGoodSetting s) → PartsKeep s (λ w. AllCanBeSent good.limit w.streams)
 unfolding network.drained
 fit_parts s good = record {
   steps = λ w e c v r each o is step reached. step_can s good w e c v r o is step each;
-  told = λ w x e r t each. subst (λ (y : WorldState). AllCanBeSent good.limit y.streams) (sym t.after) each;
+  told = λ w x e r t each. one_can good.limit w x (one_agent s w e x t) each;
   drains = λ w node max r each least. drained_can s good w node max (seat_at w node) r refl each;
+  settles = λ w x node p r t each. one_can good.limit w x t.one each;
+  restarts = λ w x node image r t each. subst (AllCanBeSent good.limit) (sym t.streams) (restart_can good.limit s node (present_life w node) w.streams each);
 }
 
 pub said_fits : SaidFits

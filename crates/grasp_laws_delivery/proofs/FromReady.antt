@@ -1,5 +1,5 @@
 -- What follows of this: no two streams have one end, and what is queued can be sent in order.
-use Rattle.std.proofs.Common.{◌≡◌, ◌≢◌, refl, sym, ap, ◌∙◌, subst, arith, ℕ, zero, suc, ◌≤◌, ◌%◌, ◌==◌, Bool, true, false, cond, is_some, ◌⊎◌, inl, inr, List, [], ◌∷◌, ◌++◌, length, Option, None, Some, slice_get}
+use Rattle.std.proofs.Common.{◌≡◌, ◌≢◌, refl, sym, ap, ◌∙◌, subst, arith, ℕ, zero, suc, ◌≤◌, ◌<◌, ◌%◌, ◌==◌, Bool, true, false, cond, is_some, ◌⊎◌, inl, inr, List, [], ◌∷◌, ◌++◌, length, Option, None, Some, slice_get}
 use Rattle.std.proofs.lemmas.Bool.{eqb-true, eq-eqb}
 use Rattle.std.proofs.lemmas.Bool.Decides.{eqb_tells}
 use Rattle.std.proofs.lemmas.Option.{none-some, same_Some as some_same}
@@ -8,6 +8,7 @@ use Rattle.grasp_session.specs.Messages.{Side, Near, Far}
 use Rattle.grasp_types.specs.declared.address.Locator.{Locator}
 use Rattle.grasp_types.specs.declared.message.Message.{Message}
 use Rattle.grasp_model_network.specs.EventSteps.{arrival_visit}
+use Rattle.grasp_model_network.specs.Plans.{IsNode}
 use Rattle.grasp_model_network.specs.Runs.{IsReached}
 use Rattle.grasp_model_network.specs.Setting.{Setting}
 use Rattle.grasp_model_network.specs.Streams.{StreamEnd, StreamState, end_at, has_end, side_of_end, count_at_end, is_number, with_number, with_sent, at_end, change_at_end, stream_numbered}
@@ -22,7 +23,7 @@ use Rattle.grasp_laws_delivery.proofs.SaneNetworks.{sane}
 use Rattle.grasp_laws_delivery.proofs.Sides.{IsDistinct, end_found, at_end_has, each_changed, place_changed}
 use Rattle.grasp_laws_delivery.specs.Saying.{OfEachStream, queued_for}
 
-every_at : (P : StreamState → Type 0) (ts : List StreamState) → Every P ts → OfEachStream P ts
+pub every_at : (P : StreamState → Type 0) (ts : List StreamState) → Every P ts → OfEachStream P ts
 every_at P [] h place t found = absurd (none-some t found)
 every_at P (x ∷ xs) h zero t found = subst P (some_same x t found) h.0
 every_at P (x ∷ xs) h (suc i) t found = every_at P xs h.1 i t found
@@ -30,19 +31,20 @@ every_at P (x ∷ xs) h (suc i) t found = every_at P xs h.1 i t found
 -- ---- ends
 
 -- a far end, with the number of its stream
-record IsFarOf (s : Setting) (number : Option ℕ) (e : StreamEnd) : Type 0 where
+record IsFarOf (s : Setting) (nodes : ℕ) (number : Option ℕ) (e : StreamEnd) : Type 0 where
   k : ℕ
   is : number ≡ Some k
   least : 1 ≤ k
+  member : IsNode nodes e.node
   life : e.life ≡ 0
   arrives : e.number ≡ s.arrives_as e.node k
 
-far_of : (s : Setting) (nodes dials : ℕ) (number : Option ℕ) (far : Option StreamEnd) (e : StreamEnd) → HasGoodNumber dials number → HasGoodFar s nodes number far → far ≡ Some e → IsFarOf s number e
+far_of : (s : Setting) (nodes dials : ℕ) (number : Option ℕ) (far : Option StreamEnd) (e : StreamEnd) → HasGoodNumber dials number → HasGoodFar s nodes number far → far ≡ Some e → IsFarOf s nodes number e
 far_of s nodes dials None None e n g at = absurd (none-some e at)
 far_of s nodes dials (Some k) None e n g at = absurd (none-some e at)
 far_of s nodes dials None (Some f) e n g at = absurd g
 far_of s nodes dials (Some k) (Some f) e n g at =
-    subst (λ (x : StreamEnd). IsFarOf s (Some k) x) (some_same f e at) (record { k = k; is = refl; least = n.0; life = g.1; arrives = g.2 })
+    subst (λ (x : StreamEnd). IsFarOf s nodes (Some k) x) (some_same f e at) (record { k = k; is = refl; least = n.0; member = g.0; life = g.1; arrives = g.2 })
 
 not_both : (n : ℕ) → n % 2 ≡ 0 → n % 2 ≡ 1 → ⊥
 not_both n a b = omega (arith, a, b)
@@ -51,7 +53,7 @@ pub distinct : StreamsAreReady → (s : Setting) (w : WorldState) → IsReached 
 distinct ready s w r place t found e far near = by_ends (every_at (λ x. HasGoodEnds s (length w.seats) w.dials x.near x.number x.far) w.streams (ready.ends s w r) place t found) where
   by_ends : HasGoodEnds s (length w.seats) w.dials t.near t.number t.far → ⊥
   by_ends g = by_far (far_of s (length w.seats) w.dials t.number t.far e g.dialled g.opened far) where
-    by_far : IsFarOf s t.number e → ⊥
+    by_far : IsFarOf s (length w.seats) t.number e → ⊥
     by_far f =
         not_both e.number (ap (λ (x : StreamEnd). x.number % 2) (sym near) ∙ g.even)
         (ap (λ n. n % 2) f.arrives ∙ r.good.arrivals_odd e.node f.k f.least)
@@ -61,6 +63,25 @@ first_lives ready s w r place t found = by_ends (every_at (λ x. HasGoodEnds s (
   by_ends : HasGoodEnds s (length w.seats) w.dials t.near t.number t.far → (side : Side) (e : StreamEnd) → end_at t side ≡ Some e → e.life ≡ 0
   by_ends g Near e at = ap (λ (x : StreamEnd). x.life) (sym (some_same t.near e at)) ∙ g.life
   by_ends g Far e at = (far_of s (length w.seats) w.dials t.number t.far e g.dialled g.opened at).life
+
+-- each end of a stream is at one of so many lives
+pub good_within : (s : Setting) (nodes dials : ℕ) (t : StreamState) → HasGoodEnds s nodes dials t.near t.number t.far → (side : Side) (e : StreamEnd) → end_at t side ≡ Some e → IsNode nodes e.node
+good_within s nodes dials t g Near e at = subst (λ (x : StreamEnd). IsNode nodes x.node) (some_same t.near e at) g.member
+good_within s nodes dials t g Far e at = (far_of s nodes dials t.number t.far e g.dialled g.opened at).member
+
+-- each end of a stream is at a life that is there
+pub ends_within : StreamsAreReady → (s : Setting) (w : WorldState) → IsReached s w
+    → OfEachStream (λ t. (side : Side) (e : StreamEnd) → end_at t side ≡ Some e → IsNode (length w.seats) e.node) w.streams
+ends_within ready s w r place t found =
+    good_within s (length w.seats) w.dials t (every_at (λ x. HasGoodEnds s (length w.seats) w.dials x.near x.number x.far) w.streams (ready.ends s w r) place t found)
+
+-- so that no stream has one at a life that isn't there
+pub none_beyond : StreamsAreReady → (s : Setting) (w : WorldState) → IsReached s w → (life : ℕ) (seat : Seat) (stream : ℕ) → length w.seats < life
+    → OfEachStream (λ t. (side : Side) → end_at t side ≢ Some (end_of life seat stream)) w.streams
+none_beyond ready s w r life seat stream past place t found side at =
+    let within : IsNode (length w.seats) life = ends_within ready s w r place t found side (end_of life seat stream) at in
+    let most : life ≤ length w.seats = within.most in
+    omega (arith, past, most)
 
 -- ---- a stream that is opened
 
@@ -97,7 +118,7 @@ new_end ready s w r k v is place u found = by_opening (opening_is s w k v is) wh
           not_both (s.arrives_as v.node k)
           (ap (λ (x : StreamEnd). x.number % 2) (sym (some_same u.near (end_of v.node v.seat (s.arrives_as v.node k)) at)) ∙ (good place u found).even) (r.good.arrivals_odd v.node k n.0)
       by_number n Far at = by_far (far_of s (length w.seats) w.dials u.number u.far (end_of v.node v.seat (s.arrives_as v.node k)) (good place u found).dialled (good place u found).opened at) where
-        by_far : IsFarOf s u.number (end_of v.node v.seat (s.arrives_as v.node k)) → ⊥
+        by_far : IsFarOf s (length w.seats) u.number (end_of v.node v.seat (s.arrives_as v.node k)) → ⊥
         by_far f =
             let same : k ≡ f.k = r.good.arrivals_apart v.node k f.k n.0 f.least f.arrives in
             let one : u ≡ o.talk = one_passing (λ x. is_number k x.number) w.streams place here.place u o.talk (ready.once s w r k n.0 n.1) found (so_numbered k u.number (f.is ∙ ap (λ x. Some x) (sym same))) here.stands number in

@@ -45,8 +45,8 @@ use Rattle.grasp_laws_delivery.specs.Saying.{OfEachStream}
 -- every node has the limit of the network
 pub limit_by : (s : Setting) (good : IsGoodSetting s) (w : WorldState) → IsReached s w → (node : ℕ) (seat : Seat) → seat_at w node ≡ Some seat → seat.core.plan.limit ≡ good.limit
 limit_by s good w r = reached_each (λ k n. n.plan.limit ≡ good.limit) s w (λ k n after now i x q same step. ap (λ (p : NodePlan). p.limit) (step_plan n after now i x q step) ∙ same) first r where
-  first : (k : ℕ) (m : Member) → numbered s.members k ≡ Some m → (first_node m.plan).plan.limit ≡ good.limit
-  first k m is = (numbered_all (IsGoodMember good.limit) s.members k m good.members is).limit_is
+  first : (life k : ℕ) (m : Member) → numbered s.members k ≡ Some m → (first_node m.plan).plan.limit ≡ good.limit
+  first life k m is = (numbered_all (IsGoodMember good.limit) s.members k m good.members is).limit_is
 
 pub limit_is : (s : Setting) (w : WorldState) (r : IsReached s w) → (node : ℕ) (seat : Seat) → seat_at w node ≡ Some seat → seat.core.plan.limit ≡ r.good.limit
 limit_is s w r = limit_by s r.good w r

@@ -1,23 +1,28 @@
--- An event is a undrained one and then a drain: what each of the two keeps is so of every network that events lead to.
-use Rattle.std.proofs.Common.{◌≡◌, refl, sym, ap, ◌∙◌, subst, arith, tests, ℕ, ◌≤◌, Bool, true, false, ◌⊎◌, inl, inr, nat_lt, [], Option, None, Some}
-use Rattle.grasp_laws_network.proofs.Going.{reached_more}
+-- An event is an undrained one and then a drain: what each of the two keeps, and each other turn, is so of every network that turns lead to.
+use Rattle.std.proofs.Common.{◌≡◌, refl, sym, ap, ◌∙◌, subst, arith, tests, ℕ, ◌≤◌, Bool, true, false, ◌⊎◌, inl, inr, nat_lt, Option, None, Some}
+use Rattle.grasp_laws_network.proofs.Going.{reached_more, reached_holds}
 use Rattle.grasp_laws_network.proofs.Growing.{behind_grows}
 use Rattle.grasp_laws_network.proofs.Here.{visits_are_here}
-use Rattle.grasp_laws_network.proofs.Reached.{reached_keeps}
+use Rattle.grasp_laws_network.proofs.Restarted.{Restarting, restarting_is}
+use Rattle.grasp_laws_network.proofs.Settled.{Settling, settling_is}
 use Rattle.grasp_laws_network.proofs.Telling.{none_tells}
 use Rattle.grasp_model_network.specs.Events.{Occurs, IsFit, visit_of, after_visit, after_none, after_by, after_event, drains, drained_behind}
 use Rattle.grasp_laws_network.specs.Keeping.{WorldGrows}
 use Rattle.grasp_laws_network.specs.Telling.{Tells}
-use Rattle.grasp_model_network.specs.Runs.{IsRun, IsReached, first_world, world_after}
+use Rattle.grasp_model_network.specs.Restarting.{after_restart}
+use Rattle.grasp_model_network.specs.Runs.{IsReached, first_world}
 use Rattle.grasp_model_network.specs.Sending.{drained, event_drain}
 use Rattle.grasp_model_network.specs.Setting.{Setting}
+use Rattle.grasp_model_network.specs.Settling.{after_settle}
 use Rattle.grasp_model_network.specs.Visits.{Visit, Choice, MayCome}
 use Rattle.grasp_model_network.specs.World.{WorldState, is_too_much, most_bytes}
 use Rattle.grasp_model_network.specs.declared.event.Event.{Event}
 use Rattle.grasp_model_network.specs.declared.event.Event.TheVariants as event
+use Rattle.grasp_pool.specs.declared.image.PoolImage.{PoolImage}
+use Rattle.grasp_types.specs.Prefix.{AddressBlock as Prefix}
 use Rattle.grasp_laws_delivery.specs.Undrained.{undrained, UndrainedAreReached}
 
--- ---- a undrained event
+-- ---- an undrained event
 
 held_visit : (s : Setting) (w : WorldState) (e : Event) → visit_of s w (undrained e) ≡ visit_of s w e
 held_visit s w (event.Clock node millis) = refl
@@ -66,7 +71,7 @@ held_occurs s w e c v o is = record {
 pub held_reached : UndrainedAreReached
 held_reached s w e c v r o is = subst (λ (x : WorldState). IsReached s x) (held_event s w e c v is) (reached_more s w (undrained e) c r (held_occurs s w e c v o is))
 
--- ---- what each part of an event keeps
+-- ---- what each part of an event and each other turn keeps
 
 -- the event makes a step that isn't a drain
 abbrev pub IsStep : Event → Type 0
@@ -76,13 +81,17 @@ IsStep (event.Drain node max) = ⊥
 IsStep _ = Unit {0}
 
 pub record PartsKeep (s : Setting) (P : WorldState → Type 0) : Type 0 where
-  -- a step, and the network after it, which events lead to
+  -- a step, and the network after it, which turns lead to
   pub steps : (w : WorldState) (e : Event) (c : Choice) (v : Visit) → IsReached s w → P w → Occurs s w e c → visit_of s w e ≡ Some v → IsStep e → IsReached s (after_visit s w e v c)
       → P (after_visit s w e v c)
   -- an agent that is told something
   pub told : (w x : WorldState) (e : Event) → IsReached s w → Tells s w e x → P w → P x
   -- a drain
   pub drains : (w : WorldState) (node max : ℕ) → IsReached s w → P w → 1 ≤ node → P (drained s w node max)
+  -- a settling
+  pub settles : (w x : WorldState) (node : ℕ) (p : Prefix) → IsReached s w → Settling w node p x → P w → P x
+  -- a restart
+  pub restarts : (w x : WorldState) (node : ℕ) (image : PoolImage) → IsReached s w → Restarting s w node image x → P w → P x
 
 part_kept : (s : Setting) (P : WorldState → Type 0) → PartsKeep s P → (w : WorldState) (e : Event) (c : Choice) (v : Visit) → IsReached s w → P w → Occurs s w e c → visit_of s w e ≡ Some v → 1 ≤ v.node
     → P (after_visit s w e v c)
@@ -116,9 +125,10 @@ event_kept s P k w e c r p o = by_visit (visit_of s w e) refl where
       let least = (visits_are_here s w e v is).member.least in
       behind_kept s P k (drains e) (after_visit s w e v c) v.node (held_reached s w e c v r o is) (part_kept s P k w e c v r p o is least) least
 
--- what holds of the first network, and is kept by each part of an event, holds of every network that events lead to
+-- what holds of the first network, and is kept by each part of an event and by each other turn, holds of every network that turns lead to
 pub parts_keep : (s : Setting) (P : WorldState → Type 0) → PartsKeep s P → P (first_world s) → (w : WorldState) → IsReached s w → P w
-unfolding IsRun world_after
-parts_keep s P k first w r = (reached_keeps s (λ x. IsReached s x × P x) (here, first) (λ x e c o h. (reached_more s x e c h.0 o, event_kept s P k x e c h.0 h.1 o)) w r).1 where
-  here : IsReached s (first_world s)
-  here = record { good = r.good; happenings = []; run = tt; last = refl }
+parts_keep s P k first w r = reached_holds s P first (record {
+  events = λ x e c g o p. event_kept s P k x e c g p o;
+  settles = λ x node p g dead all. k.settles x (after_settle x node p) node p g (settling_is x node p dead) all;
+  restarts = λ x node image g may all. k.restarts x (after_restart s x node image) node image g (restarting_is s x node image may) all;
+}) w r

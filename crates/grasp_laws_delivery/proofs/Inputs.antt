@@ -9,10 +9,10 @@ use Rattle.grasp_types.specs.declared.traffic.Input.TheVariants as input
 use Rattle.grasp_model_network.specs.EventSteps.{agent_visit, agent_seat, agent_input, arrival_visit, opened_stream, opened_at, clock_seat, cut_visit, cut_at, datagram_visit, datagram_at, piece_visit, piece_at}
 use Rattle.grasp_model_network.specs.Events.{visit_of}
 use Rattle.grasp_model_network.specs.StreamChanges.{Reached, reached_side, side_named}
-use Rattle.grasp_model_network.specs.Setting.{Member, Setting, numbered, member_at}
+use Rattle.grasp_model_network.specs.Setting.{Setting, numbered, member_at}
 use Rattle.grasp_model_network.specs.Streams.{StreamState, is_waiting, next_bytes, stream_numbered}
 use Rattle.grasp_model_network.specs.Visits.{Visit, visit_seat}
-use Rattle.grasp_model_network.specs.World.{Seat, SentDatagram, WorldState, seat_at}
+use Rattle.grasp_model_network.specs.World.{Seat, SentDatagram, WorldState, present_life, seat_at}
 use Rattle.grasp_model_network.specs.declared.event.Event.TheVariants as event
 
 -- the input takes nothing from the queue, and opens no stream
@@ -47,7 +47,9 @@ agent_plain node v (Some seat) is = subst IsPlain (visit_input node (agent_input
 
 datagram_plain : (w : WorldState) (v : Visit) (o : Option SentDatagram) → datagram_at w o ≡ Some v → IsPlain v.input
 datagram_plain w v None is = absurd (none-some v is)
-datagram_plain w v (Some d) is = subst IsPlain (visit_input d.route.receiver (input.Datagram d.route.link d.route.from (encoding d.message)) v (seat_at w d.route.receiver) is) tt
+datagram_plain w v (Some d) is =
+    let life : ℕ = present_life w d.route.receiver in
+    subst IsPlain (visit_input life (input.Datagram d.route.link d.route.from (encoding d.message)) v (seat_at w life) is) tt
 
 piece_plain : (w : WorldState) (far : Bool) (count : ℕ) (v : Visit) (o : Option Reached) → piece_at w (side_named far) count o ≡ Some v → IsPlain v.input
 piece_plain w far count v None is = absurd (none-some v is)
@@ -60,11 +62,11 @@ cut_plain w v (Some x) is = subst IsPlain (visit_input x.at.node (input.Closed x
 -- ---- the visits of each kind of event
 
 pub clock_input : (s : Setting) (w : WorldState) (node millis : ℕ) (v : Visit) → visit_of s w (event.Clock node millis) ≡ Some v → IsPlain v.input
-clock_input s w node millis v is = clock_plain node millis v (seat_at w node) is
+clock_input s w node millis v is = clock_plain (present_life w node) millis v (seat_at w (present_life w node)) is
 
 pub agent_plain_input : (s : Setting) (w : WorldState) (node : ℕ) (hold : Bool) (v : Visit) → visit_of s w (event.Agent node hold) ≡ Some v → IsPlain v.input
 unfolding agent_visit
-agent_plain_input s w node hold v is = agent_plain node v (seat_at w node) is
+agent_plain_input s w node hold v is = agent_plain (present_life w node) v (seat_at w (present_life w node)) is
 
 pub datagram_input : (s : Setting) (w : WorldState) (index : ℕ) (hold : Bool) (v : Visit) → visit_of s w (event.Datagram index hold) ≡ Some v → IsPlain v.input
 unfolding datagram_visit
@@ -93,20 +95,21 @@ record Opens (s : Setting) (k : ℕ) (v : Visit) : Type 0 where
   pub from : Address
   pub input_is : v.input ≡ input.Opened (s.arrives_as v.node k) from
 
-opens_by : (s : Setting) (w : WorldState) (k : ℕ) (v : Visit) (to : Option ℕ) (near : Option Member) → opened_at s w k to near ≡ Some v → Opens s k v
+opens_by : (s : Setting) (w : WorldState) (k : ℕ) (v : Visit) (to : Option ℕ) (near : Option Seat) → opened_at s w k to near ≡ Some v → Opens s k v
 opens_by s w k v None near is = absurd (none-some v is)
 opens_by s w k v (Some node) None is = absurd (none-some v is)
 opens_by s w k v (Some node) (Some near) is =
-    let i : Input = input.Opened (s.arrives_as node k) (s.arrives_from k near.plan.address) in
+    let life : ℕ = present_life w node in
+    let i : Input = input.Opened (s.arrives_as life k) (s.arrives_from k near.core.plan.address) in
     record {
-      from = s.arrives_from k near.plan.address;
-      input_is = subst (λ n. v.input ≡ input.Opened (s.arrives_as n k) (s.arrives_from k near.plan.address)) (visit_node node i v (seat_at w node) is) (sym (visit_input node i v (seat_at w node) is));
+      from = s.arrives_from k near.core.plan.address;
+      input_is = subst (λ n. v.input ≡ input.Opened (s.arrives_as n k) (s.arrives_from k near.core.plan.address)) (visit_node life i v (seat_at w life) is) (sym (visit_input life i v (seat_at w life) is));
     }
 
 waits_by : (s : Setting) (w : WorldState) (k : ℕ) (v : Visit) (t : StreamState) → stream_numbered w.streams k ≡ Some t → (b : Bool) → is_waiting t.far_side ≡ b
-    → cond b (opened_at s w k (member_at s t.to) (numbered s.members t.near.node)) None ≡ Some v → Arrives s w k v
+    → cond b (opened_at s w k (member_at s t.to) (seat_at w t.near.node)) None ≡ Some v → Arrives s w k v
 waits_by s w k v t found true waits is =
-    let o = opens_by s w k v (member_at s t.to) (numbered s.members t.near.node) is in record { talk = t; found = found; waits = waits; from = o.from; input_is = o.input_is }
+    let o = opens_by s w k v (member_at s t.to) (seat_at w t.near.node) is in record { talk = t; found = found; waits = waits; from = o.from; input_is = o.input_is }
 waits_by s w k v t found false waits is = absurd (none-some v is)
 
 arrives_by : (s : Setting) (w : WorldState) (k : ℕ) (v : Visit) (o : Option StreamState) → stream_numbered w.streams k ≡ o → opened_stream s w k o ≡ Some v → Arrives s w k v

@@ -6,6 +6,7 @@ pub mod Counts
 pub mod Draining
 pub mod EachStep
 pub mod EndMaps
+pub mod EndedLives
 pub mod Ends
 pub mod Events
 pub mod FarSides
@@ -27,9 +28,11 @@ pub mod Making
 pub mod NodeMoves
 pub mod OnePlace
 pub mod Opening
+pub mod Present
 pub mod Ranged
 pub mod RangedNetworks
 pub mod Readying
+pub mod Received
 pub mod Said
 pub mod Sane
 pub mod SaneNetworks
@@ -38,4 +41,5 @@ pub mod SentBytes
 pub mod Sides
 pub mod Stepping
 pub mod StreamsReady
+pub mod Turned
 pub mod Worlds

@@ -1,4 +1,4 @@
--- In every network that events lead to, the datagrams that are queued, and those that were sent, are messages in range.
+-- In every network that turns lead to, the datagrams that are queued, and those that were sent, are messages in range.
 use Rattle.std.proofs.Common.{◌≡◌, refl, sym, subst, ℕ, List, [], ◌∷◌, fold, take, Option, None, Some, All}
 use Rattle.std.proofs.lemmas.List.Elements.{All-nil, All-head, All-tail, All-push, All-take, All-drop}
 use Rattle.grasp_laws_node.proofs.Beginning.{beginnings_end}
@@ -15,6 +15,8 @@ use Rattle.grasp_types.specs.declared.message.Message.{Message}
 use Rattle.grasp_types.specs.declared.reply.Reply.{Reply}
 use Rattle.grasp_types.specs.declared.traffic.Input.{Input}
 use Rattle.grasp_laws_network.proofs.Openings.{worlds_begin}
+use Rattle.grasp_laws_network.proofs.Telling.{one_agent}
+use Rattle.grasp_laws_network.specs.Telling.{OneAgent}
 use Rattle.grasp_model_network.specs.EventSteps.{after_agent_call, after_agent, after_arrival, after_clock, after_cut, after_delivery, after_piece}
 use Rattle.grasp_model_network.specs.StreamChanges.{arrived, told, Reached, reached_side, side_named, delivered}
 use Rattle.grasp_model_network.specs.Events.{after_visit}
@@ -26,7 +28,7 @@ use Rattle.grasp_model_network.specs.Sending.{seat_with, stepped, posted, having
 use Rattle.grasp_model_network.specs.Setting.{Setting}
 use Rattle.grasp_model_network.specs.Streams.{StreamState, stream_numbered}
 use Rattle.grasp_model_network.specs.Visits.{Visit, Choice, MayCome, no_choice}
-use Rattle.grasp_model_network.specs.World.{Seat, SentDatagram, WorldState, seat_at, with_seat}
+use Rattle.grasp_model_network.specs.World.{Seat, SentDatagram, WorldState, member_of, seat_at, with_seat}
 use Rattle.grasp_model_network.specs.declared.event.Event.{Event}
 use Rattle.grasp_model_network.specs.declared.event.Event.TheVariants as event
 use Rattle.grasp_laws_delivery.proofs.Holding.{IsStep, PartsKeep, parts_keep}
@@ -54,7 +56,7 @@ drain_ranged m max q = All-drop IsRanged max m.queue q
 
 ranged_keep : (s : Setting) → NodesKeep s IsQueueRanged
 ranged_keep s = record {
-  first = λ node m is. subst (All IsRanged) (sym (worlds_begin m no_choice.coming).quiet) (All-nil IsRanged);
+  begins = λ node m h is. subst (All IsRanged) (sym (worlds_begin m.plan h no_choice.coming).quiet) (All-nil IsRanged);
   steps = λ w e c v r q o is here step.
       step_ranged v.seat.core c.after v.now v.input c.coming c.reply (real_plan s w r v.node v.seat here) (all_real s w r v.node v.seat here).real
       (input_good s w e v (all_real s w r) o.fit is step) q (subst (λ (x : Option Visit). MayCome x c) is o.comes).steps;
@@ -85,7 +87,7 @@ told_same w None = refl
 told_same w (Some x) = refl
 
 -- a step sends nothing
-stepped_same : (s : Setting) (w : WorldState) (e : Event) (v : Visit) (c : Choice) → IsStep e → (after_visit s w e v c).datagrams ≡ w.datagrams
+pub stepped_same : (s : Setting) (w : WorldState) (e : Event) (v : Visit) (c : Choice) → IsStep e → (after_visit s w e v c).datagrams ≡ w.datagrams
 unfolding after_clock after_agent after_agent_call after_delivery after_arrival after_piece after_cut noted stepped
 stepped_same s w (event.Want node length longest peer) v c is = absurd is
 stepped_same s w (event.Return node prefix peer) v c is = absurd is
@@ -100,7 +102,7 @@ posted_ranged w m None is all = all
 posted_ranged w m (Some route) is all = All-push IsSentRanged w.datagrams (record { route = route; message = m }) all is
 
 sent_ranged : (s : Setting) (node : ℕ) (seat : Seat) (w : WorldState) (q : Queued) → IsRanged q → AllSentRanged w → AllSentRanged (having_sent s node seat w q)
-sent_ranged s node seat w (datagram link to m) is all = posted_ranged w m (route_of s node link to) is all
+sent_ranged s node seat w (datagram link to m) is all = posted_ranged w m (route_of s (member_of w node) link to) is all
 sent_ranged s node seat w (dial stream to) is all = all
 sent_ranged s node seat w (send stream m) is all = all
 
@@ -122,12 +124,18 @@ drained_ranged s w node max (Some seat) r here all = from (begin seat.core seat.
       let put = with_seat w node (seat_with seat (after_drain m max) seat.agent) in
       closed_ranged node seat (closes m max) (fold (having_sent s node seat) put (take max m.queue)) (handed_ranged s node seat (take max m.queue) put (All-take IsRanged max m.queue q) all)
 
+-- another agent sends nothing
+one_sent : (w x : WorldState) → OneAgent w x → AllSentRanged w → AllSentRanged x
+one_sent w x o all = subst AllSentRanged (sym o.after) all
+
 sent_parts : (s : Setting) → PartsKeep s AllSentRanged
 unfolding network.drained
 sent_parts s = record {
   steps = λ w e c v r all o is step reached. subst (All IsSentRanged) (sym (stepped_same s w e v c step)) all;
-  told = λ w x e r t all. subst AllSentRanged (sym t.after) all;
+  told = λ w x e r t all. one_sent w x (one_agent s w e x t) all;
   drains = λ w node max r all least. drained_ranged s w node max (seat_at w node) r refl all;
+  settles = λ w x node p r t all. one_sent w x t.one all;
+  restarts = λ w x node image r t all. subst AllSentRanged (sym t.rest) all;
 }
 
 pub all_sent_ranged : (s : Setting) (w : WorldState) → IsReached s w → AllSentRanged w

@@ -100,11 +100,12 @@ delivered_sane e count t k = at_end_has IsSane e (with_delivered count) t (λ no
     waiting = k.waiting;
   }
 
+pub shut_sane : (t : StreamState) (side : Side) → IsSane t → IsSane (with_side told_closed t side)
+shut_sane t Near k = record { said = k.said; sent = k.sent; came = k.came; near_within = k.near_within; far_within = k.far_within; waiting = k.waiting }
+shut_sane t Far k = record { said = k.said; sent = k.sent; came = k.came; near_within = k.near_within; far_within = k.far_within; waiting = λ h. absurd (true≢false (sym h)) }
+
 pub told_sane : (e : StreamEnd) (t : StreamState) → IsSane t → IsSane (at_end e (with_side told_closed) t)
-told_sane e t k = at_end_has IsSane e (with_side told_closed) t (λ none. k) some where
-  some : (side : Side) → end_at t side ≡ Some e → IsSane (with_side told_closed t side)
-  some Near at = record { said = k.said; sent = k.sent; came = k.came; near_within = k.near_within; far_within = k.far_within; waiting = k.waiting }
-  some Far at = record { said = k.said; sent = k.sent; came = k.came; near_within = k.near_within; far_within = k.far_within; waiting = λ h. absurd (true≢false (sym h)) }
+told_sane e t k = at_end_has IsSane e (with_side told_closed) t (λ none. k) (λ side at. shut_sane t side k)
 
 pub opened_sane : (e far : StreamEnd) (a : Arrival) (t : StreamState) → is_waiting a ≡ false → IsSane t → IsSane (at_end e (with_far far a) t)
 opened_sane e far a t gone k = at_end_has IsSane e (with_far far a) t (λ none. k) some where

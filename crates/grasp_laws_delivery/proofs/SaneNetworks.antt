@@ -1,5 +1,5 @@
--- In every network that events lead to, a side that isn't there said nothing, and no more is delivered than was sent.
-use Rattle.std.proofs.Common.{◌≡◌, refl, sym, subst, ℕ, ◌+◌, false, List, [], ◌∷◌, fold, take, Option, None, Some}
+-- In every network that turns lead to, a side that isn't there said nothing, and no more is delivered than was sent.
+use Rattle.std.proofs.Common.{◌≡◌, refl, sym, subst, ℕ, ◌+◌, false, List, [], ◌∷◌, fold, map, take, Option, None, Some}
 use Rattle.std.proofs.lemmas.Option.{none-some}
 use Rattle.grasp_model_node.specs.Begin.{begin}
 use Rattle.grasp_model_node.specs.Draining.{closes, after_drain}
@@ -7,21 +7,25 @@ use Rattle.grasp_model_node.specs.Node.{NodeState}
 use Rattle.grasp_model_node.specs.Queue.{Queued, datagram, dial, send}
 use Rattle.grasp_types.specs.declared.reply.Reply.{Reply}
 use Rattle.grasp_types.specs.declared.reply.Reply.TheVariants as reply
+use Rattle.grasp_laws_network.proofs.Telling.{one_agent}
+use Rattle.grasp_laws_network.specs.Telling.{OneAgent}
 use Rattle.grasp_model_network.specs.StreamChanges.{arrival_by, arrived, told, Reached, reached_side, side_named, delivered}
 use Rattle.grasp_model_network.specs.Events.{after_visit}
+use Rattle.grasp_model_network.specs.Restarting.{told_at}
 use Rattle.grasp_model_network.specs.Routes.{route_of}
 use Rattle.grasp_model_network.specs.Runs.{IsReached, first_world}
 use Rattle.grasp_model_network.specs.Sending.{gained, having_made, streams_made, seat_with, having_sent, having_closed, handed_over, drained, drained_at, drained_from}
 use Rattle.grasp_model_network.specs.Setting.{Setting}
 use Rattle.grasp_model_network.specs.Streams.{StreamState, told_closed, is_waiting, fresh_stream, with_said, with_sent, with_ended, with_number, with_delivered, with_side, with_far, stream_numbered}
 use Rattle.grasp_model_network.specs.Visits.{Visit, Choice}
-use Rattle.grasp_model_network.specs.World.{Seat, WorldState, seat_at, with_seat, end_of}
+use Rattle.grasp_model_network.specs.World.{Seat, WorldState, present_life, member_of, seat_at, with_seat, end_of}
 use Rattle.grasp_model_network.specs.declared.event.Event.{Event}
 use Rattle.grasp_model_network.specs.declared.event.Event.TheVariants as event
 use Rattle.grasp_laws_delivery.proofs.AfterSteps.{posted_each, streams_before, streams_stepped}
 use Rattle.grasp_laws_delivery.proofs.Holding.{IsStep, PartsKeep, parts_keep}
-use Rattle.grasp_laws_delivery.proofs.Sane.{IsSane, said_sane, sent_sane, ended_sane, numbered_sane, delivered_sane, told_sane, opened_sane, dialled_sane}
-use Rattle.grasp_laws_delivery.proofs.Sides.{each_changed, each_push}
+use Rattle.grasp_laws_delivery.proofs.Sane.{IsSane, said_sane, sent_sane, ended_sane, numbered_sane, delivered_sane, shut_sane, told_sane, opened_sane, dialled_sane}
+use Rattle.grasp_laws_delivery.proofs.Sides.{each_mapped, each_changed, each_push}
+use Rattle.grasp_laws_delivery.proofs.Turned.{told_by}
 use Rattle.grasp_laws_delivery.specs.Saying.{OfEachStream}
 
 abbrev pub AreSane : List StreamState → Type 0
@@ -68,7 +72,7 @@ step_sane s w e v c is each = subst AreSane (sym (streams_stepped s w e v c is))
 
 handed_sane : (s : Setting) (node : ℕ) (seat : Seat) (qs : List Queued) (w : WorldState) → AreSane w.streams → AreSane (fold (having_sent s node seat) w qs).streams
 handed_sane s node seat [] w each = each
-handed_sane s node seat (datagram link to m ∷ qs) w each = handed_sane s node seat qs (having_sent s node seat w (datagram link to m)) (posted_each IsSane w m (route_of s node link to) each)
+handed_sane s node seat (datagram link to m ∷ qs) w each = handed_sane s node seat qs (having_sent s node seat w (datagram link to m)) (posted_each IsSane w m (route_of s (member_of w node) link to) each)
 handed_sane s node seat (dial stream to ∷ qs) w each =
     handed_sane s node seat qs (having_sent s node seat w (dial stream to))
     (each_changed IsSane IsSane w.streams (end_of node seat stream) (with_number (w.dials + 1)) (numbered_sane (end_of node seat stream) (w.dials + 1)) each)
@@ -89,14 +93,22 @@ drained_sane s w node max (Some seat) each = from (begin seat.core seat.core.rea
       closed_sane node seat (closes m max) (fold (having_sent s node seat) (with_seat w node (seat_with seat (after_drain m max) seat.agent)) (take max m.queue))
       (handed_sane s node seat (take max m.queue) (with_seat w node (seat_with seat (after_drain m max) seat.agent)) each)
 
--- ---- every event
+-- ---- every turn
+
+one_sane : (w x : WorldState) → OneAgent w x → AreSane w.streams → AreSane x.streams
+one_sane w x o each = subst (λ (y : WorldState). AreSane y.streams) (sym o.after) each
+
+restart_sane : (s : Setting) (node life : ℕ) (ts : List StreamState) → AreSane ts → AreSane (map (told_at s node life) ts)
+restart_sane s node life ts each = each_mapped IsSane IsSane (told_at s node life) ts (told_by IsSane shut_sane s node life) each
 
 sane_parts : (s : Setting) → PartsKeep s (λ w. AreSane w.streams)
 unfolding drained
 sane_parts s = record {
   steps = λ w e c v r each o is step reached. step_sane s w e v c step each;
-  told = λ w x e r t each. subst (λ (y : WorldState). AreSane y.streams) (sym t.after) each;
+  told = λ w x e r t each. one_sane w x (one_agent s w e x t) each;
   drains = λ w node max r each least. drained_sane s w node max (seat_at w node) each;
+  settles = λ w x node p r t each. one_sane w x t.one each;
+  restarts = λ w x node image r t each. subst AreSane (sym t.streams) (restart_sane s node (present_life w node) w.streams each);
 }
 
 pub sane : (s : Setting) (w : WorldState) → IsReached s w → AreSane w.streams

@@ -1,4 +1,4 @@
--- What was sent in a network that events lead to is bytes.
+-- What was sent in a network that turns lead to is bytes.
 use Rattle.std.proofs.Common.{◌≡◌, arith, ℕ, ◌+◌, ◌<◌, ◌≤◌, ◌^◌, List, [], ◌∷◌, length, drop, All}
 use Rattle.std.proofs.lemmas.Bool.{ltb-false}
 use Rattle.std.specs.Prelude.{sum_by}

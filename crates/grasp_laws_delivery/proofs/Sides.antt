@@ -1,9 +1,10 @@
 -- The sides of a stream, and what one of its ends changes.
-use Rattle.std.proofs.Common.{◌≡◌, ◌≢◌, refl, sym, ap, ◌∙◌, subst, ℕ, zero, suc, Bool, true, false, cond, ◌⊎◌, inl, inr, List, [], ◌∷◌, ◌++◌, Option, None, Some, slice_get}
+use Rattle.std.proofs.Common.{◌≡◌, ◌≢◌, refl, sym, ap, ◌∙◌, subst, ℕ, zero, suc, Bool, true, false, cond, ◌⊎◌, inl, inr, List, [], ◌∷◌, ◌++◌, map, Option, None, Some, slice_get}
 use Rattle.std.proofs.lemmas.Option.{none-some, same_Some}
 use Rattle.grasp_session.specs.Messages.{Side, Near, Far}
 use Rattle.grasp_laws_network.proofs.EachNode.{IsMade, is_made}
-use Rattle.grasp_model_network.specs.Streams.{StreamEnd, StreamState, is_same_end, is_at_end, end_at, side_of_end, changed_by, at_end, change_at_end}
+use Rattle.grasp_laws_network.proofs.Lists.{slice_map}
+use Rattle.grasp_model_network.specs.Streams.{StreamEnd, StreamState, told_closed, is_same_end, is_at_end, is_waiting, end_at, side_at, sent_by, side_of_end, changed_by, at_end, change_at_end, with_side}
 use Rattle.grasp_laws_delivery.proofs.Ends.{end_itself, same_ends}
 use Rattle.grasp_laws_delivery.specs.Saying.{OfEachStream}
 
@@ -68,12 +69,16 @@ at_end_has Q e f t none some = by_side (side_of_end e t) refl where
   by_side None is = none (none_there t e is)
   by_side (Some side) is = some side (end_found t e side is)
 
--- what is so of each stream, after one of them was changed
+-- what is so of each stream, after each was changed
+pub each_mapped : (P Q : StreamState → Type 0) (g : StreamState → StreamState) (ts : List StreamState) → ((t : StreamState) → P t → Q (g t)) → OfEachStream P ts → OfEachStream Q (map g ts)
+each_mapped P Q g ts turn each place u found = by_made (is_made g ts place u found) where
+  by_made : IsMade g ts place u → Q u
+  by_made m = subst Q m.made (turn m.of (each place m.of m.stands))
+
+-- and after one of them was
 pub each_changed : (P Q : StreamState → Type 0) (ts : List StreamState) (e : StreamEnd) (f : StreamState → Side → StreamState) → ((t : StreamState) → P t → Q (at_end e f t)) → OfEachStream P ts
     → OfEachStream Q (change_at_end ts e f)
-each_changed P Q ts e f turn each place u found = by_made (is_made (at_end e f) ts place u found) where
-  by_made : IsMade (at_end e f) ts place u → Q u
-  by_made m = subst Q m.made (turn m.of (each place m.of m.stands))
+each_changed P Q ts e f turn each = each_mapped P Q (at_end e f) ts turn each
 
 -- where something is so of each stream and of a new one, it is so of each once the new one is added behind the others
 pub each_push : (P : StreamState → Type 0) (ts : List StreamState) (t : StreamState) → P t → OfEachStream P ts → OfEachStream P (ts ++ t ∷ [])
@@ -89,6 +94,32 @@ place_kept (x ∷ xs) us zero t e = e
 place_kept (x ∷ xs) us (suc i) t e = place_kept xs us i t e
 
 pub place_changed : (ts : List StreamState) (e : StreamEnd) (f : StreamState → Side → StreamState) (i : ℕ) (t : StreamState) → slice_get ts i ≡ Some t → slice_get (change_at_end ts e f) i ≡ Some (at_end e f t)
-place_changed [] e f i t is = absurd (none-some t is)
-place_changed (x ∷ xs) e f zero t is = ap (λ y. Some (at_end e f y)) (same_Some x t is)
-place_changed (x ∷ xs) e f (suc i) t is = place_changed xs e f i t is
+place_changed ts e f i t is = slice_map (at_end e f) ts i t is
+
+-- ---- a side that is told that the stream is closed
+
+pub closed_ends : (t : StreamState) (by side : Side) → end_at (with_side told_closed t by) side ≡ end_at t side
+closed_ends t Near Near = refl
+closed_ends t Near Far = refl
+closed_ends t Far Near = refl
+closed_ends t Far Far = refl
+
+pub closed_sends : (t : StreamState) (by side : Side) → sent_by (with_side told_closed t by) side ≡ sent_by t side
+closed_sends t Near Near = refl
+closed_sends t Near Far = refl
+closed_sends t Far Near = refl
+closed_sends t Far Far = refl
+
+pub closed_says : (t : StreamState) (by : Side) → (with_side told_closed t by).said ≡ t.said
+closed_says t Near = refl
+closed_says t Far = refl
+
+pub closed_near : (t : StreamState) (by : Side) → (with_side told_closed t by).near ≡ t.near
+closed_near t Near = refl
+closed_near t Far = refl
+
+pub closed_there : (side : Side) (t : StreamState) (by : Side) → is_waiting (side_at t side) ≡ false → is_waiting (side_at (with_side told_closed t by) side) ≡ false
+closed_there Near t Near is = refl
+closed_there Near t Far is = is
+closed_there Far t Near is = is
+closed_there Far t Far is = refl

@@ -18,6 +18,7 @@ use Rattle.grasp_laws_delivery.proofs.Counts.{every_weaker, every_of}
 use Rattle.grasp_laws_delivery.proofs.EndMaps.{count_heads, count_numbers}
 use Rattle.grasp_laws_delivery.proofs.HeadApart.{kept_apart, kept_known}
 use Rattle.grasp_laws_delivery.proofs.HeadCounts.{EndsApart, good_apart}
+use Rattle.grasp_laws_delivery.proofs.Present.{sides_present}
 use Rattle.grasp_laws_delivery.proofs.Readying.{end_is, queue_ready}
 use Rattle.grasp_laws_delivery.proofs.Worlds.{reached_in_order}
 
@@ -81,5 +82,6 @@ streams_ready ties = record {
   records = λ s w r node seat here. records_once s w r.good (reached_in_order ties s w r).streams node seat here;
   next = λ s w r node seat here. all_below s w r.good (reached_in_order ties s w r).streams node seat here;
   nears = λ s w r node seat here. near_once s w r.good (reached_in_order ties s w r).streams node seat here;
+  present = λ s w r. sides_present ties s w r;
   waits = λ s w r. (reached_in_order ties s w r).streams.waits;
 }

@@ -18,13 +18,13 @@ pub record IsSentMessage (m : Message) : Type 0 where
   pub is_message : IsMessage m
   pub bytes : AllBytes (encoding m)
 
--- each datagram of a network that events lead to has a message with its parts within their ranges, and bytes below 256
+-- each datagram of a network that turns lead to has a message with its parts within their ranges, and bytes below 256
 abbrev pub DatagramsAreMessages : Type 0
 DatagramsAreMessages = (s : Setting) (w : WorldState) → IsReached s w → All (λ d. IsSentMessage d.message) w.datagrams
 
 pub record NodesAreFed : Type 0 where
-  -- each node of a network that events lead to has waiting on its open streams what came on them
+  -- each node of a network that turns lead to has waiting on its open streams what came on them
   pub nodes : (s : Setting) (w : WorldState) → IsReached s w → OfEachNode (λ node n. IsDivided n) w
-  -- in every network that events lead to, the node of an event has waiting on its open streams what came on them, and what
+  -- in every network that turns lead to, the node of an event has waiting on its open streams what came on them, and what
   -- the event brings is bytes
   pub visits : (s : Setting) (w : WorldState) (e : Event) → IsReached s w → IsFedWhere (visit_of s w e)

@@ -16,6 +16,6 @@ pub record CanBeSent (limit : ℕ) (t : StreamState) : Type 0 where
 abbrev pub AllCanBeSent : ℕ → List StreamState → Type 0
 AllCanBeSent limit ts = OfEachStream (CanBeSent limit) ts
 
--- in every network that events lead to, what was said or sent on streams can be sent within the limit of the plans
+-- in every network that turns lead to, what was said or sent on streams can be sent within the limit of the plans
 abbrev pub SaidFits : Type 0
 SaidFits = (s : Setting) (w : WorldState) (r : IsReached s w) → AllCanBeSent r.good.limit w.streams

@@ -1,4 +1,4 @@
--- What is so of the streams of every network that events lead to.
+-- What is so of the streams of every network that turns lead to.
 use Rattle.std.specs.Prelude.{◌≡◌, ◌≤◌, ◌<◌, ◌*◌, ◌⊎◌, ℕ, List, [], ◌∷◌, length, Option, None, Some, count_by}
 use Rattle.grasp_model_node.specs.Queue.{Queued, datagram, dial, send}
 use Rattle.grasp_types.specs.declared.address.Locator.{Locator}
@@ -36,7 +36,7 @@ pub record QueueKept (hs : List Head) (node : ℕ) (queue : List Queued) (dialle
   pub follows : Follows (λ number. IsArrived hs node number) sent queue dialled
   pub waits : Every (HeadWaits node sent queue) hs
 
--- the node is in its first life, its records are those of streams, and the streams that it dialled are there, in order
+-- the life is a seat of its own, its records are those of streams, and the streams that it dialled are there, in order
 pub record NodeKept (hs : List Head) (node : ℕ) (seat : Seat) : Type 0 where
   pub life : seat.earlier ≡ []
   pub queue : QueueKept hs node seat.core.queue seat.core.streams.dialled

@@ -1,13 +1,19 @@
 -- What is queued at a node can be sent in order: each dial's stream waits for it, and each message's stream was dialled before.
-use Rattle.std.specs.Prelude.{◌≡◌, ◌≤◌, ◌<◌, ◌*◌, ◌%◌, ℕ, true, List, [], ◌∷◌, Option, None, Some, length, count_by, All}
+use Rattle.std.specs.Prelude.{◌≡◌, ◌≤◌, ◌<◌, ◌*◌, ◌%◌, ℕ, true, false, List, [], ◌∷◌, Option, None, Some, length, count_by, All, slice_get}
+use Rattle.grasp_session.specs.Messages.{Side}
 use Rattle.grasp_model_node.specs.Queue.{Queued, datagram, dial, send}
 use Rattle.grasp_model_node.specs.Streams.{StreamRecord}
 use Rattle.grasp_types.specs.declared.address.Locator.{Locator}
+use Rattle.grasp_model_network.specs.Events.{IsFit, visit_of}
 use Rattle.grasp_model_network.specs.Plans.{IsNode}
 use Rattle.grasp_model_network.specs.Runs.{IsReached}
 use Rattle.grasp_model_network.specs.Setting.{Setting}
-use Rattle.grasp_model_network.specs.Streams.{StreamEnd, StreamState, is_waiting, is_number, has_end, count_at_end, change_at_end, with_number, with_sent}
-use Rattle.grasp_model_network.specs.World.{Seat, WorldState, seat_at, end_of}
+use Rattle.grasp_model_network.specs.Streams.{StreamEnd, StreamState, is_waiting, is_number, has_end, count_at_end, change_at_end, with_number, with_sent, lives, side_at, end_at}
+use Rattle.grasp_model_network.specs.Turns.{IsTurn, after_turn}
+use Rattle.grasp_model_network.specs.Visits.{Visit, Choice}
+use Rattle.grasp_model_network.specs.World.{Seat, WorldState, seat_at, end_of, is_present}
+use Rattle.grasp_model_network.specs.declared.event.Event.{Event}
+use Rattle.grasp_model_network.specs.declared.turn.Turn.{Turn}
 
 -- the property holds of each of the list
 abbrev pub Every : {X : Type 0} → (X → Type 0) → List X → Type 0
@@ -54,7 +60,7 @@ HasGoodFar s nodes number None = Unit {0}
 HasGoodFar s nodes None (Some e) = ⊥
 HasGoodFar s nodes (Some k) (Some e) = IsNode nodes e.node × (e.life ≡ 0) × (e.number ≡ s.arrives_as e.node k)
 
--- among so many nodes, of which all are in their first life: the near end is at one of them, and has an even number
+-- among so many lives: the near end is at one of them, and has an even number
 pub record HasGoodEnds (s : Setting) (nodes dials : ℕ) (near : StreamEnd) (number : Option ℕ) (far : Option StreamEnd) : Type 0 where
   pub member : IsNode nodes near.node
   pub life : near.life ≡ 0
@@ -65,6 +71,20 @@ pub record HasGoodEnds (s : Setting) (nodes dials : ℕ) (near : StreamEnd) (num
 -- a stream that waits to be opened has no far end
 abbrev pub FarWaits : StreamState → Type 0
 FarWaits t = is_waiting t.far_side ≡ true → t.far ≡ None
+
+-- a side that lives is at the present life of its node
+abbrev pub SidesArePresent : WorldState → Type 0
+SidesArePresent w = (place : ℕ) (t : StreamState) → slice_get w.streams place ≡ Some t → (side : Side) (e : StreamEnd) → side_at t side ≡ lives → end_at t side ≡ Some e
+    → is_present w e.node ≡ true
+
+-- each step is made by a present life
+abbrev pub StepsArePresent : Type 0
+StepsArePresent = (s : Setting) (w : WorldState) (e : Event) (v : Visit) → IsReached s w → IsFit s w e → visit_of s w e ≡ Some v → is_present w v.node ≡ true
+
+-- what a node and its agent are in a life that has ended they stay, whatever turn is taken
+abbrev pub EndedLivesStay : Type 0
+EndedLivesStay = (s : Setting) (w : WorldState) (t : Turn) (c : Choice) (life : ℕ) (seat : Seat) → IsReached s w → IsTurn s w t c → seat_at w life ≡ Some seat
+    → is_present w life ≡ false → seat_at (after_turn s w t c) life ≡ Some seat
 
 -- ---- the law
 
@@ -81,7 +101,7 @@ pub record StreamsAreReady : Type 0 where
   pub ends : (s : Setting) (w : WorldState) → IsReached s w → Every (λ t. HasGoodEnds s (length w.seats) w.dials t.near t.number t.far) w.streams
   -- the dials that were sent have the numbers from 1 on, each that of one stream
   pub once : (s : Setting) (w : WorldState) → IsReached s w → (k : ℕ) → 1 ≤ k → k ≤ w.dials → count_numbered w.streams k ≡ 1
-  -- every node is in its first life
+  -- each life is a seat of its own
   pub lives : (s : Setting) (w : WorldState) → IsReached s w → (node : ℕ) (seat : Seat) → seat_at w node ≡ Some seat → seat.earlier ≡ []
   -- each record of a node is that of a stream
   pub records : (s : Setting) (w : WorldState) → IsReached s w → (node : ℕ) (seat : Seat) → seat_at w node ≡ Some seat
@@ -92,5 +112,7 @@ pub record StreamsAreReady : Type 0 where
   -- each stream that a node dialled is there
   pub nears : (s : Setting) (w : WorldState) → IsReached s w → (node : ℕ) (seat : Seat) → seat_at w node ≡ Some seat → (d : ℕ) → d < seat.core.streams.dialled
       → count_at_end w.streams (end_of node seat (2 * d)) ≡ 1
+  -- a side that lives is at the present life of its node
+  pub present : (s : Setting) (w : WorldState) → IsReached s w → SidesArePresent w
   -- a stream that waits to be opened was opened nowhere
   pub waits : (s : Setting) (w : WorldState) → IsReached s w → Every FarWaits w.streams

@@ -40,10 +40,10 @@ pub record SaysNothingUnopened (t : StreamState) : Type 0 where
 abbrev pub IsDeliveredWithin : StreamState → Type 0
 IsDeliveredWithin t = (side : Side) → (sent_by t side).delivered ≤ length (encoded (sent_by t side).sent)
 
--- in every network that events lead to, what a side said was sent, or is queued at its node
+-- in every network that turns lead to, what a side said was sent, or is queued at its node
 pub record SaidIsSentOrQueued : Type 0 where
   pub said : (s : Setting) (w : WorldState) → IsReached s w → (node : ℕ) (seat : Seat) → seat_at w node ≡ Some seat → OfEachStream (IsSentOrQueued node seat) w.streams
   pub unopened : (s : Setting) (w : WorldState) → IsReached s w → OfEachStream SaysNothingUnopened w.streams
-  -- no node has begun a further life
+  -- each life is a seat of its own
   pub lives : (s : Setting) (w : WorldState) → IsReached s w → (node : ℕ) (seat : Seat) → seat_at w node ≡ Some seat → seat.earlier ≡ []
   pub within : (s : Setting) (w : WorldState) → IsReached s w → OfEachStream IsDeliveredWithin w.streams

@@ -21,6 +21,6 @@ undrained (event.Bytes stream far count hold) = event.Bytes stream far count tru
 undrained (event.Cut stream far hold) = event.Cut stream far true
 undrained (event.Drain node max) = event.Drain node max
 
--- events lead to it too: to the network that the event leads to where it is undrained
+-- turns lead to it too: to the network that the event leads to where it is undrained
 abbrev pub UndrainedAreReached : Type 0
 UndrainedAreReached = (s : Setting) (w : WorldState) (e : Event) (c : Choice) (v : Visit) → IsReached s w → Occurs s w e c → visit_of s w e ≡ Some v → IsReached s (after_visit s w e v c)

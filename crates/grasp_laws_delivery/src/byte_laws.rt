@@ -36,7 +36,7 @@ pub fn what_was_said_is_given()
     streams_are_ready();
 }
 
-/// Events lead to the network after an event's step, before the drain behind it.
+/// Turns lead to the network after an event's step, before the drain behind it.
 pub fn undrained_are_reached()
     ensures { UndrainedAreReached }
 {}

@@ -7,7 +7,7 @@ pub fn datagrams_are_messages()
     ensures { DatagramsAreMessages }
 {}
 
-/// Each node of a network that events lead to has waiting on its open streams what came on them, and whatever an event
+/// Each node of a network that turns lead to has waiting on its open streams what came on them, and whatever an event
 /// brings to it is bytes.
 pub fn nodes_are_fed()
     ensures { NodesAreFed }

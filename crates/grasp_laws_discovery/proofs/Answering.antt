@@ -22,6 +22,7 @@ use Rattle.grasp_types.specs.declared.traffic.Input.{Input}
 use Rattle.grasp_types.specs.declared.traffic.Input.TheVariants as input
 use Rattle.grasp_laws_network.proofs.Growing.{one_grows, visit_grows, drained_grows}
 use Rattle.grasp_laws_network.proofs.Telling.{one_agent}
+use Rattle.grasp_laws_network.specs.Telling.{OneAgent}
 use Rattle.grasp_laws_network.proofs.Here.{visits_are_here}
 use Rattle.grasp_model_network.proofs.Facts.{numbered_all}
 use Rattle.grasp_model_network.specs.EventSteps.{after_agent_call, after_agent, after_arrival, after_clock, after_cut, is_own_response, is_own_answer, answers_to, answered_with, after_delivery, after_piece}
@@ -36,15 +37,16 @@ use Rattle.grasp_model_network.specs.Sending.{gained, stepped, posted, having_se
 use Rattle.grasp_model_network.specs.Setting.{Setting}
 use Rattle.grasp_model_network.specs.Streams.{StreamState, stream_numbered}
 use Rattle.grasp_model_network.specs.Visits.{Visit, Choice, MayCome, VisitStep}
-use Rattle.grasp_model_network.specs.World.{Seat, SentDatagram, DiscoveryAnswer, WorldState, seat_at, with_seat}
+use Rattle.grasp_model_network.specs.World.{Seat, SentDatagram, DiscoveryAnswer, WorldState, member_of, seat_at, with_seat}
 use Rattle.grasp_model_network.specs.declared.event.Event.{Event}
 use Rattle.grasp_model_network.specs.declared.event.Event.TheVariants as event
 use Rattle.grasp_laws_delivery.proofs.Holding.{IsStep, PartsKeep, parts_keep}
+use Rattle.grasp_laws_floods.proofs.Members.{has_member}
 use Rattle.grasp_laws_floods.specs.Laws.{DiscoveriesAreReal}
 use Rattle.grasp_laws_floods.specs.Sought.{IsMessageSought, DiscoveriesAreSought}
 use Rattle.grasp_laws_delivery.specs.Divided.{DatagramsAreMessages}
-use Rattle.grasp_laws_discovery.proofs.Longer.{any_longer}
-use Rattle.grasp_laws_discovery.proofs.Noting.{has_member, IsCarriedAs, Brings, brings_it, answer_of, answer_is, delivery_answers, numbered_any}
+use Rattle.grasp_laws_discovery.proofs.Longer.{any_longer, restarting_grows}
+use Rattle.grasp_laws_discovery.proofs.Noting.{IsCarriedAs, Brings, brings_it, answer_of, answer_is, delivery_answers, numbered_any}
 use Rattle.grasp_laws_discovery.proofs.Sourcing.{responses_have_sources}
 use Rattle.grasp_laws_discovery.specs.Locators.{IsDiscoveryWith, IsAnswerReal}
 use Rattle.grasp_laws_discovery.specs.Sources.{IsResponseFrom, own, diverted, sent_on, IsMessageFrom, IsQueuedFrom}
@@ -121,10 +123,10 @@ still_real s w x g e all = subst (All (IsAnswerReal s x)) (sym e) (All-weaker (I
 module _ (real : DiscoveriesAreReal) (messages : DatagramsAreMessages) (s : Setting) where
   -- the answer to a discovery that was delivered
   served_real : (w : WorldState) → IsReached s w → (index : ℕ) (hold : Bool) (v : Visit) (c : Choice) → visit_of s w (event.Datagram index hold) ≡ Some v → (b : Brings w index v c) (o : IsServed (begin v.seat.core v.now) c.coming)
-      → IsAnswerReal s w (answer_of v o.objective)
+      → IsAnswerReal s w (answer_of w v o.objective)
   served_real w r index hold v c is b o = record {
     locator = v.seat.core.plan.locator;
-    is_answer = answer_is s v o.objective (has_member s w r v.node v.seat (visits_are_here s w (event.Datagram index hold) v is).stands)
+    is_answer = answer_is s w v o.objective (has_member s w r v.node v.seat (visits_are_here s w (event.Datagram index hold) v is).stands)
         (subst (IsMessageSought w sought.sought) sent (numbered_all (λ (x : SentDatagram). IsMessageSought w sought.sought x.message) w.datagrams index b.sent sought.sent b.found)).flags
         (subst (λ (q : Registrations). serves o.objective.flags (flags_registered q o.objective.name) ≡ true) (begun v.seat.core v.now).registrations o.serving);
     was_sent = numbered_any (λ (d : SentDatagram). IsDiscoveryWith o.objective d.message) w.datagrams index b.sent b.found (subst (IsDiscoveryWith o.objective) (sym sent) refl);
@@ -140,21 +142,21 @@ module _ (real : DiscoveriesAreReal) (messages : DatagramsAreMessages) (s : Sett
   delivery_real w r index hold v c is step all = from (brings_it messages s w r index hold v c is step) where
     from : Brings w index v c → All (IsAnswerReal s w) (after_delivery w v index c).answers
     from b =
-        subst (All (IsAnswerReal s w)) (sym (delivery_answers w v index c ∙ ap (λ o. w.answers ++ answered_with v c o) b.found))
-        (All-append (IsAnswerReal s w) w.answers (answered_with v c (Some b.sent)) all (by_own (list_any is_own_answer (gained v.seat.core c.after)) refl))
+        subst (All (IsAnswerReal s w)) (sym (delivery_answers w v index c ∙ ap (λ o. w.answers ++ answered_with (member_of w v.node) v c o) b.found))
+        (All-append (IsAnswerReal s w) w.answers (answered_with (member_of w v.node) v c (Some b.sent)) all (by_own (list_any is_own_answer (gained v.seat.core c.after)) refl))
       where
         sources : All (IsQueuedFrom (begin v.seat.core v.now) (input.Datagram b.sent.route.link b.sent.route.from (encoding b.sent.message)) c.coming) (gained v.seat.core c.after)
         sources =
             subst (λ (i : Input). All (IsQueuedFrom (begin v.seat.core v.now) i c.coming) (gained v.seat.core c.after)) b.input_is
             (responses_have_sources v c (subst TakesNothing (sym b.input_is) tt) step)
 
-        by_own : (z : Bool) → list_any is_own_answer (gained v.seat.core c.after) ≡ z → All (IsAnswerReal s w) (cond z (answers_to v b.sent.message) [])
+        by_own : (z : Bool) → list_any is_own_answer (gained v.seat.core c.after) ≡ z → All (IsAnswerReal s w) (cond z (answers_to (member_of w v.node) v b.sent.message) [])
         by_own false e = All-nil (IsAnswerReal s w)
         by_own true e = with_discovery (all_served (begin v.seat.core v.now) b.sent.route.link b.sent.route.from (encoding b.sent.message) c.coming (gained v.seat.core c.after) sources e) where
-          with_discovery : IsServed (begin v.seat.core v.now) c.coming → All (IsAnswerReal s w) (answers_to v b.sent.message)
+          with_discovery : IsServed (begin v.seat.core v.now) c.coming → All (IsAnswerReal s w) (answers_to (member_of w v.node) v b.sent.message)
           with_discovery o =
-              subst (All (IsAnswerReal s w)) (sym (ap (answers_to v) (carried_same b.sent.message c.coming.carried o.session o.initiator o.objective b.carried o.carried)))
-              (All-cons (IsAnswerReal s w) (answer_of v o.objective) [] (served_real w r index hold v c is b o) (All-nil (IsAnswerReal s w)))
+              subst (All (IsAnswerReal s w)) (sym (ap (answers_to (member_of w v.node) v) (carried_same b.sent.message c.coming.carried o.session o.initiator o.objective b.carried o.carried)))
+              (All-cons (IsAnswerReal s w) (answer_of w v o.objective) [] (served_real w r index hold v c is b o) (All-nil (IsAnswerReal s w)))
 
   step_answers : (w : WorldState) (e : Event) (c : Choice) (v : Visit) → IsReached s w → visit_of s w e ≡ Some v → IsStep e → VisitStep v c → AllReal s w → All (IsAnswerReal s w) (after_visit s w e v c).answers
   unfolding after_clock after_agent after_agent_call after_arrival after_piece after_cut noted stepped
@@ -168,14 +170,14 @@ module _ (real : DiscoveriesAreReal) (messages : DatagramsAreMessages) (s : Sett
   step_answers w (event.Drain node most) c v r is step may all = absurd step
   step_answers w _ c v r is step may all = all
 
-  -- ---- a drain and a want note nothing
+  -- ---- a drain notes nothing
 
   same_posted : (w : WorldState) (m : Message) (route : Option Route) → (posted w m route).answers ≡ w.answers
   same_posted w m None = refl
   same_posted w m (Some route) = refl
 
   same_sent : (node : ℕ) (seat : Seat) (w : WorldState) (q : Queued) → (having_sent s node seat w q).answers ≡ w.answers
-  same_sent node seat w (datagram link to m) = same_posted w m (route_of s node link to)
+  same_sent node seat w (datagram link to m) = same_posted w m (route_of s (member_of w node) link to)
   same_sent node seat w (dial stream to) = refl
   same_sent node seat w (send stream m) = refl
 
@@ -196,7 +198,10 @@ module _ (real : DiscoveriesAreReal) (messages : DatagramsAreMessages) (s : Sett
         let put = with_seat w node (seat_with seat (after_drain m most) seat.agent) in
         same_closed node seat (closes m most) (fold (having_sent s node seat) put (take most m.queue)) ∙ same_handed node seat (take most m.queue) put
 
-  -- ---- every event
+  -- ---- every turn
+
+  told_real : (w x : WorldState) → OneAgent w x → AllReal s w → AllReal s x
+  told_real w x o all = still_real s w x (one_grows w x o) (ap (λ (y : WorldState). y.answers) o.after) all
 
   parts : PartsKeep s (AllReal s)
   unfolding network.drained
@@ -204,8 +209,10 @@ module _ (real : DiscoveriesAreReal) (messages : DatagramsAreMessages) (s : Sett
     steps = λ w e c v r all o is step reached.
         All-weaker (IsAnswerReal s w) (IsAnswerReal s (after_visit s w e v c)) (answer_longer s w (after_visit s w e v c) (visit_grows s w e v c)) (after_visit s w e v c).answers
         (step_answers w e c v r is step (subst (λ (x : Option Visit). MayCome x c) is o.comes) all);
-    told = λ w x e r t all. still_real s w x (one_grows w x (one_agent s w e x t)) (ap (λ (y : WorldState). y.answers) t.after) all;
+    told = λ w x e r t all. told_real w x (one_agent s w e x t) all;
     drains = λ w node most r all least. still_real s w (network.drained s w node most) (drained_grows s w node most) (same_drained w node most (seat_at w node)) all;
+    settles = λ w x node p r t all. told_real w x t.one all;
+    restarts = λ w x node image r t all. still_real s w x (restarting_grows s w x node image t) t.answers all;
   }
 
   nothing_noted : AllReal s (first_world s)

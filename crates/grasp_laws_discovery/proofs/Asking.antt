@@ -1,4 +1,4 @@
--- Where no node began two searches under one session number, whoever asks for a response asks for what its discovery looks for.
+-- Where no two searches were begun under one session number at one address, whoever asks for a response asks for what its discovery looks for.
 use Rattle.std.proofs.Common.{◌≡◌, refl, sym, ap, ◌∙◌, subst, ℕ, max, nat_lt, Bool, true, false, cond, List, [], ◌∷◌, Option, None, Some, All}
 use Rattle.std.specs.Prelude.{Any, find}
 use Rattle.std.proofs.lemmas.Bool.{eqb-true}
@@ -19,7 +19,7 @@ use Rattle.grasp_model_network.specs.Runs.{IsReached}
 use Rattle.grasp_model_network.specs.Setting.{Setting}
 use Rattle.grasp_model_network.specs.World.{Seat, SentDatagram, WorldState, seat_at}
 use Rattle.grasp_laws_floods.specs.Laws.{DiscoveriesAreReal}
-use Rattle.grasp_laws_floods.specs.Sought.{Sought, IsOfSearch, IsMessageSought, IsMemorySought, IsKeptSearch, DiscoveriesAreSought, SearchIsTold}
+use Rattle.grasp_laws_floods.specs.Sought.{Sought, IsBegunIn, IsOfSearch, IsMessageSought, IsMemorySought, IsKeptSearch, DiscoveriesAreSought, SearchIsTold}
 use Rattle.grasp_types.proofs.Same.{same_address_decides, same_origin_decides}
 use Rattle.grasp_types.specs.Origin.{origin_of}
 use Rattle.grasp_types.specs.Same.{same_address, same_origin}
@@ -58,7 +58,7 @@ pub record IsSettled (w : WorldState) (sought : List Sought) (node : ℕ) (d : D
   pub searches : All (λ search. Any (IsKeptSearch node search) sought) d.searches
   pub memories : All (IsMemorySought w sought) d.memories
 
-module _ (w : WorldState) (sought : List Sought) (node : ℕ) where
+module _ (w : WorldState) (sought : List Sought) (node : ℕ) (begun_in : All (IsBegunIn w) sought) where
   abbrev kept : Search → Type 0
   kept search = Any (IsKeptSearch node search) sought
 
@@ -76,19 +76,19 @@ module _ (w : WorldState) (sought : List Sought) (node : ℕ) where
   -- a search of this node is one of its initiator
   own_is : (seat : Seat) (session : ℕ) (initiator : Address) (search : Search) → seat_at w node ≡ Some seat → seat.core.plan.address ≡ initiator → kept search → is_numbered session search ≡ true
       → Any (IsOfSearch w session initiator search.topic) sought
-  own_is seat session initiator search here own (k, x, within, at, is) number = (
-    k,
-    x,
-    within,
-    at,
-    record {
+  own_is seat session initiator search here own (k, x, within, at, is) number = (k, x, within, at, of_seat (All-contains (IsBegunIn w) sought x begun_in (k, within, at))) where
+    begun_here : seat_at w x.search.node ≡ Some seat
+    begun_here = subst (λ n. seat_at w n ≡ Some seat) (sym is.node_is) here
+
+    of_seat : IsBegunIn w x → IsOfSearch w session initiator search.topic x
+    of_seat b = record {
       seat = seat;
-      begun_at = subst (λ n. seat_at w n ≡ Some seat) (sym is.node_is) here;
+      begun_at = begun_here;
       address = sym own;
+      told = sym own ∙ sym (b.address ∙ ap (λ (y : Seat). y.core.plan.address) (same_Some b.seat seat (sym b.begun_at ∙ begun_here)));
       session_is = sym (eqb-true search.session session number) ∙ is.session_is;
       topic_is = is.topic_is;
-    },
-  )
+    }
 
   searched_is : (own : Address) (seat : Seat) (d : Discoveries) (session : ℕ) (initiator : Address) (search : Search) → seat_at w node ≡ Some seat → own ≡ seat.core.plan.address → IsSettled w sought node d
       → own_search d own (origin_of session initiator) ≡ Some search → Any (IsOfSearch w session initiator search.topic) sought
@@ -147,7 +147,7 @@ module _ (real : DiscoveriesAreReal) (told : SearchIsTold) where
       → plan ≡ seat.core.plan → IsSettled w k.sought node d → AsksForIt w plan d
   settled_asks s w r differ k node seat plan d here same settled session initiator topic asker e l =
       told s w r differ k session initiator topic asker.1 (looked_for_is w k session initiator topic l)
-      (asker_is w k.sought node plan.address seat d session initiator asker here (ap (λ (p : NodePlan). p.address) same) settled e)
+      (asker_is w k.sought node k.begun plan.address seat d session initiator asker here (ap (λ (p : NodePlan). p.address) same) settled e)
 
   -- as a node's step begins, whoever asks it for a response asks for what is looked for
   pub begun_asks : (s : Setting) (w : WorldState) → IsReached s w → SearchesDiffer w → (node : ℕ) (seat : Seat) (now : ℕ) → seat_at w node ≡ Some seat
@@ -157,4 +157,4 @@ module _ (real : DiscoveriesAreReal) (told : SearchIsTold) where
     from k b =
         settled_asks s w r differ k node seat (begin seat.core now).plan (begin seat.core now).discoveries here b.plan
         (subst (IsSettled w k.sought node) (sym b.discoveries)
-        (expiry_settled w k.sought node seat.core.discoveries (max seat.core.reading now) (record { searches = k.kept node seat here; memories = k.remembered node seat here })))
+        (expiry_settled w k.sought node k.begun seat.core.discoveries (max seat.core.reading now) (record { searches = k.kept node seat here; memories = k.remembered node seat here })))

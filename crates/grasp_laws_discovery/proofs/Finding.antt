@@ -40,7 +40,7 @@ use Rattle.grasp_laws_discovery.specs.Locators.{AnswersAreReal, WasAnswered, Res
 
 -- ---- each world of a run
 
--- P holds of each network of a run from this network on, where it holds of each network that events lead to
+-- P holds of each network of a run from this network on, where it holds of each network that turns lead to
 each_world : (P : Setting → WorldState → Type 0) (s : Setting) → ((w : WorldState) → IsReached s w → P s w) → (hs : List Happening) (w : WorldState) → IsRun s w hs → IsReached s w
     → All (P s) (worlds_from s w hs)
 unfolding IsRun worlds_from

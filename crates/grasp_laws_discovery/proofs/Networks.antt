@@ -1,5 +1,6 @@
--- In every network that events lead to, where no node began two searches under one session number, all that nodes queue, cache and say is real.
-use Rattle.std.proofs.Common.{◌≡◌, ◌≢◌, refl, sym, subst, arith, ℕ, ◌<◌, ◌≤◌, ◌-◌, ◌==◌, Bool, true, false, cond, List, [], ◌∷◌, ◌++◌, length, length-append, map, slice_get, Option, None, Some, All}
+-- In every network that turns lead to, where no two searches were begun under one session number at one address, all that nodes queue, cache and
+-- say is real.
+use Rattle.std.proofs.Common.{◌≡◌, refl, sym, subst, arith, ℕ, ◌<◌, ◌≤◌, ◌-◌, ◌==◌, Bool, true, false, cond, List, [], ◌∷◌, ◌++◌, length, length-append, map, slice_get, Option, None, Some, All}
 use Rattle.std.specs.Prelude.{AllPairs, slice_index_or}
 use Rattle.std.proofs.lemmas.List.{get_or_append_left}
 use Rattle.std.proofs.lemmas.List.Elements.{All-nil, All-cons, All-drop, All-head, All-tail, All-take}
@@ -8,12 +9,15 @@ use Rattle.grasp_model_node.specs.Begin.{begin}
 use Rattle.grasp_model_node.specs.Node.{NodeState}
 use Rattle.grasp_model_node.specs.Step.{Acts}
 use Rattle.grasp_model_node.specs.Streams.{past_of}
+use Rattle.grasp_pool.specs.Functions.{pool_of, pool_of_image}
+use Rattle.grasp_pool.specs.declared.image.PoolImage.{PoolImage}
 use Rattle.grasp_session.specs.Messages.{other}
 use Rattle.grasp_types.specs.declared.message.Message.{Message}
 use Rattle.grasp_types.specs.declared.traffic.Input.TheVariants as input
 use Rattle.grasp_wire.specs.Cutter.{Past}
 use Rattle.grasp_laws_network.proofs.EachNode.{IsMade, is_made, one_each}
 use Rattle.grasp_laws_network.proofs.Growing.{visit_grows, drained_grows, one_grows}
+use Rattle.grasp_laws_network.proofs.Restarted.{Restarting, restart_seats}
 use Rattle.grasp_laws_network.proofs.Telling.{one_agent}
 use Rattle.grasp_laws_network.specs.Telling.{OneAgent}
 use Rattle.grasp_laws_network.proofs.Here.{visits_are_here}
@@ -23,13 +27,14 @@ use Rattle.grasp_model_network.specs.Events.{visit_of, after_visit}
 use Rattle.grasp_laws_network.specs.Keeping.{WorldGrows}
 use Rattle.grasp_model_network.specs.Notes.{SearchesDiffer}
 use Rattle.grasp_model_network.specs.StreamChanges.{Reached, reached_side, side_named}
-use Rattle.grasp_model_network.specs.Runs.{IsReached, first_seat, first_world}
+use Rattle.grasp_model_network.specs.Runs.{IsReached, first_world}
+use Rattle.grasp_model_network.specs.Openings.{first_seat}
 use Rattle.grasp_model_network.specs.Sending as network
 use Rattle.grasp_model_network.specs.Sending.{drained_at, drained_from}
 use Rattle.grasp_model_network.specs.Setting.{Setting}
 use Rattle.grasp_model_network.specs.Streams.{next_bytes, sent_by}
 use Rattle.grasp_model_network.specs.Visits.{Visit, Choice, MayCome, VisitStep}
-use Rattle.grasp_model_network.specs.World.{Seat, SearchCall, SentDatagram, WorldState, seat_at}
+use Rattle.grasp_model_network.specs.World.{Seat, SearchCall, SentDatagram, WorldState, present_life, seat_at}
 use Rattle.grasp_model_network.specs.declared.event.Event.{Event}
 use Rattle.grasp_model_network.specs.declared.event.Event.TheVariants as event
 use Rattle.grasp_laws_delivery.proofs.AfterSteps.{seats_stepped, each_seat, each_drained}
@@ -38,15 +43,18 @@ use Rattle.grasp_laws_delivery.proofs.Holding.{IsStep, PartsKeep, parts_keep}
 use Rattle.grasp_laws_delivery.proofs.Came.Inputs.{IsReaching, seat_visit, at_visit, clock_visit_is, opening_is, piece_is, cut_is}
 use Rattle.grasp_laws_delivery.proofs.OnePlace.{Placed, numbered_place}
 use Rattle.grasp_laws_delivery.specs.Pieces.{IsCutInFront, WhatWasSaidIsGiven}
+use Rattle.grasp_laws_floods.proofs.Members.{has_member}
+use Rattle.grasp_laws_floods.proofs.Settled.{AreApart}
 use Rattle.grasp_laws_floods.specs.Laws.{DiscoveriesAreReal}
 use Rattle.grasp_laws_floods.specs.Sought.{IsMessageSought, DiscoveriesAreSought, SearchIsTold}
 use Rattle.grasp_laws_delivery.specs.Divided.{DatagramsAreMessages}
 use Rattle.grasp_laws_discovery.proofs.Asking.{begun_asks}
 use Rattle.grasp_laws_discovery.proofs.Hearing.{ArePieces}
-use Rattle.grasp_laws_discovery.proofs.Noting.{has_member, Brings, brings_it, carried_real}
-use Rattle.grasp_laws_discovery.proofs.Real.{NodeReal, node_longer, begin_real, drain_real, plain_real, datagram_real, bytes_real, first_real}
+use Rattle.grasp_laws_discovery.proofs.Longer.{restarting_grows}
+use Rattle.grasp_laws_discovery.proofs.Noting.{Brings, brings_it, carried_real}
+use Rattle.grasp_laws_discovery.proofs.Real.{NodeReal, node_longer, begin_real, drain_real, plain_real, datagram_real, bytes_real, opened_real}
 use Rattle.grasp_laws_discovery.proofs.Stepping.{IsPlain}
-use Rattle.grasp_laws_discovery.proofs.Telling.{TalksReal, sent_real, talks_longer, step_talks, drained_talks}
+use Rattle.grasp_laws_discovery.proofs.Telling.{TalksReal, sent_real, talks_longer, step_talks, told_talks, drained_talks}
 use Rattle.grasp_laws_discovery.specs.Locators.{IsMessageReal, IsQueuedReal}
 
 -- ---- what is so
@@ -73,7 +81,7 @@ pairs_before R xs more all i j d less within =
     (all i j d less (still_less j xs more within)))
 
 pub differed : (w x : WorldState) → WorldGrows w x → SearchesDiffer x → SearchesDiffer w
-differed w x g differ = pairs_before (λ a b. a ≢ b) w.searches g.searches.0 (subst (AllPairs (λ a b. a ≢ b)) g.searches.1 differ)
+differed w x g differ = pairs_before AreApart w.searches g.searches.0 (subst (AllPairs AreApart) g.searches.1 differ)
 
 -- ---- what comes
 
@@ -138,12 +146,12 @@ module _ (given : WhatWasSaidIsGiven) (real : DiscoveriesAreReal) (told : Search
       → NodeReal s (after_visit s w e v c) v.seat.core → NodeReal s (after_visit s w e v c) c.after
   unfolding agent_visit
   node_after w (event.Clock node millis) c v r differ k is step may g own =
-      plain_step s (after_visit s w (event.Clock node millis) v c) v c (subst IsPlain (sym (clock_visit_is node millis v (seat_at w node) is).input_is) refl) may own
+      plain_step s (after_visit s w (event.Clock node millis) v c) v c (subst IsPlain (sym (clock_visit_is (present_life w node) millis v (seat_at w (present_life w node)) is).input_is) refl) may own
   node_after w (event.Want node length longest peer) c v r differ k is step may g own = absurd step
   node_after w (event.Return node prefix peer) c v r differ k is step may g own = absurd step
-  node_after w (event.Agent node hold) c v r differ k is step may g own = plain_step s (after_visit s w (event.Agent node hold) v c) v c (agent_plain node v (seat_at w node) is) may own
+  node_after w (event.Agent node hold) c v r differ k is step may g own = plain_step s (after_visit s w (event.Agent node hold) v c) v c (agent_plain (present_life w node) v (seat_at w (present_life w node)) is) may own
   node_after w (event.Api node asa call hold) c v r differ k is step may g own =
-      plain_step s (after_visit s w (event.Api node asa call hold) v c) v c (subst IsPlain (sym (at_visit w node (input.Api asa call) v is).input_is) tt) may own
+      plain_step s (after_visit s w (event.Api node asa call hold) v c) v c (subst IsPlain (sym (at_visit w (present_life w node) (input.Api asa call) v is).input_is) tt) may own
   node_after w (event.Datagram index hold) c v r differ k is step may g own = datagram_step w r index hold v c is may own g
   node_after w (event.Arrive stream hold) c v r differ k is step may g own =
       plain_step s (after_visit s w (event.Arrive stream hold) v c) v c (subst IsPlain (sym (opening_is s w stream v is).is.input_is) tt) may own
@@ -191,7 +199,17 @@ module _ (given : WhatWasSaidIsGiven) (real : DiscoveriesAreReal) (told : Search
     streams = talks_longer s w x (one_grows w x o) x.streams (subst (λ (y : WorldState). TalksReal s w y.streams) (sym o.after) k.streams);
   }
 
-  -- ---- every event
+  -- ---- another life
+
+  begun_real : (w x : WorldState) (node : ℕ) (image : PoolImage) → Restarting s w node image x → WorldGrows w x → WorldReal s w → WorldReal s x
+  begun_real w x node image t g k = record {
+    nodes = restart_seats (λ life seat. NodeReal s x seat.core) s w node image x t (longer (present_life w node) t.seat t.here) (opened_real s x t.member.plan (pool_of_image image)) longer;
+    streams = subst (TalksReal s x) (sym t.streams) (told_talks s x node (present_life w node) w.streams (talks_longer s w x g w.streams k.streams));
+  } where
+    longer : (life : ℕ) (seat : Seat) → seat_at w life ≡ Some seat → NodeReal s x seat.core
+    longer life seat there = node_longer s w x g seat.core (k.nodes life seat there)
+
+  -- ---- every turn
 
   parts : PartsKeep s (IsReal s)
   unfolding network.drained
@@ -202,6 +220,8 @@ module _ (given : WhatWasSaidIsGiven) (real : DiscoveriesAreReal) (told : Search
     told = λ w x e r t p differ. let o = one_agent s w e x t in one_real w x o (p (differed w x (one_grows w x o) differ));
     drains = λ w node most r p least differ.
         drained_real w node most (seat_at w node) refl least (p (differed w (network.drained s w node most) (drained_grows s w node most) differ)) (drained_grows s w node most);
+    settles = λ w x node q r t p differ. one_real w x t.one (p (differed w x (one_grows w x t.one) differ));
+    restarts = λ w x node image r t p differ. let g = restarting_grows s w x node image t in begun_real w x node image t g (p (differed w x g differ));
   }
 
   first_nodes : (node : ℕ) (seat : Seat) → seat_at (first_world s) node ≡ Some seat → NodeReal s (first_world s) seat.core
@@ -211,7 +231,7 @@ module _ (given : WhatWasSaidIsGiven) (real : DiscoveriesAreReal) (told : Search
     by_zero true f = absurd (none-some seat f)
     by_zero false f = at_member (is_made first_seat s.members (node - 1) seat f) where
       at_member : IsMade first_seat s.members (node - 1) seat → NodeReal s (first_world s) seat.core
-      at_member m = subst (λ (x : Seat). NodeReal s (first_world s) x.core) m.made (first_real s (first_world s) m.of)
+      at_member m = subst (λ (x : Seat). NodeReal s (first_world s) x.core) m.made (opened_real s (first_world s) m.of.plan (pool_of m.of.roots))
 
   first_real_world : IsReal s (first_world s)
   unfolding first_world

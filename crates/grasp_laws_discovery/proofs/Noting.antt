@@ -11,7 +11,6 @@ use Rattle.grasp_laws_node.proofs.Remembered.{Begun, begun}
 use Rattle.grasp_model_node.specs.Begin.{begin}
 use Rattle.grasp_model_node.specs.Datagrams.{Carries, serves}
 use Rattle.grasp_model_node.specs.FloodCalls.{wanted_flags}
-use Rattle.grasp_model_node.specs.Node.{NodeState}
 use Rattle.grasp_model_node.specs.Queue.{Queued, encoding}
 use Rattle.grasp_model_node.specs.declared.plan.NodePlan.{NodePlan}
 use Rattle.grasp_discovery.specs.Topic.{kind_of}
@@ -27,8 +26,6 @@ use Rattle.grasp_model_node.specs.Step.{IsComing}
 use Rattle.grasp_types.specs.declared.traffic.Input.TheVariants as input
 use Rattle.grasp_wire.proofs.Dividing.{one_message}
 use Rattle.grasp_wire.proofs.ShortestForm.{shortest_form}
-use Rattle.grasp_laws_network.proofs.EachNode.{reached_each}
-use Rattle.grasp_laws_node.proofs.PlansStay.{step_plan}
 use Rattle.grasp_laws_network.proofs.Here.{visits_are_here}
 use Rattle.grasp_model_network.proofs.Facts.{numbered_all}
 use Rattle.grasp_model_network.specs.EventSteps.{datagram_visit, datagram_at, is_own_answer, answers_to, answered_with, answers_in, after_delivery}
@@ -36,31 +33,19 @@ use Rattle.grasp_model_network.specs.Events.{visit_of}
 use Rattle.grasp_laws_network.specs.Keeping.{WorldGrows}
 use Rattle.grasp_model_network.specs.Runs.{IsReached}
 use Rattle.grasp_model_network.specs.Sending.{gained}
-use Rattle.grasp_model_network.specs.Setting.{Member, Setting, numbered}
+use Rattle.grasp_model_network.specs.Setting.{Setting, numbered}
 use Rattle.grasp_model_network.specs.Visits.{Visit, Choice, VisitStep}
-use Rattle.grasp_model_network.specs.World.{Seat, SentDatagram, DiscoveryAnswer, WorldState, seat_at}
+use Rattle.grasp_model_network.specs.World.{SentDatagram, DiscoveryAnswer, WorldState, present_life, member_of}
 use Rattle.grasp_model_network.specs.declared.event.Event.TheVariants as event
 use Rattle.grasp_laws_delivery.proofs.Given.{limit_is, few_limit}
 use Rattle.grasp_laws_delivery.proofs.Came.Inputs.{at_visit}
+use Rattle.grasp_laws_floods.proofs.Members.{HasMember}
 use Rattle.grasp_laws_floods.specs.Sought.{Sought, IsMessageSought}
 use Rattle.grasp_laws_delivery.specs.Divided.{IsSentMessage, DatagramsAreMessages}
 use Rattle.grasp_laws_discovery.proofs.Discovering.{topic_in}
 use Rattle.grasp_laws_discovery.proofs.Longer.{looked_longer}
 use Rattle.grasp_laws_discovery.proofs.Real.{IsNoted, IsCarriedReal}
 use Rattle.grasp_laws_discovery.specs.Locators.{IsAnswerWith, WasAnswered, LooksFor, WasLookedFor}
-
--- ---- the member of a node
-
--- the node is opened with the plan of this member
-pub record HasMember (s : Setting) (node : ℕ) (n : NodeState) : Type 0 where
-  pub member : Member
-  pub found : numbered s.members node ≡ Some member
-  pub plan : n.plan ≡ member.plan
-
-pub has_member : (s : Setting) (w : WorldState) → IsReached s w → (node : ℕ) (seat : Seat) → seat_at w node ≡ Some seat → HasMember s node seat.core
-has_member s w r =
-    reached_each (HasMember s) s w (λ k n after now i x q p step. record { member = p.member; found = p.found; plan = step_plan n after now i x q step ∙ p.plan })
-    (λ k m e. record { member = m; found = e; plan = refl }) r
 
 -- ---- flags that serve a discovery
 
@@ -89,13 +74,13 @@ served_by Synchronization flags e =
 
 -- ---- an answer that is noted
 
-abbrev pub answer_of : Visit → Objective → DiscoveryAnswer
-answer_of v o = record { node = v.node; objective = o; flags = flags_registered v.seat.core.registrations o.name }
+abbrev pub answer_of : WorldState → Visit → Objective → DiscoveryAnswer
+answer_of w v o = record { node = member_of w v.node; objective = o; flags = flags_registered v.seat.core.registrations o.name }
 
-pub answer_is : (s : Setting) (v : Visit) (o : Objective) → HasMember s v.node v.seat.core → o.flags ≡ wanted_flags (kind_of o.flags) → serves o.flags (flags_registered v.seat.core.registrations o.name) ≡ true
-    → IsAnswerWith s (topic_in o) v.seat.core.plan.locator (answer_of v o)
-answer_is s v o m wanted serving = by_flags (flags_registered v.seat.core.registrations o.name) refl (subst (λ f. serves f (flags_registered v.seat.core.registrations o.name) ≡ true) wanted serving) where
-  by_flags : (f : Option ℕ) → flags_registered v.seat.core.registrations o.name ≡ f → serves (wanted_flags (kind_of o.flags)) f ≡ true → IsAnswerWith s (topic_in o) v.seat.core.plan.locator (answer_of v o)
+pub answer_is : (s : Setting) (w : WorldState) (v : Visit) (o : Objective) → HasMember s w v.node v.seat.core → o.flags ≡ wanted_flags (kind_of o.flags) → serves o.flags (flags_registered v.seat.core.registrations o.name) ≡ true
+    → IsAnswerWith s (topic_in o) v.seat.core.plan.locator (answer_of w v o)
+answer_is s w v o m wanted serving = by_flags (flags_registered v.seat.core.registrations o.name) refl (subst (λ f. serves f (flags_registered v.seat.core.registrations o.name) ≡ true) wanted serving) where
+  by_flags : (f : Option ℕ) → flags_registered v.seat.core.registrations o.name ≡ f → serves (wanted_flags (kind_of o.flags)) f ≡ true → IsAnswerWith s (topic_in o) v.seat.core.plan.locator (answer_of w v o)
   by_flags None is e = absurd (cc)
   by_flags (Some flags) is e =
       let by = served_by (kind_of o.flags) flags e in
@@ -110,22 +95,22 @@ answer_is s v o m wanted serving = by_flags (flags_registered v.seat.core.regist
         served = by.1;
       }
 
-pub noted_answers : (v : Visit) (c : Choice) (d : SentDatagram) (session : ℕ) (initiator : Address) (o : Objective) → d.message ≡ Discovery session initiator o
-    → list_any is_own_answer (gained v.seat.core c.after) ≡ true → answered_with v c (Some d) ≡ answer_of v o ∷ []
-noted_answers v c d session initiator o is own = ap (λ b. cond b (answers_to v d.message) []) own ∙ ap (answers_to v) is
+pub noted_answers : (w : WorldState) (v : Visit) (c : Choice) (d : SentDatagram) (session : ℕ) (initiator : Address) (o : Objective) → d.message ≡ Discovery session initiator o
+    → list_any is_own_answer (gained v.seat.core c.after) ≡ true → answered_with (member_of w v.node) v c (Some d) ≡ answer_of w v o ∷ []
+noted_answers w v c d session initiator o is own = ap (λ b. cond b (answers_to (member_of w v.node) v d.message) []) own ∙ ap (answers_to (member_of w v.node) v) is
 
 -- what the delivery notes
-pub delivery_answers : (w : WorldState) (v : Visit) (index : ℕ) (c : Choice) → (after_delivery w v index c).answers ≡ w.answers ++ answered_with v c (numbered w.datagrams index)
+pub delivery_answers : (w : WorldState) (v : Visit) (index : ℕ) (c : Choice) → (after_delivery w v index c).answers ≡ w.answers ++ answered_with (member_of w v.node) v c (numbered w.datagrams index)
 unfolding after_delivery answers_in
 delivery_answers w v index c = refl
 
-was_noted : (s : Setting) (w : WorldState) (v : Visit) (index : ℕ) (c : Choice) (d : SentDatagram) (session : ℕ) (initiator : Address) (o : Objective) → HasMember s v.node v.seat.core
+was_noted : (s : Setting) (w : WorldState) (v : Visit) (index : ℕ) (c : Choice) (d : SentDatagram) (session : ℕ) (initiator : Address) (o : Objective) → HasMember s w v.node v.seat.core
     → numbered w.datagrams index ≡ Some d → d.message ≡ Discovery session initiator o → o.flags ≡ wanted_flags (kind_of o.flags) → list_any is_own_answer (gained v.seat.core c.after) ≡ true
     → serves o.flags (flags_registered v.seat.core.registrations o.name) ≡ true → WasAnswered s (after_delivery w v index c) (topic_in o) v.seat.core.plan.locator
 was_noted s w v index c d session initiator o m found is wanted own serving =
     subst (Any (IsAnswerWith s (topic_in o) v.seat.core.plan.locator))
-    (sym (delivery_answers w v index c ∙ ap (λ more. w.answers ++ more) (ap (answered_with v c) found ∙ noted_answers v c d session initiator o is own)))
-    (Any-push (IsAnswerWith s (topic_in o) v.seat.core.plan.locator) w.answers (answer_of v o) (answer_is s v o m wanted serving))
+    (sym (delivery_answers w v index c ∙ ap (λ more. w.answers ++ more) (ap (answered_with (member_of w v.node) v c) found ∙ noted_answers w v c d session initiator o is own)))
+    (Any-push (IsAnswerWith s (topic_in o) v.seat.core.plan.locator) w.answers (answer_of w v o) (answer_is s w v o m wanted serving))
 
 -- ---- what a datagram carries
 
@@ -173,7 +158,7 @@ brings_it messages s w r index hold v c is step = by_datagram (numbered w.datagr
 
   by_datagram : (o : Option SentDatagram) → numbered w.datagrams index ≡ o → datagram_at w o ≡ Some v → Brings w index v c
   by_datagram None found e = absurd (none-some v e)
-  by_datagram (Some d) found e = with_datagram d found (at_visit w d.route.receiver (input.Datagram d.route.link d.route.from (encoding d.message)) v e).input_is
+  by_datagram (Some d) found e = with_datagram d found (at_visit w (present_life w d.route.receiver) (input.Datagram d.route.link d.route.from (encoding d.message)) v e).input_is
 
 -- what is carried is real in the network after the delivery
 module _ (s : Setting) (w : WorldState) (v : Visit) (c : Choice) (index : ℕ) (d : SentDatagram) (sought : List Sought) where
@@ -184,7 +169,7 @@ module _ (s : Setting) (w : WorldState) (v : Visit) (c : Choice) (index : ℕ) (
   looked_for session initiator o found same =
       numbered_any (λ (x : SentDatagram). LooksFor session initiator (topic_in o) x.message) w.datagrams index d found (subst (LooksFor session initiator (topic_in o)) (sym same) (refl, refl, refl))
 
-  begun_noted : (session : ℕ) (initiator : Address) (o : Objective) → HasMember s v.node v.seat.core → Begun v.seat.core (begin v.seat.core v.now) v.now → numbered w.datagrams index ≡ Some d
+  begun_noted : (session : ℕ) (initiator : Address) (o : Objective) → HasMember s w v.node v.seat.core → Begun v.seat.core (begin v.seat.core v.now) v.now → numbered w.datagrams index ≡ Some d
       → d.message ≡ Discovery session initiator o → IsMessageSought w sought d.message → IsNoted s delivered (begin v.seat.core v.now) o c.after
   begun_noted session initiator o m b found same is own serving =
       subst (λ (p : NodePlan). WasAnswered s delivered (topic_in o) p.locator) (sym b.plan)
@@ -192,7 +177,7 @@ module _ (s : Setting) (w : WorldState) (v : Visit) (c : Choice) (index : ℕ) (
       (subst (λ (q : List Queued). list_any is_own_answer (drop (length q) c.after.queue) ≡ true) b.queue own)
       (subst (λ (r : Registrations). serves o.flags (flags_registered r o.name) ≡ true) b.registrations serving))
 
-  pub carried_real : (m : Option Message) → HasMember s v.node v.seat.core → WorldGrows w delivered → numbered w.datagrams index ≡ Some d → IsMessageSought w sought d.message → IsCarriedAs d.message m
+  pub carried_real : (m : Option Message) → HasMember s w v.node v.seat.core → WorldGrows w delivered → numbered w.datagrams index ≡ Some d → IsMessageSought w sought d.message → IsCarriedAs d.message m
       → IsCarriedReal s delivered (begin v.seat.core v.now) m c.after
   carried_real (Some (Discovery session initiator o)) m g found is same = (
     looked_longer w delivered g session initiator (topic_in o) (looked_for session initiator o found same),

@@ -20,6 +20,7 @@ use Rattle.grasp_model_node.specs.declared.plan.NodePlan.{NodePlan}
 use Rattle.grasp_discovery.specs.Discoveries.{Discoveries, asker_of, after_answered, known_of}
 use Rattle.grasp_discovery.specs.declared.answers.Answered.{Answered}
 use Rattle.grasp_discovery.specs.declared.topic.Topic.{Topic}
+use Rattle.grasp_pool.specs.Holdings.{Holding}
 use Rattle.grasp_types.specs.Origin.{origin_of}
 use Rattle.grasp_types.specs.declared.address.Address.{Address}
 use Rattle.grasp_types.specs.declared.address.Locator.{Locator}
@@ -35,8 +36,8 @@ use Rattle.grasp_types.specs.declared.reply.Reply.TheVariants as reply
 use Rattle.grasp_types.specs.declared.traffic.Input.{Input}
 use Rattle.grasp_model_network.specs.EventSteps.{is_own_answer}
 use Rattle.grasp_laws_network.specs.Keeping.{WorldGrows}
-use Rattle.grasp_model_network.specs.Runs.{fresh_seat, answered_seat, first_seat}
-use Rattle.grasp_model_network.specs.Setting.{Member, Setting}
+use Rattle.grasp_model_network.specs.Openings.{fresh_seat, answered_seat, opened_seat}
+use Rattle.grasp_model_network.specs.Setting.{Setting}
 use Rattle.grasp_model_network.specs.Visits.{is_starved}
 use Rattle.grasp_model_network.specs.World.{Seat, WorldState}
 use Rattle.grasp_laws_discovery.proofs.Asking.{AsksForIt}
@@ -178,7 +179,7 @@ module _ (s : Setting) (w : WorldState) where
   bytes_real n after stream bytes x reply.OutOfMemory fed are asks k t = absurd (true≢false fed)
   bytes_real n after stream bytes x _ fed are asks k t = absurd t
 
-  -- ---- the first network
+  -- ---- a life that begins
 
   answered_real : (seat : Seat) (a : ApiAnswer) → NodeReal s w seat.core → NodeReal s w (answered_seat seat a).core
   unfolding answered_seat
@@ -191,12 +192,12 @@ module _ (s : Setting) (w : WorldState) where
         from_keeps Cached n.queue (answered_seat seat a).core (λ h. h) b.queue
         (call_keeps n.queue (IsQueuedReal s w) Cached silent_real (λ plan d xs h. h) n seat.agent.asa (next_call seat.agent) a (started (IsQueuedReal s w) Cached n b.cached))
 
-  fresh_real : (m : Member) → NodeReal s w (fresh_seat m).core
-  fresh_real m = record { cached = All-nil (IsEntryReal s w); queue = All-nil (IsQueuedReal s w) }
+  fresh_real : (plan : NodePlan) (h : Holding) → NodeReal s w (fresh_seat plan h).core
+  fresh_real plan h = record { cached = All-nil (IsEntryReal s w); queue = All-nil (IsQueuedReal s w) }
 
-  pub first_real : (m : Member) → NodeReal s w (first_seat m).core
-  unfolding first_seat
-  first_real m =
-      let registered = answered_seat (fresh_seat m) (answer.Asa 1) in
+  pub opened_real : (plan : NodePlan) (h : Holding) → NodeReal s w (opened_seat plan h).core
+  unfolding opened_seat
+  opened_real plan h =
+      let registered = answered_seat (fresh_seat plan h) (answer.Asa 1) in
       let declared = answered_seat registered answer.Done in
-      answered_real declared answer.NotYet (answered_real registered answer.Done (answered_real (fresh_seat m) (answer.Asa 1) (fresh_real m)))
+      answered_real declared answer.NotYet (answered_real registered answer.Done (answered_real (fresh_seat plan h) (answer.Asa 1) (fresh_real plan h)))

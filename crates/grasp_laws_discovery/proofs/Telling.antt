@@ -1,5 +1,5 @@
 -- Streams on which each response is real: what steps and drains leave of them.
-use Rattle.std.proofs.Common.{sym, subst, ℕ, ◌+◌, List, [], ◌∷◌, fold, take, Option, None, Some, All}
+use Rattle.std.proofs.Common.{sym, subst, ℕ, ◌+◌, List, [], ◌∷◌, fold, map, take, Option, None, Some, All}
 use Rattle.std.proofs.lemmas.List.Elements.{All-nil, All-cons, All-head, All-push, All-tail, All-weaker}
 use Rattle.grasp_model_node.specs.Draining.{closes, after_drain}
 use Rattle.grasp_model_node.specs.Node.{NodeState}
@@ -12,17 +12,19 @@ use Rattle.grasp_types.specs.declared.reply.Reply.{Reply}
 use Rattle.grasp_model_network.specs.StreamChanges.{arrival_by, arrived, told, Reached, reached_side, side_named, delivered}
 use Rattle.grasp_model_network.specs.Events.{after_visit}
 use Rattle.grasp_laws_network.specs.Keeping.{WorldGrows}
+use Rattle.grasp_model_network.specs.Restarting.{told_at}
 use Rattle.grasp_model_network.specs.Routes.{route_of}
 use Rattle.grasp_model_network.specs.Sending.{gained, having_made, streams_made, seat_with, having_sent, having_closed, handed_over, drained_from}
 use Rattle.grasp_model_network.specs.Setting.{Setting}
 use Rattle.grasp_model_network.specs.Streams.{StreamEnd, StreamState, Arrival, told_closed, fresh_stream, sent_by, with_said, with_sent, with_ended, with_number, with_delivered, with_side, with_far, change_at_end, stream_numbered}
 use Rattle.grasp_model_network.specs.Visits.{Visit, Choice}
-use Rattle.grasp_model_network.specs.World.{Seat, WorldState, with_seat, end_of}
+use Rattle.grasp_model_network.specs.World.{Seat, WorldState, member_of, with_seat, end_of}
 use Rattle.grasp_model_network.specs.declared.event.Event.{Event}
 use Rattle.grasp_model_network.specs.declared.event.Event.TheVariants as event
 use Rattle.grasp_laws_delivery.proofs.AfterSteps.{posted_each, streams_before, streams_stepped}
 use Rattle.grasp_laws_delivery.proofs.Holding.{IsStep}
-use Rattle.grasp_laws_delivery.proofs.Sides.{at_end_has, each_changed, each_push}
+use Rattle.grasp_laws_delivery.proofs.Sides.{at_end_has, each_changed, each_mapped, each_push}
+use Rattle.grasp_laws_delivery.proofs.Turned.{told_by}
 use Rattle.grasp_laws_delivery.specs.Saying.{OfEachStream}
 use Rattle.grasp_laws_discovery.proofs.Longer.{message_longer}
 use Rattle.grasp_laws_discovery.specs.Locators.{IsMessageReal, IsQueuedReal}
@@ -125,12 +127,19 @@ module _ (s : Setting) (w : WorldState) where
   step_talks v e at c is are each =
       subst (TalksReal s w) (sym (streams_stepped s v e at c is)) (made_real at.node at.seat (gained at.seat.core c.after) (streams_before s v e at c) are (before_real v e at c each))
 
+  -- ---- a restart
+
+  -- a side that is told that its stream is closed says and sends nothing
+  pub told_talks : (node life : ℕ) (ts : List StreamState) → TalksReal s w ts → TalksReal s w (map (told_at s node life) ts)
+  told_talks node life ts each =
+      each_mapped (TalkReal s w) (TalkReal s w) (told_at s node life) ts (λ t k. told_by (TalkReal s w) (λ u side. side_stays told_closed u side) s node life t k) each
+
   -- ---- a drain
 
   handed_real : (node : ℕ) (seat : Seat) (qs : List Queued) (v : WorldState) → All (IsQueuedReal s w) qs → TalksReal s w v.streams → TalksReal s w (fold (having_sent s node seat) v qs).streams
   handed_real node seat [] v are each = each
   handed_real node seat (datagram link to m ∷ qs) v are each =
-      handed_real node seat qs (having_sent s node seat v (datagram link to m)) (All-tail (IsQueuedReal s w) (datagram link to m) qs are) (posted_each (TalkReal s w) v m (route_of s node link to) each)
+      handed_real node seat qs (having_sent s node seat v (datagram link to m)) (All-tail (IsQueuedReal s w) (datagram link to m) qs are) (posted_each (TalkReal s w) v m (route_of s (member_of v node) link to) each)
   handed_real node seat (dial stream to ∷ qs) v are each =
       handed_real node seat qs (having_sent s node seat v (dial stream to)) (All-tail (IsQueuedReal s w) (dial stream to) qs are)
       (changed (with_number (v.dials + 1)) (number_stays (v.dials + 1)) v.streams (end_of node seat stream) each)

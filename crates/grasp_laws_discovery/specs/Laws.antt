@@ -1,4 +1,4 @@
--- What is so of answers, responses and cached locators in every network that events lead to.
+-- What is so of answers, responses and cached locators in every network that turns lead to.
 use Rattle.std.specs.Prelude.{◌≡◌, ℕ, List, Some, All}
 use Rattle.grasp_discovery.specs.Topic.{topic_of}
 use Rattle.grasp_discovery.specs.declared.topic.Topic.{Topic}
@@ -20,12 +20,12 @@ use Rattle.grasp_types.specs.declared.session.Kind.{Kind}
 use Rattle.grasp_types.specs.declared.traffic.Input.TheVariants as input
 use Rattle.grasp_laws_discovery.specs.Locators.{AnswersAreReal, WasAnswered, WasLookedFor, ResponsesAreReal, IsTheSearch, CachesAreReal}
 
--- P holds of each network that events lead to, and of each network of a run
+-- P holds of each network that turns lead to, and of each network of a run
 pub record OfEachWorld (P : Setting → WorldState → Type 0) : Type 0 where
   pub reached : (s : Setting) (w : WorldState) → IsReached s w → P s w
   pub worlds : (s : Setting) (hs : List Happening) → IsGoodSetting s → IsRun s (first_world s) hs → All (P s) (worlds_from s (first_world s) hs)
 
--- P holds of the network, where no node began two searches under one session number
+-- P holds of the network, where no two searches were begun under one session number at one address
 abbrev pub WhereSearchesDiffer : (Setting → WorldState → Type 0) → Setting → WorldState → Type 0
 WhereSearchesDiffer P s w = SearchesDiffer w → P s w
 

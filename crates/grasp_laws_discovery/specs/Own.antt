@@ -14,6 +14,6 @@ pub record IsAnsweredOwn (s : Setting) (w : WorldState) (e : Event) (c : Choice)
   pub initiator : t.from ≡ t.initiator
   pub locators : t.locators ≡ t.visit.seat.core.plan.locator ∷ []
 
--- a discovery that an event answers in a network that events lead to is answered so
+-- a discovery that an event answers in a network that turns lead to is answered so
 abbrev pub NotedAnswersAreOwn : Type 0
 NotedAnswersAreOwn = (s : Setting) (w : WorldState) (e : Event) (c : Choice) → IsReached s w → Occurs s w e c → (a : DiscoveryAnswer) (t : AnswersDiscovery s w e c a) → IsAnsweredOwn s w e c a t

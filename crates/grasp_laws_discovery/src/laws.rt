@@ -1,4 +1,4 @@
-//! What is so of the responses to discoveries and of cached locators in every network that events lead to. They say
+//! What is so of the responses to discoveries and of cached locators in every network that turns lead to. They say
 //! nothing at run time.
 
 ghost use Rattle.grasp_laws_discovery.specs.Laws.{

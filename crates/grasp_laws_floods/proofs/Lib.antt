@@ -18,6 +18,7 @@ mod LooksRuns
 mod LooksTables
 mod LooksWorlds
 mod Made
+pub mod Members
 mod Nodes
 mod Own
 mod Queued
@@ -26,7 +27,7 @@ mod Ranges
 mod Registries
 mod Runs
 mod Sending
-mod Settled
+pub mod Settled
 mod Told
 mod Visited
 mod Worlds

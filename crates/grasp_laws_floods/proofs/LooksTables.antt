@@ -24,7 +24,6 @@ use Rattle.grasp_discovery.specs.declared.topic.Topic.{Topic}
 use Rattle.grasp_flood.specs.Floods as flood
 use Rattle.grasp_flood.specs.declared.heard.Heard as told
 use Rattle.grasp_flood.specs.declared.heard.Heard.TheVariants as flooded
-use Rattle.grasp_model_network.specs.Setting.{Setting}
 use Rattle.grasp_session.specs.Sessions.{untaken_reply}
 use Rattle.grasp_types.specs.Origin.{origin_of}
 use Rattle.grasp_types.specs.Same.{same_address}
@@ -44,14 +43,14 @@ use Rattle.grasp_laws_floods.proofs.Looks.{DiscoveryLooks, OptionLooks, MemoryLo
 use Rattle.grasp_laws_floods.specs.Sought.{Sought}
 
 -- a node's searches and memories of discoveries are of these searches
-pub record LooksKept (s : Setting) (xs : List Sought) (node : ℕ) (n : NodeState) : Type 0 where
+pub record LooksKept (xs : List Sought) (node : ℕ) (n : NodeState) : Type 0 where
   pub searches : All (SearchLooks xs node) n.discoveries.searches
-  pub memories : All (MemoryLooks s xs) n.discoveries.memories
+  pub memories : All (MemoryLooks xs) n.discoveries.memories
 
-pub looks_stay : (s : Setting) (xs : List Sought) (node : ℕ) (n after : NodeState) → Leaves n after → LooksKept s xs node n → LooksKept s xs node after
-looks_stay s xs node n after e k = record {
+pub looks_stay : (xs : List Sought) (node : ℕ) (n after : NodeState) → Leaves n after → LooksKept xs node n → LooksKept xs node after
+looks_stay xs node n after e k = record {
   searches = subst (All (SearchLooks xs node)) (sym e.searches) k.searches;
-  memories = subst (All (MemoryLooks s xs)) (sym e.memories) k.memories;
+  memories = subst (All (MemoryLooks xs)) (sym e.memories) k.memories;
 }
 
 -- ---- a search that a call begins
@@ -60,6 +59,7 @@ pub record IsBegun (xs : List Sought) (node : ℕ) (n : NodeState) (topic : Topi
   pub it : Sought
   pub among : Contains xs it
   pub node_is : it.search.node ≡ node
+  pub address_is : n.plan.address ≡ it.search.address
   pub session_is : next_session n ≡ it.search.session
   pub topic_is : topic ≡ it.topic
 
@@ -71,19 +71,19 @@ OwnBegun xs node n _ a = Unit {0}
 begun_search : (xs : List Sought) (node : ℕ) (n : NodeState) (asa timeout : ℕ) (topic : Topic) → IsBegun xs node n topic → SearchLooks xs node (search_from n.reading asa topic (next_session n) timeout)
 begun_search xs node n asa timeout topic b = record { it = b.it; among = b.among; is = record { node_is = b.node_is; session_is = b.session_is; topic_is = b.topic_is } }
 
-looked_kept : (s : Setting) (xs : List Sought) (node : ℕ) (n : NodeState) (asa : ℕ) (name : List ℕ) (kind : Kind) (loops timeout : ℕ) (f : Find)
-    → (found_as f ≡ answer.Searching → IsBegun xs node n (topic_of name kind)) → LooksKept s xs node n → LooksKept s xs node (looked n asa name kind loops timeout f)
+looked_kept : (xs : List Sought) (node : ℕ) (n : NodeState) (asa : ℕ) (name : List ℕ) (kind : Kind) (loops timeout : ℕ) (f : Find)
+    → (found_as f ≡ answer.Searching → IsBegun xs node n (topic_of name kind)) → LooksKept xs node n → LooksKept xs node (looked n asa name kind loops timeout f)
 unfolding with_discoveries with_draw queue_up
-looked_kept s xs node n asa name kind loops timeout (find.Found locators) own k = record {
+looked_kept xs node n asa name kind loops timeout (find.Found locators) own k = record {
   searches = All-filter (λ search. not (is_search_of asa (topic_of name kind) search)) (SearchLooks xs node) n.discoveries.searches k.searches;
   memories = k.memories;
 }
-looked_kept s xs node n asa name kind loops timeout find.NotYet own k = record { searches = k.searches; memories = k.memories }
-looked_kept s xs node n asa name kind loops timeout find.Nothing own k = record {
+looked_kept xs node n asa name kind loops timeout find.NotYet own k = record { searches = k.searches; memories = k.memories }
+looked_kept xs node n asa name kind loops timeout find.Nothing own k = record {
   searches = All-filter (λ search. not (is_search_of asa (topic_of name kind) search)) (SearchLooks xs node) n.discoveries.searches k.searches;
   memories = k.memories;
 }
-looked_kept s xs node n asa name kind loops timeout find.Fresh own k = record {
+looked_kept xs node n asa name kind loops timeout find.Fresh own k = record {
   searches = All-push (SearchLooks xs node) n.discoveries.searches (search_from n.reading asa (topic_of name kind) (next_session n) timeout) k.searches
       (begun_search xs node n asa timeout (topic_of name kind) (own refl));
   memories = k.memories;
@@ -91,36 +91,36 @@ looked_kept s xs node n asa name kind loops timeout find.Fresh own k = record {
 
 -- ---- each call
 
-pub call_kept : (s : Setting) (xs : List Sought) (node : ℕ) (n : NodeState) (asa : ℕ) (it : Call) (a : ApiAnswer) → MayCall n asa it (Ok a) → OwnBegun xs node n it a → LooksKept s xs node n
-    → LooksKept s xs node (after_call n asa it (Ok a))
+pub call_kept : (xs : List Sought) (node : ℕ) (n : NodeState) (asa : ℕ) (it : Call) (a : ApiAnswer) → MayCall n asa it (Ok a) → OwnBegun xs node n it a → LooksKept xs node n
+    → LooksKept xs node (after_call n asa it (Ok a))
 unfolding with_registrations with_sessions with_discoveries with_floods with_draw begin_closing dial_record queue_up
-call_kept s xs node n asa call.DeregisterAsa a m own k =
-    looks_stay s xs node (without_searches (after_declines (without_agent n asa) ds) asa) (without_sessions 64 (without_searches (after_declines (without_agent n asa) ds) asa) asa)
+call_kept xs node n asa call.DeregisterAsa a m own k =
+    looks_stay xs node (without_searches (after_declines (without_agent n asa) ds) asa) (without_sessions 64 (without_searches (after_declines (without_agent n asa) ds) asa) asa)
     (sessions_leave 64 (without_searches (after_declines (without_agent n asa) ds) asa) asa)
-    (gone (looks_stay s xs node (without_agent n asa) (after_declines (without_agent n asa) ds) (declines_leave ds (without_agent n asa)) (record { searches = k.searches; memories = k.memories })))
+    (gone (looks_stay xs node (without_agent n asa) (after_declines (without_agent n asa) ds) (declines_leave ds (without_agent n asa)) (record { searches = k.searches; memories = k.memories })))
   where
     ds : List Declining
     ds = declines_for n.sessions (names_of n.registrations asa)
 
-    gone : LooksKept s xs node (after_declines (without_agent n asa) ds) → LooksKept s xs node (without_searches (after_declines (without_agent n asa) ds) asa)
+    gone : LooksKept xs node (after_declines (without_agent n asa) ds) → LooksKept xs node (without_searches (after_declines (without_agent n asa) ds) asa)
     gone l = record {
       searches = All-filter (λ search. not (search.asa == asa)) (SearchLooks xs node) (after_declines (without_agent n asa) ds).discoveries.searches l.searches;
       memories = l.memories;
     }
-call_kept s xs node n asa (call.DeregisterObjective name) a m own k =
-    looks_stay s xs node (without_objective n asa name) (after_declines (without_objective n asa name) (declines_of n.sessions name))
+call_kept xs node n asa (call.DeregisterObjective name) a m own k =
+    looks_stay xs node (without_objective n asa name) (after_declines (without_objective n asa name) (declines_of n.sessions name))
     (declines_leave (declines_of n.sessions name) (without_objective n asa name)) (record { searches = k.searches; memories = k.memories })
-call_kept s xs node n asa (call.Discover name kind loops timeout) a m own k =
-    looked_kept s xs node n asa name kind loops timeout (find_of n asa name kind) (λ e. own (m.2 ∙ e)) k
-call_kept s xs node n asa (call.ListenNegotiate name) a m own k =
-    looks_stay s xs node (with_mark n asa name true) (with_adopted (with_mark n asa name true) asa (untaken_reply n.sessions name))
+call_kept xs node n asa (call.Discover name kind loops timeout) a m own k =
+    looked_kept xs node n asa name kind loops timeout (find_of n asa name kind) (λ e. own (m.2 ∙ e)) k
+call_kept xs node n asa (call.ListenNegotiate name) a m own k =
+    looks_stay xs node (with_mark n asa name true) (with_adopted (with_mark n asa name true) asa (untaken_reply n.sessions name))
     (adopting_leaves (with_mark n asa name true) asa (untaken_reply n.sessions name)) (record { searches = k.searches; memories = k.memories })
-call_kept s xs node n asa (call.StopListenNegotiate name) a m own k =
-    looks_stay s xs node (with_mark n asa name false) (after_declines (with_mark n asa name false) (declines_of n.sessions name))
+call_kept xs node n asa (call.StopListenNegotiate name) a m own k =
+    looks_stay xs node (with_mark n asa name false) (after_declines (with_mark n asa name false) (declines_of n.sessions name))
     (declines_leave (declines_of n.sessions name) (with_mark n asa name false)) (record { searches = k.searches; memories = k.memories })
-call_kept s xs node n asa (call.Poll h) a m own k = looks_stay s xs node n (after_polling n h (Ok a)) (polling_leaves n h a) k
-call_kept s xs node n asa (call.GetFlood name) a m own k = k
-call_kept s xs node n asa _ a m own k = record { searches = k.searches; memories = k.memories }
+call_kept xs node n asa (call.Poll h) a m own k = looks_stay xs node n (after_polling n h (Ok a)) (polling_leaves n h a) k
+call_kept xs node n asa (call.GetFlood name) a m own k = k
+call_kept xs node n asa _ a m own k = record { searches = k.searches; memories = k.memories }
 
 -- ---- a datagram
 
@@ -138,28 +138,28 @@ flood_memories n link session initiator ttl parts = by_own (same_address n.plan.
   by_own true = refl
   by_own false = by_heard (flood.heard_reply n.floods (origin_of session initiator))
 
-heard_memories : (s : Setting) (xs : List Sought) (n : NodeState) (cause : Cause) (neighbour : Neighbour) (session : ℕ) (initiator : Address) (o : Objective) (h : answered.Heard)
-    → DiscoveryLooks s xs session initiator o → All (MemoryLooks s xs) n.discoveries.memories
-    → All (MemoryLooks s xs) (discovery_heard n cause neighbour session initiator o h).discoveries.memories
+heard_memories : (xs : List Sought) (n : NodeState) (cause : Cause) (neighbour : Neighbour) (session : ℕ) (initiator : Address) (o : Objective) (h : answered.Heard)
+    → DiscoveryLooks xs session initiator o → All (MemoryLooks xs) n.discoveries.memories
+    → All (MemoryLooks xs) (discovery_heard n cause neighbour session initiator o h).discoveries.memories
 unfolding with_discoveries
-heard_memories s xs n cause neighbour session initiator o discovered.Known k all = all
-heard_memories s xs n cause neighbour session initiator o discovered.NoPlace k all = all
-heard_memories s xs n cause neighbour session initiator o discovered.New k all =
-    subst (All (MemoryLooks s xs)) (sym (answered_leaves (discovery_kept n cause session initiator o) cause.link neighbour session initiator o).memories)
-    (All-push (MemoryLooks s xs) n.discoveries.memories (origin_of session initiator, discovery.memory_from n.reading cause o) all k.search)
+heard_memories xs n cause neighbour session initiator o discovered.Known k all = all
+heard_memories xs n cause neighbour session initiator o discovered.NoPlace k all = all
+heard_memories xs n cause neighbour session initiator o discovered.New k all =
+    subst (All (MemoryLooks xs)) (sym (answered_leaves (discovery_kept n cause session initiator o) cause.link neighbour session initiator o).memories)
+    (All-push (MemoryLooks xs) n.discoveries.memories (origin_of session initiator, discovery.memory_from n.reading cause o) all k.search)
 
-discovery_memories : (s : Setting) (xs : List Sought) (n : NodeState) (cause : Cause) (neighbour : Neighbour) (session : ℕ) (initiator : Address) (o : Objective)
-    → DiscoveryLooks s xs session initiator o → All (MemoryLooks s xs) n.discoveries.memories → All (MemoryLooks s xs) (after_discovery n cause neighbour session initiator o).discoveries.memories
-discovery_memories s xs n cause neighbour session initiator o k all = by_test (is_dropped n initiator o.flags) where
+discovery_memories : (xs : List Sought) (n : NodeState) (cause : Cause) (neighbour : Neighbour) (session : ℕ) (initiator : Address) (o : Objective)
+    → DiscoveryLooks xs session initiator o → All (MemoryLooks xs) n.discoveries.memories → All (MemoryLooks xs) (after_discovery n cause neighbour session initiator o).discoveries.memories
+discovery_memories xs n cause neighbour session initiator o k all = by_test (is_dropped n initiator o.flags) where
   by_test : (b : Bool)
-      → All (MemoryLooks s xs) (cond b n (discovery_heard n cause neighbour session initiator o (discovery.heard_reply n.discoveries (origin_of session initiator)))).discoveries.memories
+      → All (MemoryLooks xs) (cond b n (discovery_heard n cause neighbour session initiator o (discovery.heard_reply n.discoveries (origin_of session initiator)))).discoveries.memories
   by_test true = all
-  by_test false = heard_memories s xs n cause neighbour session initiator o (discovery.heard_reply n.discoveries (origin_of session initiator)) k all
+  by_test false = heard_memories xs n cause neighbour session initiator o (discovery.heard_reply n.discoveries (origin_of session initiator)) k all
 
-pub datagram_memories : (s : Setting) (xs : List Sought) (n : NodeState) (link from : ℕ) (m : Option Message) → OptionLooks s xs m
-    → All (MemoryLooks s xs) n.discoveries.memories → All (MemoryLooks s xs) (after_datagram n link from m).discoveries.memories
-datagram_memories s xs n link from m k all = datagram_so (λ x. All (MemoryLooks s xs) x.discoveries.memories) n all link from m (record {
+pub datagram_memories : (xs : List Sought) (n : NodeState) (link from : ℕ) (m : Option Message) → OptionLooks xs m
+    → All (MemoryLooks xs) n.discoveries.memories → All (MemoryLooks xs) (after_datagram n link from m).discoveries.memories
+datagram_memories xs n link from m k all = datagram_so (λ x. All (MemoryLooks xs) x.discoveries.memories) n all link from m (record {
   after_discoveries = λ cause neighbour session initiator o e.
-      let looks : DiscoveryLooks s xs session initiator o = subst (OptionLooks s xs) e k in discovery_memories s xs n cause neighbour session initiator o looks all;
-  after_floods = λ link session initiator ttl parts e. subst (All (MemoryLooks s xs)) (sym (flood_memories n link session initiator ttl parts)) all;
+      let looks : DiscoveryLooks xs session initiator o = subst (OptionLooks xs) e k in discovery_memories xs n cause neighbour session initiator o looks all;
+  after_floods = λ link session initiator ttl parts e. subst (All (MemoryLooks xs)) (sym (flood_memories n link session initiator ttl parts)) all;
 })

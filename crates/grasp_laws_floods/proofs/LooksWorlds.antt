@@ -18,41 +18,41 @@ use Rattle.grasp_laws_floods.proofs.LooksNodes.{NodeLooks, node_looks_more, begi
 use Rattle.grasp_laws_floods.proofs.Sending.{SentIs, DrainedIs, Draining, drained_is, behind_is}
 use Rattle.grasp_laws_floods.specs.Sought.{Sought}
 
-abbrev pub SentLooks : Setting → List Sought → SentDatagram → Type 0
-SentLooks s xs d = SentIs (MessageLooks s xs) d
+abbrev pub SentLooks : List Sought → SentDatagram → Type 0
+SentLooks xs d = SentIs (MessageLooks xs) d
 
-pub record WorldLooks (s : Setting) (xs : List Sought) (w : WorldState) : Type 0 where
-  pub nodes : OfEachNode (NodeLooks s xs) w
-  pub sent : All (SentLooks s xs) w.datagrams
+pub record WorldLooks (xs : List Sought) (w : WorldState) : Type 0 where
+  pub nodes : OfEachNode (NodeLooks xs) w
+  pub sent : All (SentLooks xs) w.datagrams
 
-pub world_looks_more : (s : Setting) (xs more : List Sought) (w : WorldState) → WorldLooks s xs w → WorldLooks s (xs ++ more) w
-world_looks_more s xs more w k = record {
-  nodes = λ node seat found. node_looks_more s xs more node seat.core (k.nodes node seat found);
-  sent = All-weaker (SentLooks s xs) (SentLooks s (xs ++ more)) (λ d. message_looks_more s xs more d.message) w.datagrams k.sent;
+pub world_looks_more : (xs more : List Sought) (w : WorldState) → WorldLooks xs w → WorldLooks (xs ++ more) w
+world_looks_more xs more w k = record {
+  nodes = λ node seat found. node_looks_more xs more node seat.core (k.nodes node seat found);
+  sent = All-weaker (SentLooks xs) (SentLooks (xs ++ more)) (λ d. message_looks_more xs more d.message) w.datagrams k.sent;
 }
 
 -- ---- drains
 
 -- after a drain all searches and discoveries in the network are still of the given searches, and no search is added
-pub record DrainedLooks (s : Setting) (xs : List Sought) (w x : WorldState) : Type 0 where
-  pub looks : WorldLooks s xs x
+pub record DrainedLooks (xs : List Sought) (w x : WorldState) : Type 0 where
+  pub looks : WorldLooks xs x
   pub searches : x.searches ≡ w.searches
 
-drain_node : (s : Setting) (xs : List Sought) (node max : ℕ) (n : NodeState) → NodeLooks s xs node n → NodeLooks s xs node (after_drain (begin n n.reading) max)
-drain_node s xs node max n k =
-    step_looks s xs node n (after_drain (begin n n.reading) max) n.reading (input.Drain max) no_choice.coming (reply.Outputs (drained (begin n n.reading) max))
+drain_node : (xs : List Sought) (node max : ℕ) (n : NodeState) → NodeLooks xs node n → NodeLooks xs node (after_drain (begin n n.reading) max)
+drain_node xs node max n k =
+    step_looks xs node n (after_drain (begin n n.reading) max) n.reading (input.Drain max) no_choice.coming (reply.Outputs (drained (begin n n.reading) max))
     (drain_steps n max no_choice.coming) tt tt k
 
-looks_drain : (s : Setting) (xs : List Sought) → Draining (MessageLooks s xs) (NodeLooks s xs)
-looks_drain s xs = record { begins = λ node n k. begin_looks s xs node n n.reading k; drains = drain_node s xs; queue = λ node n k. k.queue }
+looks_drain : (xs : List Sought) → Draining (MessageLooks xs) (NodeLooks xs)
+looks_drain xs = record { begins = λ node n k. begin_looks xs node n n.reading k; drains = drain_node xs; queue = λ node n k. k.queue }
 
-so_drained : (s : Setting) (xs : List Sought) (w x : WorldState) → DrainedIs (MessageLooks s xs) (NodeLooks s xs) w x → DrainedLooks s xs w x
-so_drained s xs w x d = record { looks = record { nodes = d.nodes; sent = d.sent }; searches = d.searches }
+so_drained : (xs : List Sought) (w x : WorldState) → DrainedIs (MessageLooks xs) (NodeLooks xs) w x → DrainedLooks xs w x
+so_drained xs w x d = record { looks = record { nodes = d.nodes; sent = d.sent }; searches = d.searches }
 
-pub drained_looks : (s : Setting) (xs : List Sought) (w : WorldState) (node max : ℕ) → 1 ≤ node → WorldLooks s xs w → DrainedLooks s xs w (network.drained s w node max)
+pub drained_looks : (s : Setting) (xs : List Sought) (w : WorldState) (node max : ℕ) → 1 ≤ node → WorldLooks xs w → DrainedLooks xs w (network.drained s w node max)
 drained_looks s xs w node max least k =
-    so_drained s xs w (network.drained s w node max) (drained_is (MessageLooks s xs) (NodeLooks s xs) (looks_drain s xs) s w node max least k.nodes k.sent)
+    so_drained xs w (network.drained s w node max) (drained_is (MessageLooks xs) (NodeLooks xs) (looks_drain xs) s w node max least k.nodes k.sent)
 
-pub behind_looks : (b : Bool) (s : Setting) (xs : List Sought) (w : WorldState) (node : ℕ) → 1 ≤ node → WorldLooks s xs w → DrainedLooks s xs w (drained_behind b s w node)
+pub behind_looks : (b : Bool) (s : Setting) (xs : List Sought) (w : WorldState) (node : ℕ) → 1 ≤ node → WorldLooks xs w → DrainedLooks xs w (drained_behind b s w node)
 behind_looks b s xs w node least k =
-    so_drained s xs w (drained_behind b s w node) (behind_is (MessageLooks s xs) (NodeLooks s xs) (looks_drain s xs) s b w node least k.nodes k.sent)
+    so_drained xs w (drained_behind b s w node) (behind_is (MessageLooks xs) (NodeLooks xs) (looks_drain xs) s b w node least k.nodes k.sent)

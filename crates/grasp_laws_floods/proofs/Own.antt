@@ -11,7 +11,7 @@ use Rattle.grasp_model_node.specs.Node.{NodeState}
 use Rattle.grasp_laws_node.specs.Relays.{own_message}
 use Rattle.grasp_model_node.specs.SessionCalls.{flags_or}
 use Rattle.grasp_model_node.specs.Tests.{owned_flags}
-use Rattle.grasp_model_network.specs.Setting.{Member, Setting, numbered}
+use Rattle.grasp_model_network.specs.Setting.{Member, numbered}
 use Rattle.grasp_model_network.specs.World.{FloodCall}
 use Rattle.grasp_types.proofs.Facts.{some_part}
 use Rattle.grasp_types.specs.Address.{IsAddress}
@@ -44,22 +44,22 @@ looked_objective name Synchronization loops k = record { name = k.0; flags = als
 -- ---- a flood
 
 -- the call of this step is the last of the calls
-pub record IsOwn (s : Setting) (calls : List FloodCall) (n : NodeState) (asa : ℕ) (name : List ℕ) (value : DataItem) (loops : ℕ) : Type 0 where
+pub record IsOwn (ms : List Member) (calls : List FloodCall) (n : NodeState) (asa : ℕ) (name : List ℕ) (value : DataItem) (loops : ℕ) : Type 0 where
   pub call : FloodCall
   pub among : Contains calls call
   pub member : Member
-  pub made_at : numbered s.members call.node ≡ Some member
+  pub made_at : numbered ms call.node ≡ Some member
   pub address : n.plan.address ≡ member.plan.address
   pub name_is : name ≡ call.name
   pub value_is : value ≡ call.value
   pub flags_are : flags_or (owned_flags n asa name) ≡ call.flags
   pub loops_are : loops ≡ call.loops
 
-own_flood : (s : Setting) (calls : List FloodCall) (n : NodeState) (asa : ℕ) (name : List ℕ) (value : DataItem) (ttl loops : ℕ) → IsInRange (call.Flood name value ttl loops)
-    → IsAddress n.plan.address → AllHaveFlags n.registrations → IsOwn s calls n asa name value loops → MessageMade s calls (flood_message n asa name value ttl loops)
-own_flood s calls n asa name value ttl loops k address flags own = record {
+own_flood : (ms : List Member) (calls : List FloodCall) (n : NodeState) (asa : ℕ) (name : List ℕ) (value : DataItem) (ttl loops : ℕ) → IsInRange (call.Flood name value ttl loops)
+    → IsAddress n.plan.address → AllHaveFlags n.registrations → IsOwn ms calls n asa name value loops → MessageMade ms calls (flood_message n asa name value ttl loops)
+own_flood ms calls n asa name value ttl loops k address flags own = record {
   is_message = (session_below n, address, k.2, record { some = some_part part; each = All-cons IsFloodPart part [] is_part (All-nil IsFloodPart) });
-  parts = All-cons (PartMade s calls n.plan.address) part [] made (All-nil (PartMade s calls n.plan.address));
+  parts = All-cons (PartMade ms calls n.plan.address) part [] made (All-nil (PartMade ms calls n.plan.address));
 } where
   part : FloodPart
   part = flooded n asa name value loops
@@ -70,7 +70,7 @@ own_flood s calls n asa name value ttl loops k address flags own = record {
     locator = tt;
   }
 
-  made : PartMade s calls n.plan.address part
+  made : PartMade ms calls n.plan.address part
   made = record {
     call = own.call;
     among = own.among;
@@ -87,13 +87,13 @@ own_flood s calls n asa name value ttl loops k address flags own = record {
 -- ---- each call
 
 -- what the call floods, where it is done
-abbrev pub OwnCall : Setting → List FloodCall → NodeState → ℕ → Call → ApiAnswer → Type 0
-OwnCall s calls n asa (call.Flood name value ttl loops) answer.Done = IsOwn s calls n asa name value loops
-OwnCall s calls n asa it a = Unit {0}
+abbrev pub OwnCall : List Member → List FloodCall → NodeState → ℕ → Call → ApiAnswer → Type 0
+OwnCall ms calls n asa (call.Flood name value ttl loops) answer.Done = IsOwn ms calls n asa name value loops
+OwnCall ms calls n asa it a = Unit {0}
 
-pub own_made : (s : Setting) (calls : List FloodCall) (n : NodeState) (asa : ℕ) (it : Call) (a : ApiAnswer) → IsInRange it → IsAddress n.plan.address → AllHaveFlags n.registrations
-    → OwnCall s calls n asa it a → OptionMade s calls (own_message n asa it a)
-own_made s calls n asa (call.Discover name kind loops timeout) answer.Searching k address flags own =
+pub own_made : (ms : List Member) (calls : List FloodCall) (n : NodeState) (asa : ℕ) (it : Call) (a : ApiAnswer) → IsInRange it → IsAddress n.plan.address → AllHaveFlags n.registrations
+    → OwnCall ms calls n asa it a → OptionMade ms calls (own_message n asa it a)
+own_made ms calls n asa (call.Discover name kind loops timeout) answer.Searching k address flags own =
     record { is_message = (session_below n, address, looked_objective name kind loops k); parts = tt }
-own_made s calls n asa (call.Flood name value ttl loops) answer.Done k address flags own = own_flood s calls n asa name value ttl loops k address flags own
-own_made s calls n asa it a k address flags own = tt
+own_made ms calls n asa (call.Flood name value ttl loops) answer.Done k address flags own = own_flood ms calls n asa name value ttl loops k address flags own
+own_made ms calls n asa it a k address flags own = tt

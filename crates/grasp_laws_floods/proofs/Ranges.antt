@@ -1,7 +1,8 @@
 -- What is within its range in a network: the parts of calls from which messages to neighbours are made, and the addresses of members.
-use Rattle.std.proofs.Common.{ℕ, ◌<◌, ◌≤◌, ◌^◌, All}
+use Rattle.std.proofs.Common.{ℕ, ◌<◌, ◌≤◌, ◌^◌, List, All}
+use Rattle.std.specs.Prelude.{Contains}
 use Rattle.std.specs.Str.{IsUtf8}
-use Rattle.std.proofs.lemmas.List.Elements.{All-weaker}
+use Rattle.std.proofs.lemmas.List.Elements.{All-contains, All-weaker}
 use Rattle.grasp_model_network.specs.Events.{IsFitAmong}
 use Rattle.grasp_model_network.specs.GoodSetting.{IsGoodMember, IsGoodSetting}
 use Rattle.grasp_model_network.specs.Ranges.{IsCall}
@@ -35,9 +36,26 @@ pub event_range : (nodes peers : ℕ) (e : Event) → IsFitAmong nodes peers e �
 event_range nodes peers (event.Api node asa call hold) fit = call_range call fit.2
 event_range nodes peers _ fit = tt
 
--- each member's address has 32 or 128 bits
-abbrev pub HasAddresses : Setting → Type 0
-HasAddresses s = All (λ (m : Member). IsAddress m.plan.address) s.members
+-- each of these is a member of the setting: a list of lives tells for each whose it is
+abbrev pub AreMembers : Setting → List Member → Type 0
+AreMembers s ms = All (λ m. Contains s.members m) ms
 
-pub good_addresses : (s : Setting) → IsGoodSetting s → HasAddresses s
-good_addresses s good = All-weaker (IsGoodMember good.limit) (λ (m : Member). IsAddress m.plan.address) (λ m k. k.address) s.members good.members
+-- good members, with one limit on messages
+pub record AreGood (ms : List Member) : Type 0 where
+  pub limit : ℕ
+  pub most_limit : limit ≤ 65535
+  pub members : All (IsGoodMember limit) ms
+
+pub good_members : (s : Setting) (ms : List Member) → IsGoodSetting s → AreMembers s ms → AreGood ms
+good_members s ms good are = record {
+  limit = good.limit;
+  most_limit = good.most_limit;
+  members = All-weaker (λ m. Contains s.members m) (IsGoodMember good.limit) (λ m c. All-contains (IsGoodMember good.limit) s.members m good.members c) ms are;
+}
+
+-- each member's address has 32 or 128 bits
+abbrev pub HasAddresses : List Member → Type 0
+HasAddresses ms = All (λ (m : Member). IsAddress m.plan.address) ms
+
+pub good_addresses : (ms : List Member) → AreGood ms → HasAddresses ms
+good_addresses ms good = All-weaker (IsGoodMember good.limit) (λ (m : Member). IsAddress m.plan.address) (λ m k. k.address) ms good.members

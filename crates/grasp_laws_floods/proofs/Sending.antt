@@ -13,7 +13,7 @@ use Rattle.grasp_model_network.specs.Routes.{Route, route_of}
 use Rattle.grasp_model_network.specs.Sending as network
 use Rattle.grasp_model_network.specs.Sending.{seat_with, posted, having_sent, having_closed, handed_over, drained_from, drained_at, event_drain}
 use Rattle.grasp_model_network.specs.Setting.{Setting}
-use Rattle.grasp_model_network.specs.World.{Seat, SentDatagram, WorldState, seat_at, with_seat}
+use Rattle.grasp_model_network.specs.World.{Seat, SentDatagram, WorldState, member_of, seat_at, with_seat}
 use Rattle.grasp_types.specs.declared.message.Message.{Message}
 use Rattle.grasp_laws_floods.proofs.Queueing.{QueuedIs, QueueIs}
 
@@ -63,7 +63,7 @@ module _ (P : Message → Type 0) where
   }
 
   one_sent : (s : Setting) (node : ℕ) (seat : Seat) (w : WorldState) (q : Queued) → QueuedIs P q → Sends P w (having_sent s node seat w q)
-  one_sent s node seat w (datagram link to m) k = posting w m (route_of s node link to) k
+  one_sent s node seat w (datagram link to m) k = posting w m (route_of s (member_of w node) link to) k
   one_sent s node seat w (dial stream to) k = record { sent = λ all. all; flood_calls = refl; floods_read = refl; searches = refl }
   one_sent s node seat w (send stream m) k = record { sent = λ all. all; flood_calls = refl; floods_read = refl; searches = refl }
 

@@ -15,15 +15,17 @@ use Rattle.grasp_types.specs.declared.objective.Objective.{Objective}
 use Rattle.grasp_laws_floods.proofs.Happened.{IsMade}
 use Rattle.grasp_laws_floods.proofs.Made.{Made, PartMade, ReadMade, PartsMade, QueuedMade, EntryMade}
 use Rattle.grasp_laws_floods.proofs.Nodes.{NodeMade}
+use Rattle.grasp_laws_floods.proofs.Ranges.{AreMembers}
 use Rattle.grasp_laws_floods.proofs.Worlds.{SentMade}
 use Rattle.grasp_laws_floods.specs.Real.{IsFloodOf, IsCalled, IsReadCalled, FloodsAreReal, IsMessageCalled, IsQueuedCalled, FloodsOnTheWay}
 
--- a network with one node for each member, in which all floods were made
-pub record IsSound (s : Setting) (w : WorldState) : Type 0 where
-  pub made : IsMade s w
-  pub count : length w.seats ≡ length s.members
+-- a network whose lives are these members', in order, and in which all floods were made
+pub record AreSound (s : Setting) (ms : List Member) (w : WorldState) : Type 0 where
+  pub count : length w.seats ≡ length ms
+  pub are : AreMembers s ms
+  pub made : IsMade ms w
 
--- ---- the node of a member
+-- ---- the seat of a life
 
 -- something stands at this place
 pub record Stands {A : Type 0} (xs : List A) (n : ℕ) : Type 0 where
@@ -50,9 +52,9 @@ stands {A} xs ys n y e f = by_zero (n == 0) refl where
     from : (x : A) × (slice_get xs (n - 1) ≡ Some x) → Stands xs n
     from p = record { x = p.0; is = rw is p.1 }
 
-seat_for : (s : Setting) (w : WorldState) (i : Address) (o : Objective) (l : Option Locator) → IsSound s w → (m : Made s w.flood_calls i o l) → Stands w.seats m.call.node → IsFloodOf w i o l m.call
-seat_for s w i o l k m st = of_node (k.made.nodes m.call.node st.x st.is) where
-  of_node : NodeMade s w.flood_calls m.call.node st.x.core → IsFloodOf w i o l m.call
+seat_for : (s : Setting) (ms : List Member) (w : WorldState) (i : Address) (o : Objective) (l : Option Locator) → AreSound s ms w → (m : Made ms w.flood_calls i o l) → Stands w.seats m.call.node → IsFloodOf w i o l m.call
+seat_for s ms w i o l k m st = of_node (k.made.nodes m.call.node st.x st.is) where
+  of_node : NodeMade ms w.flood_calls m.call.node st.x.core → IsFloodOf w i o l m.call
   of_node n = record {
     seat = st.x;
     made_at = st.is;
@@ -64,35 +66,35 @@ seat_for s w i o l k m st = of_node (k.made.nodes m.call.node st.x st.is) where
     no_locator = m.no_locator;
   }
 
-pub is_called : (s : Setting) (w : WorldState) (i : Address) (o : Objective) (l : Option Locator) → IsSound s w → Made s w.flood_calls i o l → IsCalled w i o l
-is_called s w i o l k m =
-    (m.among.0, m.call, m.among.1, m.among.2, seat_for s w i o l k m (stands w.seats s.members m.call.node m.member k.count m.made_at))
+pub is_called : (s : Setting) (ms : List Member) (w : WorldState) (i : Address) (o : Objective) (l : Option Locator) → AreSound s ms w → Made ms w.flood_calls i o l → IsCalled w i o l
+is_called s ms w i o l k m =
+    (m.among.0, m.call, m.among.1, m.among.2, seat_for s ms w i o l k m (stands w.seats ms m.call.node m.member k.count m.made_at))
 
 -- ---- all floods
 
-pub reads_called : (s : Setting) (w : WorldState) (reads : List FloodRead) → IsSound s w → All (ReadMade s w.flood_calls) reads → All (IsReadCalled w) reads
-reads_called s w reads k all =
-    All-weaker (ReadMade s w.flood_calls) (IsReadCalled w) (λ read. is_called s w read.initiator read.objective read.locator k) reads all
+pub reads_called : (s : Setting) (ms : List Member) (w : WorldState) (reads : List FloodRead) → AreSound s ms w → All (ReadMade ms w.flood_calls) reads → All (IsReadCalled w) reads
+reads_called s ms w reads k all =
+    All-weaker (ReadMade ms w.flood_calls) (IsReadCalled w) (λ read. is_called s ms w read.initiator read.objective read.locator k) reads all
 
-message_called : (s : Setting) (w : WorldState) (m : Message) → IsSound s w → PartsMade s w.flood_calls m → IsMessageCalled w m
-message_called s w (Flood session initiator ttl parts) k p =
-    All-weaker (PartMade s w.flood_calls initiator) (λ part. IsCalled w initiator part.objective part.locator) (λ part. is_called s w initiator part.objective part.locator k) parts p
-message_called s w _ k p = tt
+message_called : (s : Setting) (ms : List Member) (w : WorldState) (m : Message) → AreSound s ms w → PartsMade ms w.flood_calls m → IsMessageCalled w m
+message_called s ms w (Flood session initiator ttl parts) k p =
+    All-weaker (PartMade ms w.flood_calls initiator) (λ part. IsCalled w initiator part.objective part.locator) (λ part. is_called s ms w initiator part.objective part.locator k) parts p
+message_called s ms w _ k p = tt
 
-queued_called : (s : Setting) (w : WorldState) (q : Queued) → IsSound s w → QueuedMade s w.flood_calls q → IsQueuedCalled w q
-queued_called s w (datagram link to m) k p = message_called s w m k p.parts
-queued_called s w (dial stream to) k p = tt
-queued_called s w (send stream m) k p = tt
+queued_called : (s : Setting) (ms : List Member) (w : WorldState) (q : Queued) → AreSound s ms w → QueuedMade ms w.flood_calls q → IsQueuedCalled w q
+queued_called s ms w (datagram link to m) k p = message_called s ms w m k p.parts
+queued_called s ms w (dial stream to) k p = tt
+queued_called s ms w (send stream m) k p = tt
 
-pub floods_real : (s : Setting) (w : WorldState) → IsSound s w → FloodsAreReal w
-floods_real s w k = record { read = reads_called s w w.floods_read k k.made.read }
+pub floods_real : (s : Setting) (ms : List Member) (w : WorldState) → AreSound s ms w → FloodsAreReal w
+floods_real s ms w k = record { read = reads_called s ms w w.floods_read k k.made.read }
 
-pub floods_on_the_way : (s : Setting) (w : WorldState) → IsSound s w → FloodsOnTheWay w
-floods_on_the_way s w k = record {
-  sent = All-weaker (SentMade s w.flood_calls) (λ d. IsMessageCalled w d.message) (λ d p. message_called s w d.message k p.parts) w.datagrams k.made.sent;
+pub floods_on_the_way : (s : Setting) (ms : List Member) (w : WorldState) → AreSound s ms w → FloodsOnTheWay w
+floods_on_the_way s ms w k = record {
+  sent = All-weaker (SentMade ms w.flood_calls) (λ d. IsMessageCalled w d.message) (λ d p. message_called s ms w d.message k p.parts) w.datagrams k.made.sent;
   queued = λ node seat found.
-      All-weaker (QueuedMade s w.flood_calls) (IsQueuedCalled w) (λ q p. queued_called s w q k p) seat.core.queue (k.made.nodes node seat found).queue;
+      All-weaker (QueuedMade ms w.flood_calls) (IsQueuedCalled w) (λ q p. queued_called s ms w q k p) seat.core.queue (k.made.nodes node seat found).queue;
   cached = λ node seat found.
-      All-weaker (EntryMade s w.flood_calls) (λ entry. IsReadCalled w (read_of entry)) (λ entry. is_called s w _ _ _ k) seat.core.floods.entries
+      All-weaker (EntryMade ms w.flood_calls) (λ entry. IsReadCalled w (read_of entry)) (λ entry. is_called s ms w _ _ _ k) seat.core.floods.entries
       (k.made.nodes node seat found).tables.entries;
 }

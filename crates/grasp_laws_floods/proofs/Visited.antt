@@ -6,10 +6,10 @@ use Rattle.grasp_model_network.proofs.Facts.{agent_given}
 use Rattle.grasp_model_network.specs.EventSteps.{agent_visit, agent_input, arrival_visit, opened_stream, opened_at, clock_seat, cut_visit, cut_at, datagram_visit, datagram_at, piece_visit, piece_at}
 use Rattle.grasp_model_network.specs.Events.{visit_of}
 use Rattle.grasp_model_network.specs.StreamChanges.{Reached, reached_side, side_named}
-use Rattle.grasp_model_network.specs.Setting.{Member, Setting, numbered, member_at}
+use Rattle.grasp_model_network.specs.Setting.{Setting, numbered, member_at}
 use Rattle.grasp_model_network.specs.Streams.{StreamState, is_waiting, stream_numbered}
 use Rattle.grasp_model_network.specs.Visits.{Visit, visit, visit_seat}
-use Rattle.grasp_model_network.specs.World.{Seat, SentDatagram, WorldState, seat_at}
+use Rattle.grasp_model_network.specs.World.{Seat, SentDatagram, WorldState, present_life, seat_at}
 use Rattle.grasp_model_network.specs.declared.event.Event.{Event}
 use Rattle.grasp_model_network.specs.declared.event.Event.TheVariants as event
 use Rattle.grasp_session.specs.Messages.{Side}
@@ -59,21 +59,21 @@ datagram_given w index v None e is = absurd (none-some v is)
 datagram_given w index v (Some d) e is = record {
   sent = d;
   found = e;
-  is = visit_input w d.route.receiver (input.Datagram d.route.link d.route.from (encoding d.message)) v is;
+  is = visit_input w (present_life w d.route.receiver) (input.Datagram d.route.link d.route.from (encoding d.message)) v is;
 }
 
-opened_quiet : (s : Setting) (w : WorldState) (k : ℕ) (v : Visit) (to : Option ℕ) (near : Option Member) → opened_at s w k to near ≡ Some v → IsQuiet v.input
+opened_quiet : (s : Setting) (w : WorldState) (k : ℕ) (v : Visit) (to : Option ℕ) (near : Option Seat) → opened_at s w k to near ≡ Some v → IsQuiet v.input
 opened_quiet s w k v None near is = absurd (none-some v is)
 opened_quiet s w k v (Some node) None is = absurd (none-some v is)
 opened_quiet s w k v (Some node) (Some near) is =
-    quiet_is v.input (input.Opened (s.arrives_as node k) (s.arrives_from k near.plan.address))
-    (visit_input w node (input.Opened (s.arrives_as node k) (s.arrives_from k near.plan.address)) v is) tt
+    quiet_is v.input (input.Opened (s.arrives_as (present_life w node) k) (s.arrives_from k near.core.plan.address))
+    (visit_input w (present_life w node) (input.Opened (s.arrives_as (present_life w node) k) (s.arrives_from k near.core.plan.address)) v is) tt
 
 arrival_quiet : (s : Setting) (w : WorldState) (k : ℕ) (v : Visit) (o : Option StreamState) → opened_stream s w k o ≡ Some v → IsQuiet v.input
 arrival_quiet s w k v None is = absurd (none-some v is)
 arrival_quiet s w k v (Some t) is = by_side (is_waiting t.far_side) is where
-  by_side : (b : Bool) → cond b (opened_at s w k (member_at s t.to) (numbered s.members t.near.node)) None ≡ Some v → IsQuiet v.input
-  by_side true e = opened_quiet s w k v (member_at s t.to) (numbered s.members t.near.node) e
+  by_side : (b : Bool) → cond b (opened_at s w k (member_at s t.to) (seat_at w t.near.node)) None ≡ Some v → IsQuiet v.input
+  by_side true e = opened_quiet s w k v (member_at s t.to) (seat_at w t.near.node) e
   by_side false e = absurd (none-some v e)
 
 piece_quiet : (w : WorldState) (side : Side) (count : ℕ) (v : Visit) (o : Option Reached) → piece_at w side count o ≡ Some v → IsQuiet v.input
@@ -88,15 +88,15 @@ cut_quiet w v (Some x) is = quiet_is v.input (input.Closed x.at.number) (visit_i
 
 pub given_by : (s : Setting) (w : WorldState) (e : Event) (v : Visit) → visit_of s w e ≡ Some v → GivenBy w e v
 unfolding agent_visit datagram_visit arrival_visit piece_visit cut_visit
-given_by s w (event.Clock node millis) v is = clock_quiet node millis v (seat_at w node) is
+given_by s w (event.Clock node millis) v is = clock_quiet (present_life w node) millis v (seat_at w (present_life w node)) is
 given_by s w (event.Want node length longest peer) v is = absurd (none-some v is)
 given_by s w (event.Return node prefix peer) v is = absurd (none-some v is)
-given_by s w (event.Agent node hold) v is = agent_given node v (seat_at w node) is
-given_by s w (event.Api node asa call hold) v is = visit_input w node (input.Api asa call) v is
+given_by s w (event.Agent node hold) v is = agent_given (present_life w node) v (seat_at w (present_life w node)) is
+given_by s w (event.Api node asa call hold) v is = visit_input w (present_life w node) (input.Api asa call) v is
 given_by s w (event.Datagram index hold) v is = datagram_given w index v (numbered w.datagrams index) refl is
 given_by s w (event.Arrive stream hold) v is = arrival_quiet s w stream v (stream_numbered w.streams stream) is
 given_by s w (event.Bytes stream far count hold) v is = piece_quiet w (side_named far) count v (reached_side w stream (side_named far)) is
 given_by s w (event.Cut stream far hold) v is = cut_quiet w v (reached_side w stream (side_named far)) is
-given_by s w (event.Drain node max) v is = visit_drains w node max v is where
+given_by s w (event.Drain node max) v is = visit_drains w (present_life w node) max v is where
   visit_drains : (w : WorldState) (node max : ℕ) (v : Visit) → visit w node (input.Drain max) ≡ Some v → IsQuiet v.input
   visit_drains w node max v e = quiet_is v.input (input.Drain max) (visit_input w node (input.Drain max) v e) tt

@@ -1,4 +1,4 @@
--- What is so of floods and discoveries in every network that events lead to.
+-- What is so of floods and discoveries in every network that turns lead to.
 use Rattle.std.specs.Prelude.{◌≡◌, List, Some, All}
 use Rattle.grasp_model_node.specs.Begin.{begin}
 use Rattle.grasp_laws_node.specs.Relays.{Queues}
@@ -12,7 +12,7 @@ use Rattle.grasp_model_network.specs.declared.event.Event.{Event}
 use Rattle.grasp_laws_floods.specs.Sought.{DiscoveriesAreSought}
 use Rattle.grasp_laws_floods.specs.Real.{FloodsAreReal, ReadsWereCalled, FloodsOnTheWay}
 
--- P holds of each network that events lead to, and of each network of a run
+-- P holds of each network that turns lead to, and of each network of a run
 pub record OfEachWorld (P : WorldState → Type 0) : Type 0 where
   pub reached : (s : Setting) (w : WorldState) → IsReached s w → P w
   pub worlds : (s : Setting) (hs : List Happening) → IsGoodSetting s → IsRun s (first_world s) hs → All P (worlds_from s (first_world s) hs)
@@ -29,7 +29,7 @@ OtherFloodsAreReal = OfEachWorld FloodsOnTheWay
 abbrev pub ReadsComeLater : Type 0
 ReadsComeLater = (s : Setting) (w : WorldState) (e : Event) (c : Choice) → IsReached s w → Occurs s w e c → ReadsWereCalled w (after_event s w e c)
 
--- what a node sends on it sends on once, with the loop count less by one: so it is at each event of a network that events lead to
+-- what a node sends on it sends on once, with the loop count less by one: so it is at each event of a network that turns lead to
 abbrev pub RelaysAreOnceHere : Type 0
 RelaysAreOnceHere = (s : Setting) (w : WorldState) (e : Event) (c : Choice) (v : Visit) → IsReached s w → Occurs s w e c → visit_of s w e ≡ Some v
     → Queues (begin v.seat.core v.now) v.input c.coming c.reply c.after

@@ -9,7 +9,7 @@ use Rattle.grasp_discovery.specs.declared.topic.Topic.{Topic}
 use Rattle.grasp_model_network.specs.Notes.{SearchesDiffer}
 use Rattle.grasp_model_network.specs.Runs.{IsReached}
 use Rattle.grasp_model_network.specs.Setting.{Setting}
-use Rattle.grasp_model_network.specs.World.{Seat, SearchCall, WorldState, seat_at}
+use Rattle.grasp_model_network.specs.World.{Seat, SearchCall, WorldState, seat_at, member_of}
 use Rattle.grasp_types.specs.declared.address.Address.{Address}
 use Rattle.grasp_types.specs.declared.message.Message.{Message}
 use Rattle.grasp_types.specs.declared.message.Message.TheVariants.{Noop, Discovery, Response, ReqNeg, ReqSyn, Negotiate, End, Wait, Synch, Flood, Invalid}
@@ -27,6 +27,7 @@ pub record IsOfSearch (w : WorldState) (session : ℕ) (initiator : Address) (to
   pub seat : Seat
   pub begun_at : seat_at w x.search.node ≡ Some seat
   pub address : initiator ≡ seat.core.plan.address
+  pub told : initiator ≡ x.search.address
   pub session_is : session ≡ x.search.session
   pub topic_is : topic ≡ x.topic
 
@@ -56,41 +57,43 @@ IsQueuedSought w sought (send stream m) = Unit {0}
 abbrev pub IsMemorySought : WorldState → List Sought → Origin × Memory → Type 0
 IsMemorySought w sought memory = Any (IsOfSearch w memory.0.session memory.0.initiator memory.1.topic) sought
 
--- a search that a node keeps was begun there
+-- the search was begun in a life that is there, and told the address of its node
+pub record IsBegunIn (w : WorldState) (x : Sought) : Type 0 where
+  pub seat : Seat
+  pub begun_at : seat_at w x.search.node ≡ Some seat
+  pub address : x.search.address ≡ seat.core.plan.address
+
+-- a search that a node keeps was begun there, in this life
 pub record IsKeptSearch (node : ℕ) (search : Search) (x : Sought) : Type 0 where
   pub node_is : x.search.node ≡ node
   pub session_is : search.session ≡ x.search.session
   pub topic_is : search.topic ≡ x.topic
 
--- the search was begun in its node's first life
-abbrev pub IsFirstLife : Sought → Type 0
-IsFirstLife x = x.search.life ≡ 0
-
--- node and number settle the search, and so what it looks for
+-- address and number settle the search, and so what it looks for
 abbrev pub AreSettled : List Sought → Type 0
-AreSettled sought = (a b : Sought) → Contains sought a → Contains sought b → a.search.node ≡ b.search.node → a.search.session ≡ b.search.session → a ≡ b
+AreSettled sought = (a b : Sought) → Contains sought a → Contains sought b → a.search.address ≡ b.search.address → a.search.session ≡ b.search.session → a ≡ b
 
 -- each search that was begun looks for something, and each discovery in a datagram that was sent, in a queue and in a node's memory is one
 -- of them, and so is each search that a node keeps
 pub record DiscoveriesAreSought (w : WorldState) : Type 0 where
   pub sought : List Sought
   pub searches : map (λ x. x.search) sought ≡ w.searches
+  pub begun : All (IsBegunIn w) sought
   pub sent : All (λ d. IsMessageSought w sought d.message) w.datagrams
   pub queued : (node : ℕ) (seat : Seat) → seat_at w node ≡ Some seat → All (IsQueuedSought w sought) seat.core.queue
   pub remembered : (node : ℕ) (seat : Seat) → seat_at w node ≡ Some seat → All (IsMemorySought w sought) seat.core.discoveries.memories
   pub kept : (node : ℕ) (seat : Seat) → seat_at w node ≡ Some seat → All (λ search. Any (IsKeptSearch node search) sought) seat.core.discoveries.searches
-  pub lives : All IsFirstLife sought
-  -- where no node began two searches under one number
+  -- where no two searches were begun under one number at one address
   pub settled : SearchesDiffer w → AreSettled sought
 
 -- ---- what a session number and an initiator tell
 
--- two nodes with one address are one
+-- two lives with one address are of one node
 abbrev pub AddressesTellNodes : Type 0
 AddressesTellNodes = (s : Setting) (w : WorldState) → IsReached s w → (j k : ℕ) (a b : Seat) → seat_at w j ≡ Some a → seat_at w k ≡ Some b
-    → a.core.plan.address ≡ b.core.plan.address → j ≡ k
+    → a.core.plan.address ≡ b.core.plan.address → member_of w j ≡ member_of w k
 
--- where no node began two searches under one session number, two that this number and this initiator are of look for the same
+-- where no two searches were begun under one session number at one address, two that this number and this initiator are of look for the same
 abbrev pub SearchIsTold : Type 0
 SearchIsTold = (s : Setting) (w : WorldState) → IsReached s w → SearchesDiffer w → (k : DiscoveriesAreSought w) → (session : ℕ) (initiator : Address) (one other : Topic)
     → Any (IsOfSearch w session initiator one) k.sought → Any (IsOfSearch w session initiator other) k.sought → one ≡ other

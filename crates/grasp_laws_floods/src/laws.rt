@@ -1,4 +1,4 @@
-//! What is so of the floods and discoveries of every network that events lead to. They say nothing at run time.
+//! What is so of the floods and discoveries of every network that turns lead to. They say nothing at run time.
 
 ghost use Rattle.grasp_laws_floods.specs.Sought.{AddressesTellNodes, SearchIsTold};
 ghost use Rattle.grasp_laws_floods.specs.Laws.{
@@ -39,8 +39,8 @@ pub fn discoveries_are_real()
     ensures { DiscoveriesAreReal }
 {}
 
-/// Two nodes with one address are one; and where no node began two searches under one session number, this number and the
-/// initiator of a discovery tell what it looks for.
+/// Two lives with one address are of one node; and where no two searches were begun under one session number at one address,
+/// this number and the initiator of a discovery tell what it looks for.
 pub fn initiators_tell_searches()
     ensures nodes { AddressesTellNodes }
     ensures searches { SearchIsTold }

@@ -1,14 +1,11 @@
--- A drain, a change of one agent and the first network.
-use Rattle.std.proofs.Common.{◌≡◌, ◌≤◌, ◌-◌, ℕ, ◌==◌, Bool, true, false, cond, List, [], inl, inr, Option, Some, None, length, slice_get, slice_set, map, take, drop, refl, sym, ap, ◌∙◌, subst, arith}
+-- A drain, a change of one agent, a restart and the first network.
+use Rattle.std.proofs.Common.{◌≡◌, ◌≤◌, ◌-◌, ℕ, ◌==◌, Bool, true, false, cond, List, [], inl, Option, Some, None, length, reverse, slice_get, slice_set, map, take, drop, refl, sym, ap, ◌∙◌, subst, arith}
 use Rattle.std.proofs.Math.ListN.{drop_of_length-le}
-use Rattle.std.proofs.lemmas.Bool.{eqb-true, eqb-false, true≢false}
+use Rattle.std.proofs.lemmas.Bool.{true≢false}
 use Rattle.std.proofs.lemmas.List.{length-drop}
 use Rattle.std.proofs.lemmas.Option.{none-some, same_Some as some_same}
-use Rattle.grasp_agent.specs.Calls.{next_call, agent_name, objective_name}
-use Rattle.grasp_agent.specs.Replies.{after_reply}
-use Rattle.grasp_model_node.specs.Begin.{begin, expired}
+use Rattle.grasp_model_node.specs.Begin.{begin}
 use Rattle.grasp_model_node.specs.Draining.{closes, drained, after_drain}
-use Rattle.grasp_model_node.specs.Moves.{with_reading, with_registrations, with_sessions, with_discoveries, with_floods, begin_closing}
 use Rattle.grasp_model_node.specs.Node.{NodeState}
 use Rattle.grasp_model_node.specs.Queue.{Queued}
 use Rattle.grasp_model_node.specs.BoundedNodes.{IsGiven}
@@ -19,37 +16,41 @@ use Rattle.grasp_types.specs.declared.traffic.Input.TheVariants as input
 use Rattle.grasp_laws_node.proofs.Drains.{drains_dial_nothing}
 use Rattle.grasp_laws_node_stories.specs.Stories.{came_by, fault_by, gained, IsClear}
 use Rattle.grasp_laws_node_stories.specs.StreamMoves.{view_on, is_dial, some_move}
-use Rattle.grasp_session.specs.Messages.{Side, Near, Far}
+use Rattle.grasp_session.specs.Conversation.{Said, spoken}
+use Rattle.grasp_session.specs.Laws.{IsOpened}
+use Rattle.grasp_session.specs.Messages.{Near}
 use Rattle.grasp_session.specs.Talk.{Party}
+use Rattle.grasp_wire.specs.Cutter.{Past}
 use Rattle.grasp_laws_network.proofs.EachNode.{IsMade, is_made, drain_steps}
 use Rattle.grasp_laws_network.proofs.Others.{put_elsewhere}
+use Rattle.grasp_laws_network.proofs.Restarted.{Restarting, restart_seats}
 use Rattle.grasp_laws_network.proofs.Sent.{sending_keeps_nodes}
 use Rattle.grasp_laws_network.proofs.Staying.{put_here}
-use Rattle.grasp_laws_network.proofs.Telling.{one_least}
 use Rattle.grasp_laws_network.specs.Telling.{OneAgent}
-use Rattle.grasp_model_network.specs.Runs.{IsReached, answered_seat, first_seat, first_world}
+use Rattle.grasp_model_network.specs.Runs.{IsReached, first_world}
+use Rattle.grasp_model_network.specs.Openings.{first_seat}
 use Rattle.grasp_model_network.specs.Sending as network
 use Rattle.grasp_model_network.specs.Sending.{seat_with, drained_at, drained_from}
 use Rattle.grasp_model_network.specs.Setting.{Member, Setting, numbered}
-use Rattle.grasp_model_network.specs.Streams.{StreamEnd, StreamState, end_at, is_same_end}
+use Rattle.grasp_model_network.specs.Streams.{StreamEnd, StreamState, is_same_end}
 use Rattle.grasp_model_network.specs.Visits.{no_choice}
-use Rattle.grasp_model_network.specs.World.{Seat, WorldState, seat_at, with_seat, life_of}
+use Rattle.grasp_model_network.specs.World.{Seat, WorldState, present_life, seat_at, with_seat, end_of, life_of}
+use Rattle.grasp_pool.specs.Functions.{pool_of, pool_of_image}
+use Rattle.grasp_pool.specs.declared.image.PoolImage.{PoolImage}
 use Rattle.grasp_laws_delivery.proofs.AfterSteps.{agent_keeps}
 use Rattle.grasp_laws_negotiation.proofs.Events.{like_ends}
-use Rattle.grasp_laws_negotiation.proofs.Harmless.{IsLike, Harmless, handed_harmless}
+use Rattle.grasp_laws_negotiation.proofs.Harmless.{IsLike, like_itself, like_end, Was, Harmless, handed_harmless}
+use Rattle.grasp_laws_negotiation.proofs.Left.{begun_unseen, begun_closed, begun_clear, one_looked, restart_looked, restart_harmless}
 use Rattle.grasp_laws_negotiation.proofs.NodeMoves.{FromOld, NodeMove, move_stands, move_goes}
-use Rattle.grasp_laws_negotiation.proofs.Standing.{view_seat, EndStands, SideStands, Stands, GoesTo, NoStream, NetworkStands}
+use Rattle.grasp_laws_negotiation.proofs.Standing.{view_seat, OpenStands, EndStands, SideStands, Stands, GoesTo, NoStream, NetworkStands}
 use Rattle.grasp_laws_negotiation.proofs.Steps.{story_of, clear_of, comes_of, nothing_added, is_recorded, life_is, ends_apart}
 use Rattle.grasp_laws_negotiation.specs.Grounds.{Grounds}
 use Rattle.grasp_laws_negotiation.proofs.TalkRuns.{joined}
 use Rattle.grasp_laws_negotiation.proofs.TalkSteps.{Fits}
 use Rattle.grasp_laws_negotiation.proofs.Voices.{voices}
+use Rattle.grasp_laws_negotiation.specs.Negotiations.{IsNegotiation}
 
 -- ---- a drain
-
-like_before : (t u : StreamState) → IsLike t u → (side : Side) (e : StreamEnd) → end_at u side ≡ Some e → end_at t side ≡ Some e
-like_before t u like Near e at = ap (λ x. Some x) (sym like.near) ∙ at
-like_before t u like Far e at = sym like.far ∙ at
 
 drain_brings : (max : ℕ) (x : Coming) (stream : ℕ) → (came_by (input.Drain max) x stream ≡ []) × (fault_by (input.Drain max) x stream ≡ false)
 drain_brings max x stream = (refl, refl)
@@ -120,7 +121,7 @@ module _ (l : Grounds) (s : Setting) (w : WorldState) (r : IsReached s w) (k : N
     recorded = is_recorded l s w r k node seat here core seat.core.reading (input.Drain max) no_choice.coming (Outputs (drained now_core max)) step;
     ends_stay = λ e none place t is side at. let m = harmless.forth place t is in none place m.after m.stands side (like_ends t m.after m.like side e at);
     stays = λ place t is. let m = harmless.forth place t is in (m.after, m.stands, m.like.near);
-    lives = λ place u is side e at here_node. let m = harmless.back place u is in life_is l s w r place m.before m.stands side e (like_before m.before u m.like side e at)
+    lives = λ place u is side e at here_node. let m = harmless.back place u is in life_is l s w r place m.before m.stands side e (sym (like_end m.before u m.like side) ∙ at)
         ∙ sym (ap (λ (x : List NodeState). length x) (l.ready.lives s w r node seat here));
     apart = λ place u is e at. let m = harmless.back place u is in ap (λ n. is_same_end e n) m.like.near ∙ ends_apart l s w r place m.before m.stands e (sym m.like.far ∙ at);
     comes_from = λ place u is. inl (old place u is);
@@ -156,6 +157,38 @@ drained_goes l s w node max r k least place t u was there m = by_seat (seat_at w
   by_seat None here found = same_goes w place t u was found m
   by_seat (Some seat) here found = drain_goes l s w r k node max seat here least place t u was found m
 
+-- ---- networks in which each node is looked up as it was
+
+-- what came on a stream that is open at a node
+abbrev open_seat : ℕ → Option Seat → Option Past
+open_seat stream None = None
+open_seat stream (Some seat) = past_of seat.core.streams stream
+
+module _ (w x : WorldState) (same_view : (n stream : ℕ) → view_seat stream (seat_at x n) ≡ view_seat stream (seat_at w n)) (same_open : (n stream : ℕ) → open_seat stream (seat_at x n) ≡ open_seat stream (seat_at w n)) where
+  opened_before : (e : StreamEnd) (p : Party) (past : Past) (o : Option Seat) → seat_at w e.node ≡ o → open_seat e.number o ≡ Some past → EndStands w e p → OpenStands past p
+  opened_before e p past None here is stands = absurd (none-some past is)
+  opened_before e p past (Some seat) here is stands = stands.opens seat past here is
+
+  end_still : (e : StreamEnd) (p : Party) → EndStands w e p → EndStands x e p
+  end_still e p stands = record {
+    fits = subst (λ v. Fits v p.stage) (sym (same_view e.node e.number)) stands.fits;
+    opens = λ seat past found is. opened_before e p past (seat_at w e.node) refl (sym (same_open e.node e.number) ∙ (ap (open_seat e.number) found ∙ is)) stands;
+  }
+
+  side_still : (e : Option StreamEnd) (p : Party) → SideStands w e p → SideStands x e p
+  side_still None p stands = stands
+  side_still (Some e) p stands = end_still e p stands
+
+  -- a stream that is like it was stands as it did
+  abbrev still : (t u : StreamState) → IsLike t u → Stands w t → Stands x u
+  still t u like m = record {
+    talk = m.talk;
+    reached = m.reached;
+    said_is = m.said_is ∙ sym like.said;
+    near = subst (λ e. EndStands x e m.talk.near) (sym like.near) (end_still t.near m.talk.near m.near);
+    far = subst (λ e. SideStands x e m.talk.far) (sym like.far) (side_still t.far m.talk.far m.far);
+  }
+
 -- ---- another agent
 
 module _ (w x : WorldState) (o : OneAgent w x) where
@@ -169,30 +202,14 @@ module _ (w x : WorldState) (o : OneAgent w x) where
   pub had_stream : (place : ℕ) (t : StreamState) → slice_get x.streams place ≡ Some t → slice_get w.streams place ≡ Some t
   had_stream place t is = subst (λ (y : WorldState). slice_get y.streams place ≡ Some t) o.after is
 
-  abbrev asked : Seat
-  asked = seat_with o.seat o.seat.core o.agent
+  same_view : (n stream : ℕ) → view_seat stream (seat_at x n) ≡ view_seat stream (seat_at w n)
+  same_view n stream = one_looked (view_seat stream) w x o refl n
 
-  same_view : (e : StreamEnd) → view_seat e.number (seat_at x e.node) ≡ view_seat e.number (seat_at w e.node)
-  same_view e = subst (λ (y : WorldState). view_seat e.number (seat_at y e.node) ≡ view_seat e.number (seat_at w e.node)) (sym o.after) (by_node (e.node == o.node) refl) where
-    by_node : (b : Bool) → (e.node == o.node) ≡ b → view_seat e.number (seat_at (with_seat w o.node asked) e.node) ≡ view_seat e.number (seat_at w e.node)
-    by_node true is =
-        let at : e.node ≡ o.node = eqb-true e.node o.node is in
-        ap (λ z. view_seat e.number z) (ap (λ n. seat_at (with_seat w o.node asked) n) at ∙ put_here w.seats o.node o.seat asked o.here)
-        ∙ sym (ap (λ z. view_seat e.number z) (ap (λ n. seat_at w n) at ∙ o.here))
-    by_node false is = ap (λ z. view_seat e.number z) (put_elsewhere w.seats o.node e.node asked (one_least w x o) (eqb-false e.node o.node is))
+  same_open : (n stream : ℕ) → open_seat stream (seat_at x n) ≡ open_seat stream (seat_at w n)
+  same_open n stream = one_looked (open_seat stream) w x o refl n
 
-  end_still : (e : StreamEnd) (p : Party) → EndStands w e p → EndStands x e p
-  end_still e p stands = record {
-    fits = subst (λ v. Fits v p.stage) (sym (same_view e)) stands.fits;
-    opens = λ other past found is. let h = had e.node other found in stands.opens h.0 past h.1 (subst (λ (z : NodeState). past_of z.streams e.number ≡ Some past) h.2 is);
-  }
-
-  side_still : (e : Option StreamEnd) (p : Party) → SideStands w e p → SideStands x e p
-  side_still None p stands = stands
-  side_still (Some e) p stands = end_still e p stands
-
-  abbrev still : (t : StreamState) → Stands w t → Stands x t
-  still t m = record { talk = m.talk; reached = m.reached; said_is = m.said_is; near = end_still t.near m.talk.near m.near; far = side_still t.far m.talk.far m.far }
+  abbrev one_still : (t : StreamState) → Stands w t → Stands x t
+  one_still t m = still w x same_view same_open t t (like_itself t) m
 
   pub one_stands : NetworkStands w → NetworkStands x
   one_stands k = record {
@@ -201,27 +218,42 @@ module _ (w x : WorldState) (o : OneAgent w x) where
         let before = subst (λ (y : WorldState). NoStream y.streams (record { node = n; life = life_of other; number = stream })) o.after none in
         subst (λ (z : NodeState). view_on z stream ≡ None) (sym h.2)
         (k.unseen n h.0 h.1 stream (subst (λ life. NoStream w.streams (record { node = n; life = life; number = stream })) h.3 before));
-    streams = λ place t is negotiation. still t (k.streams place t (had_stream place t is) negotiation);
+    streams = λ place t is negotiation. one_still t (k.streams place t (had_stream place t is) negotiation);
   }
 
   -- a change of the agent of one node leaves each stream as it was, with no move made
   pub one_goes : (place : ℕ) (t u : StreamState) → slice_get w.streams place ≡ Some t → slice_get x.streams place ≡ Some u → (m : Stands w t) → GoesTo x u m.talk
-  one_goes place t u was there m = subst (λ z. GoesTo x z m.talk) (some_same t u (sym was ∙ had_stream place u there)) (record { stands = still t m; moves = []; ran = refl })
+  one_goes place t u was there m = subst (λ z. GoesTo x z m.talk) (some_same t u (sym was ∙ had_stream place u there)) (record { stands = one_still t m; moves = []; ran = refl })
+
+-- ---- a restart
+
+module _ (s : Setting) (w : WorldState) (node : ℕ) (image : PoolImage) (x : WorldState) (r : Restarting s w node image x) where
+  restart_view : (n stream : ℕ) → view_seat stream (seat_at x n) ≡ view_seat stream (seat_at w n)
+  restart_view n stream = restart_looked s w node image x r (view_seat stream) refl (begun_unseen r.member.plan (pool_of_image image) stream) n
+
+  restart_open : (n stream : ℕ) → open_seat stream (seat_at x n) ≡ open_seat stream (seat_at w n)
+  restart_open n stream = restart_looked s w node image x r (open_seat stream) refl (begun_closed r.member.plan (pool_of_image image) stream) n
+
+  -- an end that no stream has now had none before
+  none_before : (e : StreamEnd) → NoStream x.streams e → NoStream w.streams e
+  none_before e none place t is side at = let m = (restart_harmless s w node image x r).forth place t is in none place m.after m.stands side (like_ends t m.after m.like side e at)
+
+  pub restart_stands : NetworkStands w → NetworkStands x
+  restart_stands k = record {
+    clear = restart_seats (λ n z. (stream : ℕ) → IsClear z.core stream) s w node image x r (k.clear (present_life w node) r.seat r.here) (begun_clear r.member.plan (pool_of_image image)) k.clear;
+    unseen = restart_seats (λ n z. (stream : ℕ) → NoStream x.streams (end_of n z stream) → view_on z.core stream ≡ None) s w node image x r
+        (λ stream none. k.unseen (present_life w node) r.seat r.here stream (none_before (end_of (present_life w node) r.seat stream) none))
+        (λ stream none. begun_unseen r.member.plan (pool_of_image image) stream) (λ n z here stream none. k.unseen n z here stream (none_before (end_of n z stream) none));
+    streams = λ place u is negotiation. by_before place u negotiation ((restart_harmless s w node image x r).back place u is);
+  } where
+    by_before : (place : ℕ) (u : StreamState) → IsNegotiation u → Was w.streams place u → Stands x u
+    by_before place u negotiation m =
+        still w x restart_view restart_open m.before u m.like
+        (k.streams place m.before m.stands (subst (λ (c : List Said). IsOpened (reverse (spoken Near c))) m.like.said negotiation))
 
 -- ---- the first network
 
-first_unseen : (m : Member) (stream : ℕ) → view_on (first_seat m).core stream ≡ None
-unfolding answered_seat first_seat next_call agent_name objective_name after_reply begin expired with_reading with_registrations with_sessions with_discoveries with_floods begin_closing
-first_unseen m stream = refl
-
-first_closed : (m : Member) (stream : ℕ) → past_of (first_seat m).core.streams stream ≡ None
-unfolding answered_seat first_seat next_call agent_name objective_name after_reply begin expired with_reading with_registrations with_sessions with_discoveries with_floods begin_closing
-first_closed m stream = refl
-
-first_clear : (m : Member) (stream : ℕ) → IsClear (first_seat m).core stream
-first_clear m stream = record { opens = λ past e. absurd (none-some past (sym (first_closed m stream) ∙ e)); unborn = inr (first_unseen m stream) }
-
-first_of : (s : Setting) (node : ℕ) (seat : Seat) → seat_at (first_world s) node ≡ Some seat → (m : Member) × (first_seat m ≡ seat)
+pub first_of : (s : Setting) (node : ℕ) (seat : Seat) → seat_at (first_world s) node ≡ Some seat → (m : Member) × (first_seat m ≡ seat)
 unfolding first_world
 first_of s node seat found = by_zero (node == 0) refl where
   by_zero : (b : Bool) → (node == 0) ≡ b → (m : Member) × (first_seat m ≡ seat)
@@ -233,7 +265,7 @@ first_of s node seat found = by_zero (node == 0) refl where
 pub first_stands : (s : Setting) → NetworkStands (first_world s)
 unfolding first_world
 first_stands s = record {
-  clear = λ node seat found stream. let f = first_of s node seat found in subst (λ (z : Seat). IsClear z.core stream) f.1 (first_clear f.0 stream);
-  unseen = λ node seat found stream none. let f = first_of s node seat found in subst (λ (z : Seat). view_on z.core stream ≡ None) f.1 (first_unseen f.0 stream);
+  clear = λ node seat found stream. let f = first_of s node seat found in subst (λ (z : Seat). IsClear z.core stream) f.1 (begun_clear f.0.plan (pool_of f.0.roots) stream);
+  unseen = λ node seat found stream none. let f = first_of s node seat found in subst (λ (z : Seat). view_on z.core stream ≡ None) f.1 (begun_unseen f.0.plan (pool_of f.0.roots) stream);
   streams = λ place t is negotiation. absurd (none-some t is);
 }

@@ -25,7 +25,7 @@ use Rattle.grasp_laws_delivery.proofs.FromReady.{unqueued}
 use Rattle.grasp_laws_delivery.proofs.OnePlace.{has_it}
 use Rattle.grasp_laws_delivery.proofs.Sides.{end_found, place_changed}
 use Rattle.grasp_laws_delivery.specs.Saying.{said_by, queued_for}
-use Rattle.grasp_laws_negotiation.proofs.Harmless.{IsLike, Harmless}
+use Rattle.grasp_laws_negotiation.proofs.Harmless.{IsLike, like_end, Harmless}
 use Rattle.grasp_laws_negotiation.proofs.NodeMoves.{FarOpens, FromOld, FromNew, NodeMove}
 use Rattle.grasp_laws_negotiation.proofs.Standing.{NoStream, NetworkStands}
 use Rattle.grasp_laws_negotiation.proofs.Steps.{AddsInOrder, story_of, clear_of, comes_of, is_recorded, dialled_low, dialled_there, life_is, ends_apart}
@@ -55,8 +55,7 @@ pub record Premade (ts us : List StreamState) (node : ℕ) (seat : Seat) (i : In
   pub forth : (place : ℕ) (t : StreamState) → slice_get ts place ≡ Some t → PreNew us place t
 
 pub like_ends : (t u : StreamState) → IsLike t u → (side : Side) (e : StreamEnd) → end_at t side ≡ Some e → end_at u side ≡ Some e
-like_ends t u like Near e at = ap (λ x. Some x) like.near ∙ at
-like_ends t u like Far e at = like.far ∙ at
+like_ends t u like side e at = like_end t u like side ∙ at
 
 pub harmless_premade : (ts us : List StreamState) (node : ℕ) (seat : Seat) (i : Input) → Harmless ts us → Premade ts us node seat i
 harmless_premade ts us node seat i h = record {

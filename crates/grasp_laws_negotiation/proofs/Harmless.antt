@@ -1,5 +1,5 @@
 -- Changes of streams that leave their ends and what was said: deliveries, closings, and what is sent.
-use Rattle.std.proofs.Common.{◌≡◌, ℕ, ◌+◌, List, [], ◌∷◌, Option, Some, None, slice_get, fold, refl, ◌∙◌, subst}
+use Rattle.std.proofs.Common.{◌≡◌, ℕ, ◌+◌, List, [], ◌∷◌, Option, Some, None, slice_get, fold, refl, ap, ◌∙◌, subst}
 use Rattle.grasp_model_node.specs.Queue.{Queued, datagram, dial, send}
 use Rattle.grasp_types.specs.declared.message.Message.{Message}
 use Rattle.grasp_session.specs.Messages.{Side, Near, Far}
@@ -8,8 +8,8 @@ use Rattle.grasp_model_network.specs.StreamChanges.{told, Reached, delivered}
 use Rattle.grasp_model_network.specs.Routes.{Route, route_of}
 use Rattle.grasp_model_network.specs.Sending.{posted, having_sent, having_closed, handed_over}
 use Rattle.grasp_model_network.specs.Setting.{Setting}
-use Rattle.grasp_model_network.specs.Streams.{StreamEnd, StreamState, Arrival, told_closed, with_side, with_sent, with_ended, with_delivered, with_number, side_of_end, changed_by, at_end, change_at_end}
-use Rattle.grasp_model_network.specs.World.{Seat, WorldState, end_of}
+use Rattle.grasp_model_network.specs.Streams.{StreamEnd, StreamState, Arrival, told_closed, end_at, with_side, with_sent, with_ended, with_delivered, with_number, side_of_end, changed_by, at_end, change_at_end}
+use Rattle.grasp_model_network.specs.World.{Seat, WorldState, end_of, member_of}
 use Rattle.grasp_laws_delivery.proofs.Sides.{place_changed}
 
 -- a stream has the same ends, and the same was said on it
@@ -18,8 +18,15 @@ pub record IsLike (t u : StreamState) : Type 0 where
   pub far : u.far ≡ t.far
   pub said : u.said ≡ t.said
 
+pub like_itself : (t : StreamState) → IsLike t t
+like_itself t = record { near = refl; far = refl; said = refl }
+
 like_then : (t u x : StreamState) → IsLike t u → IsLike u x → IsLike t x
 like_then t u x a b = record { near = b.near ∙ a.near; far = b.far ∙ a.far; said = b.said ∙ a.said }
+
+pub like_end : (t u : StreamState) → IsLike t u → (side : Side) → end_at u side ≡ end_at t side
+like_end t u like Near = ap (λ e. Some e) like.near
+like_end t u like Far = like.far
 
 pub record Was (ts : List StreamState) (place : ℕ) (u : StreamState) : Type 0 where
   pub before : StreamState
@@ -38,8 +45,8 @@ pub record Harmless (ts us : List StreamState) : Type 0 where
 
 pub same_talks : (ts : List StreamState) → Harmless ts ts
 same_talks ts = record {
-  back = λ place u is. record { before = u; stands = is; like = record { near = refl; far = refl; said = refl } };
-  forth = λ place t is. record { after = t; stands = is; like = record { near = refl; far = refl; said = refl } };
+  back = λ place u is. record { before = u; stands = is; like = like_itself u };
+  forth = λ place t is. record { after = t; stands = is; like = like_itself t };
 }
 
 pub harmless_then : (ts us xs : List StreamState) → Harmless ts us → Harmless us xs → Harmless ts xs
@@ -58,7 +65,7 @@ abbrev pub KeepsLike : (StreamState → Side → StreamState) → Type 0
 KeepsLike f = (t : StreamState) (side : Side) → IsLike t (f t side)
 
 at_end_like : (f : StreamState → Side → StreamState) → KeepsLike f → (t : StreamState) (o : Option Side) → IsLike t (changed_by f t o)
-at_end_like f keeps t None = record { near = refl; far = refl; said = refl }
+at_end_like f keeps t None = like_itself t
 at_end_like f keeps t (Some side) = keeps t side
 
 pub change_harmless : (f : StreamState → Side → StreamState) → KeepsLike f → (e : StreamEnd) (ts : List StreamState) → Harmless ts (change_at_end ts e f)
@@ -103,7 +110,7 @@ posted_harmless w m None = same_talks w.streams
 posted_harmless w m (Some route) = same_talks w.streams
 
 sent_harmless : (s : Setting) (node : ℕ) (seat : Seat) (w : WorldState) (q : Queued) → Harmless w.streams (having_sent s node seat w q).streams
-sent_harmless s node seat w (datagram link to m) = posted_harmless w m (route_of s node link to)
+sent_harmless s node seat w (datagram link to m) = posted_harmless w m (route_of s (member_of w node) link to)
 sent_harmless s node seat w (dial stream to) = change_harmless (with_number (w.dials + 1)) (number_like (w.dials + 1)) (end_of node seat stream) w.streams
 sent_harmless s node seat w (send stream m) = change_harmless (with_sent m) (sent_like m) (end_of node seat stream) w.streams
 

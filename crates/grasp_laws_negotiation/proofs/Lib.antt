@@ -9,6 +9,7 @@ pub mod Harmless
 pub mod Lasting
 pub mod LastingSteps
 pub mod Lawful
+pub mod Left
 pub mod Networks
 pub mod NetworksDiffer
 pub mod NetworksSeen

@@ -1,4 +1,4 @@
--- Each event keeps how the streams of a network stand as talks, so in every network that events lead to its negotiations are talks.
+-- Each turn keeps how the streams of a network stand as talks, so in every network that turns lead to its negotiations are talks.
 use Rattle.std.proofs.Common.{◌≡◌, ◌≤◌, ◌%◌, ℕ, zero, suc, ◌==◌, Bool, true, false, cond, List, [], ◌∷◌, ◌++◌, inl, Option, Some, None, length, slice_get, refl, sym, ap, ◌∙◌, subst, arith}
 use Rattle.std.proofs.lemmas.Bool.{eqb-true, false≢true}
 use Rattle.std.proofs.lemmas.List.{append-nil}
@@ -26,7 +26,7 @@ use Rattle.grasp_model_network.specs.Sending.{event_drain}
 use Rattle.grasp_model_network.specs.Setting.{Setting}
 use Rattle.grasp_model_network.specs.Streams.{StreamEnd, StreamState, end_at, sent_by, is_number, next_bytes}
 use Rattle.grasp_model_network.specs.Visits.{Visit, Choice, MayCome, VisitStep}
-use Rattle.grasp_model_network.specs.World.{WorldState, seat_at, end_of}
+use Rattle.grasp_model_network.specs.World.{WorldState, present_life, seat_at, end_of}
 use Rattle.grasp_model_network.specs.declared.event.Event.{Event}
 use Rattle.grasp_model_network.specs.declared.event.Event.TheVariants as event
 use Rattle.grasp_laws_delivery.proofs.AfterSteps.{streams_before, streams_stepped, seats_stepped}
@@ -38,7 +38,7 @@ use Rattle.grasp_laws_delivery.proofs.OnePlace.{Placed, numbered_place, one_talk
 use Rattle.grasp_laws_delivery.proofs.Sides.{one_side}
 use Rattle.grasp_laws_delivery.specs.Pieces.{IsCutInFront}
 use Rattle.grasp_laws_delivery.specs.Ready.{HasGoodEnds, HasGoodNumber, FarWaits}
-use Rattle.grasp_laws_negotiation.proofs.Drained.{drained_stands, one_stands, first_stands, same_goes, drained_goes, one_goes}
+use Rattle.grasp_laws_negotiation.proofs.Drained.{drained_stands, one_stands, restart_stands, first_stands, same_goes, drained_goes, one_goes}
 use Rattle.grasp_laws_negotiation.proofs.Events.{Premade, harmless_premade, opened_premade, step_is}
 use Rattle.grasp_laws_negotiation.proofs.Harmless.{same_talks, delivered_harmless, told_harmless}
 use Rattle.grasp_laws_negotiation.proofs.NodeMoves.{NodeMove, move_stands, move_goes}
@@ -158,7 +158,7 @@ module _ (l : Grounds) (s : Setting) where
     by_opening p =
         let number = s.arrives_as v.node n in
         let at : Placed w.streams p.talk = numbered_place n w.streams p.talk p.found in
-        let i : Input = input.Opened number (s.arrives_from n p.near.plan.address) in
+        let i : Input = input.Opened number (s.arrives_from n p.near.core.plan.address) in
         after_opening l s w r k (event.Arrive n hold) c v o is tt q number
         (subst (λ (z : Option StreamState). Premade w.streams (arrived w v number c.reply z).streams v.node v.seat v.input) (sym p.found)
         (opened_premade w.streams v.node v.seat v.input p.talk.near number (arrival_by c.reply) (subst (λ z. OpensIt z number) (sym p.is.input_is) refl)
@@ -202,7 +202,7 @@ module _ (l : Grounds) (s : Setting) where
   steps w (event.Return node prefix peer) c v r k o is stepping q = absurd stepping
   steps w (event.Agent node hold) c v r k o is stepping q = after_quiet l s w r k (event.Agent node hold) c v o is stepping q (same_pre w v) (agent_quiet s w node hold v is)
   steps w (event.Api node asa call hold) c v r k o is stepping q =
-      after_quiet l s w r k (event.Api node asa call hold) c v o is stepping q (same_pre w v) (call_quiet s w (event.Api node asa call hold) v node (input.Api asa call) is tt)
+      after_quiet l s w r k (event.Api node asa call hold) c v o is stepping q (same_pre w v) (call_quiet s w (event.Api node asa call hold) v (present_life w node) (input.Api asa call) is tt)
   steps w (event.Datagram index hold) c v r k o is stepping q = after_quiet l s w r k (event.Datagram index hold) c v o is stepping q (same_pre w v) (datagram_quiet s w index hold v is)
   steps w (event.Arrive stream hold) c v r k o is stepping q = arrives w stream hold c v r k o is q
   steps w (event.Bytes stream far count hold) c v r k o is stepping q = pieces w stream far count hold c v r k o is q
@@ -214,6 +214,8 @@ module _ (l : Grounds) (s : Setting) where
     steps = λ w e c v r k o is stepping q. move_stands w (after_visit s w e v c) (steps w e c v r k o is stepping q) k;
     told = λ w x e r t k. one_stands w x (one_agent s w e x t) k;
     drains = λ w node max r k least. drained_stands l s w node max r k least;
+    settles = λ w x node p r t k. one_stands w x t.one k;
+    restarts = λ w x node image r t k. restart_stands s w node image x t k;
   }) (first_stands s) w r
 
   -- ---- a stream goes on

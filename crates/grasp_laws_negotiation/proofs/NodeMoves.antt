@@ -80,7 +80,7 @@ pub record NodeMove (w y : WorldState) : Type 0 where
   -- what is dialled, and what is open, is a stream
   pub dialled : (stream : ℕ) → some_move is_dial (story stream).moves ≡ true → NoStream y.streams (end_of node seat stream) → ⊥
   pub recorded : (stream : ℕ) (past : Past) → past_of seat.core.streams stream ≡ Some past → NoStream w.streams (end_of node seat stream) → ⊥
-  -- streams stay, and keep their ends; each is in its nodes' first lives
+  -- streams stay, and keep their ends
   pub ends_stay : (e : StreamEnd) → NoStream y.streams e → NoStream w.streams e
   pub stays : (place : ℕ) (t : StreamState) → slice_get w.streams place ≡ Some t → (u : StreamState) × (slice_get y.streams place ≡ Some u) × (u.near ≡ t.near)
   pub lives : (place : ℕ) (u : StreamState) → slice_get y.streams place ≡ Some u → (side : Side) (e : StreamEnd) → end_at u side ≡ Some e → e.node ≡ node → e.life ≡ life_of seat

@@ -1,4 +1,4 @@
--- In every network that events lead to each negotiation is a talk, and how its sides stand is what is looked up at their nodes.
+-- In every network that turns lead to each negotiation is a talk, and how its sides stand is what is looked up at their nodes.
 use Rattle.std.proofs.Common.{◌≡◌, ℕ, ◌==◌, ◌&&◌, ◌||◌, Bool, true, false, cond, List, [], ◌∷◌, ◌++◌, inl, inr, Option, Some, None, length, slice_get, refl, sym, ap, ◌∙◌, subst}
 use Rattle.std.proofs.lemmas.Bool.{eq-eqb}
 use Rattle.std.specs.Prelude.{find, filter_map, flat_map, option_map, option_to_list}

@@ -19,7 +19,7 @@ IsNegotiation t = IsOpened (reverse (spoken Near t.said))
 abbrev pub OfNegotiations : WorldState → (StreamState → Type 0) → Type 0
 OfNegotiations w P = OfEachStream (λ t. IsNegotiation t → P t) w.streams
 
--- P holds of each negotiation of each network that events lead to
+-- P holds of each negotiation of each network that turns lead to
 abbrev pub OfEachNegotiation : (WorldState → StreamState → Type 0) → Type 0
 OfEachNegotiation P = (s : Setting) (w : WorldState) → IsReached s w → OfNegotiations w (P w)
 

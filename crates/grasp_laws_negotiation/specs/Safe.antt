@@ -40,7 +40,7 @@ pub record IsSafeTalk (w : WorldState) (t : StreamState) : Type 0 where
 abbrev pub IsSafeTalks : WorldState → Type 0
 IsSafeTalks w = OfNegotiations w (IsSafeTalk w)
 
--- all negotiations are safe in every network that events lead to, and in each network of a run
+-- all negotiations are safe in every network that turns lead to, and in each network of a run of events
 pub record TalksAreSafe : Type 0 where
   pub reached : (s : Setting) (w : WorldState) → IsReached s w → IsSafeTalks w
   pub run : (s : Setting) (hs : List Happening) → IsGoodSetting s → IsRun s (first_world s) hs → All IsSafeTalks (worlds_from s (first_world s) hs)

@@ -26,7 +26,7 @@ pub record HasItsStream (w : WorldState) (node : ℕ) (seat : Seat) (x : Session
   pub role : x.view.role ≡ side
   pub request : x.view.kind ≡ Negotiation → IsNegotiation talk
 
--- in every network that events lead to, each session that a node has made has its stream, and two of a node on one stream have one
+-- in every network that turns lead to, each session that a node has made has its stream, and two of a node on one stream have one
 -- number
 pub record SessionsHaveStreams : Type 0 where
   pub differ : (s : Setting) (w : WorldState) → IsReached s w → (node : ℕ) (seat : Seat) → seat_at w node ≡ Some seat → StreamsDiffer seat.core.sessions

@@ -7,6 +7,6 @@ mod session_laws;
 
 pub use negotiation_laws::{
     grounds_hold, negotiations_are_in_order, negotiations_are_known, negotiations_are_talks,
-    negotiations_go_on, talks_are_safe, turns_stay,
+    negotiations_go_on, talks_are_safe, turns_leave_negotiations, turns_stay,
 };
 pub use session_laws::sessions_have_streams;

@@ -1,6 +1,6 @@
 //! What holds of each negotiation of a network. They say nothing at run time.
 
-ghost use Rattle.grasp_laws_negotiation.specs.GoingOn.{NegotiationsGoOn, TurnsStay};
+ghost use Rattle.grasp_laws_negotiation.specs.GoingOn.{NegotiationsGoOn, TurnsStay, TurnsLeaveNegotiations};
 ghost use Rattle.grasp_laws_negotiation.specs.Grounds.{Grounds};
 ghost use Rattle.grasp_laws_negotiation.specs.Knowing.{NegotiationsAreKnown};
 ghost use Rattle.grasp_laws_negotiation.specs.Negotiations.{NegotiationsAreInOrder, NegotiationsAreTalks};
@@ -65,3 +65,8 @@ pub fn turns_stay()
 {
     negotiations_go_on();
 }
+
+/// A settling and a restart say nothing in a negotiation, and each side saw what it had seen.
+pub fn turns_leave_negotiations()
+    ensures { TurnsLeaveNegotiations }
+{}

@@ -1,5 +1,5 @@
 -- The count of bytes is that of all datagrams and streams that were sent.
-use Rattle.std.proofs.Common.{◌≡◌, refl, sym, ap, ◌∙◌, subst, arith, ℕ, ◌+◌, ◌*◌, Bool, true, false, cond, List, [], ◌∷◌, ◌++◌, length, fold, take, sum_by, is_some, Option, Some, None}
+use Rattle.std.proofs.Common.{◌≡◌, refl, sym, ap, ◌∙◌, subst, arith, ℕ, ◌+◌, ◌*◌, ◌==◌, ◌||◌, Bool, true, false, cond, List, [], ◌∷◌, ◌++◌, length, map, fold, take, sum_by, is_some, Option, Some, None}
 use Rattle.std.proofs.Math.Nat.{add-mul}
 use Rattle.std.proofs.lemmas.List.{length-append}
 use Rattle.std.proofs.lemmas.List.Sums.{sum_by-append, sum_by-cons}
@@ -10,23 +10,29 @@ use Rattle.grasp_model_node.specs.Draining.{closes, after_drain}
 use Rattle.grasp_model_node.specs.Node.{NodeState}
 use Rattle.grasp_model_node.specs.Queue.{Queued, datagram, dial, send, encoding}
 use Rattle.grasp_session.specs.Messages.{Side, Near, Far}
+use Rattle.grasp_pool.specs.declared.image.PoolImage.{PoolImage}
+use Rattle.grasp_types.specs.Prefix.{AddressBlock as Prefix}
 use Rattle.grasp_types.specs.declared.message.Message.{Message}
 use Rattle.grasp_types.specs.declared.reply.Reply.{Reply}
 use Rattle.grasp_wire.specs.Laws.{encoded}
 use Rattle.grasp_laws_network.proofs.Reached.{reached_keeps}
 use Rattle.grasp_laws_network.proofs.Telling.{none_one}
+use Rattle.grasp_laws_network.proofs.Turning.{settle_one, restart_by}
 use Rattle.grasp_model_network.specs.EventSteps.{after_agent_call, after_agent, after_arrival, after_clock, after_cut, after_delivery, after_piece}
 use Rattle.grasp_model_network.specs.StreamChanges.{arrived, arrival_by, told, Reached, reached_side, side_named, delivered}
 use Rattle.grasp_model_network.specs.Events.{visit_of, after_visit, after_none, after_by, after_event, drains, drained_behind}
 use Rattle.grasp_laws_network.specs.Keeping.{IsCounted, BytesAreCounted}
+use Rattle.grasp_laws_network.specs.Telling.{OneAgent}
 use Rattle.grasp_model_network.specs.Notes.{noted}
+use Rattle.grasp_model_network.specs.Restarting.{is_of_life, waits_for, told_if, told_at, restarted, after_restart}
 use Rattle.grasp_model_network.specs.Routes.{Route, route_of}
 use Rattle.grasp_model_network.specs.Runs.{first_world}
 use Rattle.grasp_model_network.specs.Sending.{gained, having_made, streams_made, seat_with, stepped, posted, dialled, sent_at, having_sent, having_closed, handed_over, drained, drained_at, drained_from, event_drain}
 use Rattle.grasp_model_network.specs.Setting.{Setting}
+use Rattle.grasp_model_network.specs.Settling.{after_settle}
 use Rattle.grasp_model_network.specs.Streams.{StreamEnd, Arrival, StreamState, told_closed, fresh_stream, side_of_end, has_end, with_side, with_said, with_sent, with_ended, with_delivered, with_number, with_far, changed_by, at_end, change_at_end, count_at_end, stream_numbered}
 use Rattle.grasp_model_network.specs.Visits.{Visit, Choice}
-use Rattle.grasp_model_network.specs.World.{Seat, WorldState, seat_at, with_seat, end_of, datagram_bytes, stream_bytes, bytes_sent}
+use Rattle.grasp_model_network.specs.World.{Seat, WorldState, present_life, member_of, seat_at, with_seat, end_of, datagram_bytes, stream_bytes, bytes_sent}
 use Rattle.grasp_model_network.specs.declared.event.Event.{Event}
 use Rattle.grasp_model_network.specs.declared.event.Event.TheVariants as event
 
@@ -146,7 +152,7 @@ sent_counts w e m h =
     omega arith
 
 pub queued_counts : (s : Setting) (node : ℕ) (seat : Seat) (w : WorldState) (q : Queued) → IsCounted w → IsCounted (having_sent s node seat w q)
-queued_counts s node seat w (datagram link to m) h = posted_counts w m (route_of s node link to) h
+queued_counts s node seat w (datagram link to m) h = posted_counts w m (route_of s (member_of w node) link to) h
 queued_counts s node seat w (dial stream to) h = dialled_counts w (end_of node seat stream) h
 queued_counts s node seat w (send stream m) h = sent_counts w (end_of node seat stream) m h
 
@@ -240,8 +246,12 @@ pub behind_counts : (b : Bool) (s : Setting) (w : WorldState) (node : ℕ) → I
 behind_counts true s w node h = drained_counts s w node event_drain h
 behind_counts false s w node h = h
 
+-- another agent sends nothing
+one_counts : (w x : WorldState) → IsCounted w → OneAgent w x → IsCounted x
+one_counts w x h o = also_counts w x (subst (λ (y : WorldState). CountsAs w y) (sym o.after) (record { count = refl; datagrams = refl; streams = refl })) h
+
 pub none_counts : (s : Setting) (w : WorldState) (e : Event) → IsCounted w → IsCounted (after_none s w e)
-none_counts s w e h = none_one s w e IsCounted h (λ x o. also_counts w x (subst (λ (y : WorldState). CountsAs w y) (sym o.after) (record { count = refl; datagrams = refl; streams = refl })) h)
+none_counts s w e h = none_one s w e IsCounted h (λ x o. one_counts w x h o)
 
 pub by_counts : (s : Setting) (w : WorldState) (e : Event) (c : Choice) (o : Option Visit) → IsCounted w → IsCounted (after_by s w e c o)
 by_counts s w e c None h = none_counts s w e h
@@ -251,6 +261,37 @@ pub event_counts : (s : Setting) (w : WorldState) (e : Event) (c : Choice) → I
 unfolding after_event
 event_counts s w e c h = by_counts s w e c (visit_of s w e) h
 
+-- ---- the other turns
+
+settle_counts : (w : WorldState) (node : ℕ) (p : Prefix) → IsCounted w → IsCounted (after_settle w node p)
+settle_counts w node p h = settle_one w node p IsCounted h (λ x o. one_counts w x h o)
+
+-- who is told that a stream is closed sends nothing on it
+told_if_bytes : (b : Bool) (side : Side) (t : StreamState) → stream_bytes (told_if b side t) ≡ stream_bytes t
+told_if_bytes true Near t = refl
+told_if_bytes true Far t = refl
+told_if_bytes false side t = refl
+
+told_at_bytes : (s : Setting) (node life : ℕ) (t : StreamState) → stream_bytes (told_at s node life t) ≡ stream_bytes t
+told_at_bytes s node life t = told_if_bytes (is_of_life life t.far || waits_for s node t) Far (told_if (t.near.node == life) Near t) ∙ told_if_bytes (t.near.node == life) Near t
+
+all_told_bytes : (s : Setting) (node life : ℕ) (ts : List StreamState) → streams_bytes (map (told_at s node life) ts) ≡ streams_bytes ts
+all_told_bytes s node life [] = refl
+all_told_bytes s node life (t ∷ ts) =
+    let first : stream_bytes (told_at s node life t) ≡ stream_bytes t = told_at_bytes s node life t in
+    let rest : streams_bytes (map (told_at s node life) ts) ≡ streams_bytes ts = all_told_bytes s node life ts in
+    let now : streams_bytes (map (told_at s node life) (t ∷ ts)) ≡ stream_bytes (told_at s node life t) + streams_bytes (map (told_at s node life) ts) =
+    sum_by-cons stream_bytes (told_at s node life t) (map (told_at s node life) ts) in
+    let old : streams_bytes (t ∷ ts) ≡ stream_bytes t + streams_bytes ts = sum_by-cons stream_bytes t ts in
+    omega arith
+
+restart_counts : (s : Setting) (w : WorldState) (node : ℕ) (image : PoolImage) → IsCounted w → IsCounted (after_restart s w node image)
+restart_counts s w node image h =
+    restart_by s w node image IsCounted h
+    (λ seat m here found. also_counts w (restarted s w node (present_life w node) image seat m) (record { count = refl; datagrams = refl; streams = all_told_bytes s node (present_life w node) w.streams }) h)
+
+-- ---- the first network
+
 pub first_counts : (s : Setting) → IsCounted (first_world s)
 unfolding first_world bytes_sent
 first_counts s = refl
@@ -258,5 +299,9 @@ first_counts s = refl
 pub bytes_are_counted : BytesAreCounted
 bytes_are_counted = record {
   each = event_counts;
-  all = λ s w r. reached_keeps s IsCounted (first_counts s) (λ x e c o h. event_counts s x e c h) w r;
+  all = λ s w r. reached_keeps s IsCounted (first_counts s) (record {
+    events = λ x e c o h. event_counts s x e c h;
+    settles = λ x node p dead h. settle_counts x node p h;
+    restarts = λ x node image may h. restart_counts s x node image h;
+  }) w r;
 }

@@ -1,6 +1,8 @@
--- What each step keeps is so of each node of a network that events lead to.
-use Rattle.std.proofs.Common.{◌≡◌, ◌≢◌, refl, sym, ap, ◌∙◌, subst, arith, tests, ℕ, zero, suc, ◌-◌, ◌≤◌, ◌==◌, Bool, true, false, cond, List, [], ◌∷◌, map, slice_get, slice_set, take, Option, Some, None}
+-- What a life begins with, and each step keeps, is so of each life of a node of a network that turns lead to.
+use Rattle.std.proofs.Common.{◌≡◌, ◌≢◌, ◌⊎◌, inl, inr, refl, sym, ap, ◌∙◌, subst, arith, tests, ℕ, zero, suc, ◌+◌, ◌-◌, ◌≤◌, ◌==◌, Bool, true, false, cond, List, [], ◌∷◌, ◌++◌, length, map, slice_get, slice_set, take, Option, Some, None, unwrap_or}
+use Rattle.std.proofs.lemmas.List.{length-set}
 use Rattle.std.proofs.lemmas.Option.{none-some, same_Some}
+use Rattle.grasp_agent.specs.Reopening.{retired}
 use Rattle.grasp_agent.specs.Replies.{after_reply}
 use Rattle.grasp_agent.specs.States.{AgentState}
 use Rattle.grasp_laws_node.proofs.Bounded.Nodes.{nodes_kept}
@@ -9,38 +11,52 @@ use Rattle.grasp_model_node.specs.Draining.{closes, drained, after_drain}
 use Rattle.grasp_model_node.specs.Node.{NodeState, first_node}
 use Rattle.grasp_model_node.specs.BoundedNodes.{IsBoundedNode}
 use Rattle.grasp_model_node.specs.Step.{Coming, NodeStep}
+use Rattle.grasp_model_node.specs.declared.plan.NodePlan.{NodePlan}
+use Rattle.grasp_pool.specs.Functions.{pool_of, pool_of_image}
+use Rattle.grasp_pool.specs.Holdings.{Holding}
+use Rattle.grasp_pool.specs.declared.image.PoolImage.{PoolImage}
+use Rattle.grasp_types.specs.Prefix.{AddressBlock as Prefix}
 use Rattle.grasp_types.specs.declared.reply.ApiAnswer.TheVariants as answer
 use Rattle.grasp_types.specs.declared.reply.Reply.{Reply}
 use Rattle.grasp_types.specs.declared.reply.Reply.TheVariants as reply
 use Rattle.grasp_types.specs.declared.traffic.Input.{Input}
 use Rattle.grasp_types.specs.declared.traffic.Input.TheVariants as input
-use Rattle.grasp_laws_network.proofs.Here.{visits_are_here}
+use Rattle.grasp_laws_network.proofs.Appended.{appended, numbered_last, numbered_still, not_next}
+use Rattle.grasp_laws_network.proofs.Going.{reached_holds}
+use Rattle.grasp_laws_network.proofs.Here.{numbered_within, visits_are_here}
 use Rattle.grasp_laws_network.proofs.Openings.{worlds_begin}
 use Rattle.grasp_laws_network.proofs.Others.{put_elsewhere, arrived_keeps, delivered_keeps, told_keeps}
 use Rattle.grasp_laws_node.proofs.PlansStay.{step_plan}
 use Rattle.grasp_laws_network.proofs.Reached.{reached_keeps}
+use Rattle.grasp_laws_network.proofs.SameLives.{one_lives, event_lives}
 use Rattle.grasp_laws_network.proofs.Sent.{sending_keeps_nodes}
+use Rattle.grasp_laws_network.proofs.Staying.{KnowsLives, first_own, reached_knows}
 use Rattle.grasp_laws_network.proofs.Telling.{none_one, one_least}
+use Rattle.grasp_laws_network.proofs.Turning.{settle_one, restart_by}
 use Rattle.grasp_model_network.specs.EventSteps.{after_agent_call, after_agent, agent_input, after_arrival, after_clock, after_cut, after_delivery, after_piece}
 use Rattle.grasp_model_network.specs.StreamChanges.{arrived, told, reached_side, side_named, delivered}
 use Rattle.grasp_model_network.specs.Events.{visit_of, after_visit, after_by, after_event, drains, drained_behind, Occurs}
 use Rattle.grasp_laws_network.specs.Keeping.{IsHere}
 use Rattle.grasp_laws_network.specs.Laws.{OpeningsAreSteps}
-use Rattle.grasp_laws_network.specs.Nodes.{OfEachNode, HasPlanOf, NodesAreSound}
+use Rattle.grasp_laws_network.specs.Lives.{TurnsKeep}
+use Rattle.grasp_laws_network.specs.Nodes.{OfEachNode, HavePlans, NodesAreSound}
 use Rattle.grasp_laws_network.specs.Telling.{OneAgent}
 use Rattle.grasp_model_network.specs.Notes.{noted}
-use Rattle.grasp_model_network.specs.Runs.{IsReached, first_seat, first_world, fresh_seat, answered_seat}
+use Rattle.grasp_model_network.specs.Openings.{first_seat, fresh_seat, answered_seat, opened_seat}
+use Rattle.grasp_model_network.specs.Restarting.{restarted, after_restart}
+use Rattle.grasp_model_network.specs.Runs.{IsReached, first_world}
 use Rattle.grasp_model_network.specs.Sending as network
 use Rattle.grasp_model_network.specs.Sending.{seat_with, stepped, drained_at, drained_from, event_drain}
 use Rattle.grasp_model_network.specs.Setting.{Member, Setting, numbered}
+use Rattle.grasp_model_network.specs.Settling.{after_settle}
 use Rattle.grasp_model_network.specs.Streams.{stream_numbered}
 use Rattle.grasp_model_network.specs.Visits.{Visit, Choice, MayCome, no_choice}
-use Rattle.grasp_model_network.specs.World.{Seat, WorldState, seat_at, with_seat}
+use Rattle.grasp_model_network.specs.World.{Seat, WorldState, present_life, seat_at, with_seat}
 use Rattle.grasp_model_network.specs.declared.event.Event.{Event}
 use Rattle.grasp_model_network.specs.declared.event.Event.TheVariants as event
 
 -- each step keeps it
-abbrev StepsKeep : (ℕ → NodeState → Type 0) → Type 0
+abbrev pub StepsKeep : (ℕ → NodeState → Type 0) → Type 0
 StepsKeep P = (k : ℕ) (n after : NodeState) (now : ℕ) (i : Input) (x : Coming) (r : Reply) → P k n → NodeStep n now i x r after → P k after
 
 -- ---- one node is put
@@ -163,31 +179,32 @@ is_made f (x ∷ xs) (suc i) y e = behind (is_made f xs i y e) where
   behind : IsMade f xs i y → IsMade f (x ∷ xs) (suc i) y
   behind m = record { of = m.of; stands = m.stands; made = m.made }
 
-pub first_is : (P : ℕ → NodeState → Type 0) (k : ℕ) (m : Member) → StepsKeep P → P k (first_node m.plan) → P k (first_seat m).core
-unfolding first_seat
-first_is P k m keep first = opened (worlds_begin m no_choice.coming) where
+-- what holds before anything has happened, and each step keeps, holds once the agent has made its opening calls
+pub first_is : (P : ℕ → NodeState → Type 0) (k : ℕ) (plan : NodePlan) (h : Holding) → StepsKeep P → P k (first_node plan) → P k (opened_seat plan h).core
+unfolding opened_seat
+first_is P k plan h keep first = opened (worlds_begin plan h no_choice.coming) where
   registered : Seat
-  registered = answered_seat (fresh_seat m) (answer.Asa 1)
+  registered = answered_seat (fresh_seat plan h) (answer.Asa 1)
 
   declared : Seat
   declared = answered_seat registered answer.Done
 
-  opened : OpeningsAreSteps m no_choice.coming → P k (answered_seat declared answer.NotYet).core
+  opened : OpeningsAreSteps plan h no_choice.coming → P k (answered_seat declared answer.NotYet).core
   opened o =
       keep k declared.core (answered_seat declared answer.NotYet).core 0 (agent_input declared.agent) no_choice.coming (reply.Api answer.NotYet)
       (keep k registered.core declared.core 0 (agent_input registered.agent) no_choice.coming (reply.Api answer.Done)
-      (keep k (fresh_seat m).core registered.core 0 (agent_input (fresh_seat m).agent) no_choice.coming (reply.Api (answer.Asa 1)) first o.registers) o.declares)
+      (keep k (fresh_seat plan h).core registered.core 0 (agent_input (fresh_seat plan h).agent) no_choice.coming (reply.Api (answer.Asa 1)) first o.registers) o.declares)
       o.listens
 
--- the property holds of each member's node before anything has happened
-abbrev Begins : Setting → (ℕ → NodeState → Type 0) → Type 0
-Begins s P = (k : ℕ) (m : Member) → numbered s.members k ≡ Some m → P k (first_node m.plan)
+-- the property holds of each member's first life before anything has happened
+abbrev pub BeginsFirst : Setting → (ℕ → NodeState → Type 0) → Type 0
+BeginsFirst s P = (k : ℕ) (m : Member) → numbered s.members k ≡ Some m → P k (first_node m.plan)
 
-pub first_each : (P : ℕ → NodeState → Type 0) (s : Setting) → StepsKeep P → Begins s P → OfEachNode P (first_world s)
+pub first_each : (P : ℕ → NodeState → Type 0) (s : Setting) → StepsKeep P → BeginsFirst s P → OfEachNode P (first_world s)
 unfolding first_world
 first_each P s keep first node seat found = by_zero (node == 0) refl where
   by_member : (node == 0) ≡ false → IsMade first_seat s.members (node - 1) seat → P node seat.core
-  by_member is m = subst (λ (x : Seat). P node x.core) m.made (first_is P node m.of keep (first node m.of (rw is m.stands)))
+  by_member is m = subst (λ (x : Seat). P node x.core) m.made (first_is P node m.of.plan (pool_of m.of.roots) keep (first node m.of (rw is m.stands)))
 
   by_zero : (b : Bool) → (node == 0) ≡ b → P node seat.core
   by_zero true is = absurd (none-some seat (subst (λ z. cond z None (slice_get (map first_seat s.members) (node - 1)) ≡ Some seat) is found))
@@ -195,18 +212,113 @@ first_each P s keep first node seat found = by_zero (node == 0) refl where
       by_member is
       (is_made first_seat s.members (node - 1) seat (subst (λ z. cond z None (slice_get (map first_seat s.members) (node - 1)) ≡ Some seat) is found))
 
--- what a node begins with and each step keeps
-pub reached_each : (P : ℕ → NodeState → Type 0) (s : Setting) (w : WorldState) → StepsKeep P → Begins s P → IsReached s w → OfEachNode P w
-reached_each P s w keep first r = reached_keeps s (OfEachNode P) (first_each P s keep first) (λ x e c o h. event_each P s x e c keep o h) w r
+-- ---- the other turns
 
--- ---- sound nodes, and their plans
+-- the property holds of each life of any number that begins as a member's, before anything has happened
+abbrev pub Begins : Setting → (ℕ → NodeState → Type 0) → Type 0
+Begins s P = (life node : ℕ) (m : Member) → numbered s.members node ≡ Some m → P life (first_node m.plan)
+
+pub settle_each : (P : ℕ → NodeState → Type 0) (w : WorldState) (node : ℕ) (p : Prefix) → OfEachNode P w → OfEachNode P (after_settle w node p)
+settle_each P w node p each = settle_one w node p (OfEachNode P) each (λ x o. one_each P w x o each)
+
+-- where one more life begins
+pub begun_each : (P : ℕ → NodeState → Type 0) (s : Setting) (w : WorldState) (node life : ℕ) (image : PoolImage) (seat : Seat) (m : Member) → seat_at w life ≡ Some seat
+    → P (length w.seats + 1) (opened_seat m.plan (pool_of_image image)).core → OfEachNode P w → OfEachNode P (restarted s w node life image seat m)
+begun_each P s w node life image seat m here new each n other found = by_place (appended put begun n other found) where
+  ended : Seat
+  ended = seat_with seat seat.core (retired seat.agent)
+
+  put : List Seat
+  put = slice_set w.seats (life - 1) ended
+
+  begun : Seat
+  begun = opened_seat m.plan (pool_of_image image)
+
+  by_place : ((numbered put n ≡ Some other) ⊎ ((n ≡ length put + 1) × (begun ≡ other))) → P n other.core
+  by_place (inl old) = put_each P w (with_seat w life ended) life ended (numbered_within w.seats life seat here).least refl (each life seat here) each n other old
+  by_place (inr last) =
+      subst (λ (y : Seat). P n y.core) last.1
+      (subst (λ k. P k begun.core) (sym (last.0 ∙ ap (λ k. k + 1) (length-set w.seats (life - 1) ended))) new)
+
+pub restart_each : (P : ℕ → NodeState → Type 0) (s : Setting) (w : WorldState) (node : ℕ) (image : PoolImage) → StepsKeep P → Begins s P → OfEachNode P w
+    → OfEachNode P (after_restart s w node image)
+restart_each P s w node image keep first each =
+    restart_by s w node image (OfEachNode P) each
+    (λ seat m here found. begun_each P s w node (present_life w node) image seat m here
+    (first_is P (length w.seats + 1) m.plan (pool_of_image image) keep (first (length w.seats + 1) node m found)) each)
+
+-- ---- all turns
+
+pub turns_each : (P : ℕ → NodeState → Type 0) (s : Setting) → StepsKeep P → Begins s P → TurnsKeep s (OfEachNode P)
+turns_each P s keep first = record {
+  events = λ w e c o each. event_each P s w e c keep o each;
+  settles = λ w node p dead each. settle_each P w node p each;
+  restarts = λ w node image may each. restart_each P s w node image keep first each;
+}
+
+-- what a life begins with and each step keeps
+pub reached_each : (P : ℕ → NodeState → Type 0) (s : Setting) (w : WorldState) → StepsKeep P → Begins s P → IsReached s w → OfEachNode P w
+reached_each P s w keep first r = reached_keeps s (OfEachNode P) (first_each P s keep (λ k m found. first k k m found)) (turns_each P s keep first) w r
+
+-- ---- plans
 
 pub member_plan : (s : Setting) (k : ℕ) (m l : Member) → numbered s.members k ≡ Some m → numbered s.members k ≡ Some l → m.plan ≡ l.plan
 member_plan s k m l e f = ap (λ (x : Member). x.plan) (same_Some m l (sym e ∙ f))
 
+-- a node has the plan of the member whose life it is by this list
+abbrev HasPlan : Setting → List ℕ → ℕ → NodeState → Type 0
+HasPlan s lives life n = (m : Member) → numbered s.members (unwrap_or (numbered lives life) 0) ≡ Some m → n.plan ≡ m.plan
+
+plan_kept : (s : Setting) (lives : List ℕ) → StepsKeep (HasPlan s lives)
+plan_kept s lives k n after now i x q p step m e = step_plan n after now i x q step ∙ p m e
+
+with_lives : (s : Setting) (w x : WorldState) → x.lives ≡ w.lives → OfEachNode (HasPlan s w.lives) x → OfEachNode (HasPlan s x.lives) x
+with_lives s w x same each = subst (λ lives. OfEachNode (HasPlan s lives) x) (sym same) each
+
+first_plans : (s : Setting) → OfEachNode (HasPlan s (first_world s).lives) (first_world s)
+first_plans s =
+    first_each (HasPlan s (first_world s).lives) s (plan_kept s (first_world s).lives)
+    (λ k m e l f. member_plan s k m l e
+    (subst (λ o. numbered s.members (unwrap_or o 0) ≡ Some l) (first_own s k (numbered_within s.members k m e)) f))
+
+-- the lives before have the members that they had
+later_plans : (s : Setting) (w : WorldState) (node : ℕ) → KnowsLives w → OfEachNode (HasPlan s w.lives) w → OfEachNode (HasPlan s (w.lives ++ node ∷ [])) w
+later_plans s w node known each n seat here m e = each n seat here m (subst (λ o. numbered s.members (unwrap_or o 0) ≡ Some m) still e) where
+  still : numbered (w.lives ++ node ∷ []) n ≡ numbered w.lives n
+  still = numbered_still w.lives node n (subst (λ k. n ≢ k + 1) known (not_next w.seats n seat here))
+
+-- and the last one is this member's
+new_plan : (s : Setting) (w : WorldState) (node : ℕ) (m : Member) (h : Holding) → KnowsLives w → numbered s.members node ≡ Some m
+    → HasPlan s (w.lives ++ node ∷ []) (length w.seats + 1) (opened_seat m.plan h).core
+new_plan s w node m h known found l e =
+    first_is (λ k n. n.plan ≡ m.plan) (length w.seats + 1) m.plan h (λ k n after now i x q p step. step_plan n after now i x q step ∙ p) refl
+    ∙ member_plan s node m l found (subst (λ o. numbered s.members (unwrap_or o 0) ≡ Some l) last e)
+  where
+    last : numbered (w.lives ++ node ∷ []) (length w.seats + 1) ≡ Some node
+    last = subst (λ k. numbered (w.lives ++ node ∷ []) (k + 1) ≡ Some node) (sym known) (numbered_last w.lives node)
+
+one_plans : (s : Setting) (w x : WorldState) → OfEachNode (HasPlan s w.lives) w → OneAgent w x → OfEachNode (HasPlan s x.lives) x
+one_plans s w x each o = with_lives s w x (one_lives w x o) (one_each (HasPlan s w.lives) w x o each)
+
+restart_plans : (s : Setting) (w : WorldState) (node : ℕ) (image : PoolImage) → KnowsLives w → OfEachNode (HasPlan s w.lives) w
+    → OfEachNode (HasPlan s (after_restart s w node image).lives) (after_restart s w node image)
+restart_plans s w node image known each =
+    restart_by s w node image (λ x. OfEachNode (HasPlan s x.lives) x) each
+    (λ seat m here found. begun_each (HasPlan s (w.lives ++ node ∷ [])) s w node (present_life w node) image seat m here
+    (new_plan s w node m (pool_of_image image) known found) (later_plans s w node known each))
+
+have_plans : (s : Setting) (w : WorldState) → IsReached s w → HavePlans s w
+have_plans s w r life seat m here found =
+    reached_holds s (λ x. OfEachNode (HasPlan s x.lives) x) (first_plans s) (record {
+      events = λ x e c g o each. with_lives s x (after_event s x e c) (event_lives s x e c) (event_each (HasPlan s x.lives) s x e c (plan_kept s x.lives) o each);
+      settles = λ x node p g dead each. settle_one x node p (λ y. OfEachNode (HasPlan s y.lives) y) each (λ y o. one_plans s x y each o);
+      restarts = λ x node image g may each. restart_plans s x node image (reached_knows s x g) each;
+    }) w r life seat here m found
+
+-- ---- sound nodes
+
 pub nodes_are_sound : NodesAreSound
 nodes_are_sound = record {
-  sound = λ s w r. reached_each (λ k n. IsBoundedNode n) s w (λ k. nodes_kept.1) (λ k m e. nodes_kept.0 m.plan) r;
-  plans = λ s w r.
-      reached_each (HasPlanOf s) s w (λ k n after now i x q p step m e. step_plan n after now i x q step ∙ p m e) (λ k m e l f. member_plan s k m l e f) r;
+  sound = λ s w r. reached_each (λ k n. IsBoundedNode n) s w (λ k. nodes_kept.1) (λ k node m e. nodes_kept.0 m.plan) r;
+  plans = have_plans;
 }

@@ -49,6 +49,12 @@ rising_numbers R a (suc n) each =
     (all_numbers (R a) (a + 1) n (λ k l m. each a k (omega arith) (omega (arith, l)) (omega (arith, m))))
     (rising_numbers R (a + 1) n (λ j k l m h. each j k (omega (arith, l)) m (omega (arith, h))))
 
+pub number_at : (a n i : ℕ) → i < n → slice_get (numbers_from a n) i ≡ Some (a + i)
+unfolding numbers_from
+number_at a zero i h = absurd (omega (arith, h))
+number_at a (suc n) zero h = ap (λ k. Some k) (omega arith)
+number_at a (suc n) (suc i) h = number_at (a + 1) n i (omega (arith, h)) ∙ ap (λ k. Some k) (omega arith)
+
 pub at_number : {A : Type 0} (f : ℕ → A) (a n i : ℕ) → i < n → slice_get (map f (numbers_from a n)) i ≡ Some (f (a + i))
 unfolding numbers_from
 at_number f a zero i h = absurd (omega (arith, h))

@@ -1,5 +1,5 @@
--- No event takes back what was sent.
-use Rattle.std.proofs.Common.{◌≡◌, refl, sym, ap, ◌∙◌, subst, arith, ℕ, ◌+◌, ◌*◌, ◌≤◌, Bool, true, false, List, [], ◌∷◌, ◌++◌, length, fold, take, Option, Some, None, append_assoc, append-nil}
+-- No event and no other turn takes back what was sent.
+use Rattle.std.proofs.Common.{◌≡◌, refl, sym, ap, ◌∙◌, subst, arith, ℕ, ◌+◌, ◌*◌, ◌≤◌, ◌==◌, ◌||◌, Bool, true, false, List, [], ◌∷◌, ◌++◌, length, map, fold, take, Option, Some, None, append_assoc, append-nil}
 use Rattle.grasp_agent.specs.Calls.{next_call}
 use Rattle.grasp_agent.specs.Replies.{after_reply}
 use Rattle.grasp_agent.specs.States.{AgentState}
@@ -9,6 +9,8 @@ use Rattle.grasp_model_node.specs.Draining.{closes, after_drain}
 use Rattle.grasp_model_node.specs.Node.{NodeState}
 use Rattle.grasp_model_node.specs.Queue.{Queued, datagram, dial, send, encoding}
 use Rattle.grasp_session.specs.Messages.{Side, Near, Far, other}
+use Rattle.grasp_pool.specs.declared.image.PoolImage.{PoolImage}
+use Rattle.grasp_types.specs.Prefix.{AddressBlock as Prefix}
 use Rattle.grasp_types.specs.declared.call.Call.{Call}
 use Rattle.grasp_types.specs.declared.message.Message.{Message}
 use Rattle.grasp_types.specs.declared.reply.Reply.{Reply}
@@ -16,17 +18,21 @@ use Rattle.grasp_model_network.specs.EventSteps.{after_agent_call, after_agent, 
 use Rattle.grasp_model_network.specs.StreamChanges.{arrived, arrival_by, told, Reached, reached_side, side_named, delivered}
 use Rattle.grasp_model_network.specs.Events.{visit_of, after_visit, after_none, after_by, after_event, drains, drained_behind}
 use Rattle.grasp_laws_network.proofs.Telling.{none_one}
+use Rattle.grasp_laws_network.proofs.Turning.{settle_one, restart_by}
 use Rattle.grasp_laws_network.specs.Telling.{OneAgent}
-use Rattle.grasp_laws_network.specs.Keeping.{IsLonger, DirectionGrows, StreamGrows, StreamsGrow, WorldGrows, WhatWasSentStays}
+use Rattle.grasp_laws_network.specs.Keeping.{IsLonger, DirectionGrows, StreamGrows, StreamsGrow, WorldGrows, WhatWasSentStays, WhatWasSentStaysOverTurns}
 use Rattle.grasp_model_network.specs.Notes.{noted, handles_in, floods_in, floods_read_in, searches_in}
+use Rattle.grasp_model_network.specs.Restarting.{is_of_life, waits_for, told_if, told_at, restarted, after_restart}
 use Rattle.grasp_model_network.specs.Routes.{Route, route_of}
 use Rattle.grasp_model_network.specs.Sending.{gained, having_made, streams_made, seat_with, stepped, posted, dialled, sent_at, having_sent, having_closed, handed_over, drained, drained_at, drained_from, event_drain}
-use Rattle.grasp_model_network.specs.Setting.{Setting}
+use Rattle.grasp_model_network.specs.Setting.{Member, Setting}
+use Rattle.grasp_model_network.specs.Settling.{after_settle}
 use Rattle.grasp_model_network.specs.Streams.{StreamEnd, Arrival, Direction, StreamState, told_closed, fresh_stream, side_of_end, sent_by, next_bytes, with_direction, with_side, with_said, with_sent, with_ended, with_delivered, with_number, with_far, changed_by, change_at_end, count_at_end, stream_numbered}
 use Rattle.grasp_model_network.specs.Visits.{Visit, Choice}
-use Rattle.grasp_model_network.specs.World.{Seat, DiscoveryAnswer, Offered, WorldState, seat_at, with_seat, end_of}
+use Rattle.grasp_model_network.specs.World.{Seat, DiscoveryAnswer, Offered, WorldState, present_life, member_of, seat_at, with_seat, end_of}
 use Rattle.grasp_model_network.specs.declared.event.Event.{Event}
 use Rattle.grasp_model_network.specs.declared.event.Event.TheVariants as event
+use Rattle.grasp_model_network.specs.declared.turn.Turn.TheVariants as turn
 
 -- ---- lists
 
@@ -238,7 +244,7 @@ sent_at_grows w e m = record {
 }
 
 pub sent_grows : (s : Setting) (node : ℕ) (seat : Seat) (w : WorldState) (q : Queued) → WorldGrows w (having_sent s node seat w q)
-sent_grows s node seat w (datagram link to m) = posted_grows w m (route_of s node link to)
+sent_grows s node seat w (datagram link to m) = posted_grows w m (route_of s (member_of w node) link to)
 sent_grows s node seat w (dial stream to) = dialled_grows w (end_of node seat stream)
 sent_grows s node seat w (send stream m) = sent_at_grows w (end_of node seat stream) m
 
@@ -393,3 +399,44 @@ by_grows s w e c (Some v) =
 pub what_was_sent_stays : WhatWasSentStays
 unfolding after_event
 what_was_sent_stays s w e c = by_grows s w e c (visit_of s w e)
+
+-- ---- the other turns
+
+settle_grows : (w : WorldState) (node : ℕ) (p : Prefix) → WorldGrows w (after_settle w node p)
+settle_grows w node p = settle_one w node p (λ x. WorldGrows w x) (same_world w) (one_grows w)
+
+told_if_grows : (b : Bool) (side : Side) (t : StreamState) → StreamGrows t (told_if b side t)
+told_if_grows true side t = side_adds told_closed t side
+told_if_grows false side t = same_talk t
+
+told_at_grows : (s : Setting) (node life : ℕ) (t : StreamState) → StreamGrows t (told_at s node life t)
+told_at_grows s node life t =
+    talk_then t (told_if (t.near.node == life) Near t) (told_at s node life t) (told_if_grows (t.near.node == life) Near t)
+    (told_if_grows (is_of_life life t.far || waits_for s node t) Far (told_if (t.near.node == life) Near t))
+
+all_told_grow : (s : Setting) (node life : ℕ) (ts : List StreamState) → StreamsGrow ts (map (told_at s node life) ts)
+all_told_grow s node life [] = tt
+all_told_grow s node life (t ∷ ts) = (told_at_grows s node life t, all_told_grow s node life ts)
+
+-- another life, and other offers
+begun_grows : (s : Setting) (w : WorldState) (node life : ℕ) (image : PoolImage) (seat : Seat) (m : Member) → WorldGrows w (restarted s w node life image seat m)
+begun_grows s w node life image seat m = record {
+  datagrams = as_long w.datagrams;
+  streams = all_told_grow s node life w.streams;
+  dials = itself w.dials;
+  byte_count = itself w.byte_count;
+  flood_calls = as_long w.flood_calls;
+  floods_read = as_long w.floods_read;
+  searches = as_long w.searches;
+  answers = as_long w.answers;
+  handles = as_long w.handles;
+}
+
+restart_grows : (s : Setting) (w : WorldState) (node : ℕ) (image : PoolImage) → WorldGrows w (after_restart s w node image)
+restart_grows s w node image =
+    restart_by s w node image (λ x. WorldGrows w x) (same_world w) (λ seat m here found. begun_grows s w node (present_life w node) image seat m)
+
+pub what_was_sent_stays_over_turns : WhatWasSentStaysOverTurns
+what_was_sent_stays_over_turns s w (turn.Event e) c = what_was_sent_stays s w e c
+what_was_sent_stays_over_turns s w (turn.Settle node p) c = settle_grows w node p
+what_was_sent_stays_over_turns s w (turn.Restart node image) c = restart_grows s w node image

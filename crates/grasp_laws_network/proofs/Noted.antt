@@ -28,11 +28,11 @@ use Rattle.grasp_model_network.specs.Notes.{floods_in, floods_read_in, handles_i
 use Rattle.grasp_model_network.specs.Routes.{Route, route_of}
 use Rattle.grasp_model_network.specs.Runs.{first_world}
 use Rattle.grasp_model_network.specs.Sending.{drained, drained_at, gained, handed_over, having_closed, having_sent, event_drain, posted, stepped}
-use Rattle.grasp_model_network.specs.Setting.{Member, Setting, member_at, numbered}
+use Rattle.grasp_model_network.specs.Setting.{Setting, member_at, numbered}
 use Rattle.grasp_model_network.specs.StreamChanges.{Reached, arrived, delivered, reached_side, side_named, told}
 use Rattle.grasp_model_network.specs.Streams.{StreamState, is_waiting, stream_numbered}
 use Rattle.grasp_model_network.specs.Visits.{Choice, Visit, visit_seat}
-use Rattle.grasp_model_network.specs.World.{DiscoveryAnswer, FloodCall, GivenHandle, SearchCall, Seat, SentDatagram, WorldState, seat_at}
+use Rattle.grasp_model_network.specs.World.{DiscoveryAnswer, FloodCall, GivenHandle, SearchCall, Seat, SentDatagram, WorldState, present_life, member_of, seat_at}
 use Rattle.grasp_model_network.specs.declared.event.Event.{Event}
 use Rattle.grasp_model_network.specs.declared.event.Event.TheVariants as event
 use Rattle.grasp_laws_network.specs.Noted.{AnswersDiscovery, BeginsFlood, BeginsSearch, GivesHandle, Grows, HasHandle, IsAnsweredCall, Notes, One, ReadsFloods, RepliesAreNoted, grown, kept}
@@ -55,7 +55,7 @@ posted_notes w m None = refl
 posted_notes w m (Some route) = refl
 
 sent_notes : (s : Setting) (node : ℕ) (seat : Seat) (w : WorldState) (q : Queued) → notes (having_sent s node seat w q) ≡ notes w
-sent_notes s node seat w (datagram link to m) = posted_notes w m (route_of s node link to)
+sent_notes s node seat w (datagram link to m) = posted_notes w m (route_of s (member_of w node) link to)
 sent_notes s node seat w _ = refl
 
 all_sent_notes : (s : Setting) (node : ℕ) (seat : Seat) (qs : List Queued) (w : WorldState) → notes (fold (having_sent s node seat) w qs) ≡ notes w
@@ -118,16 +118,16 @@ quiet_clock node millis (Some seat) = tt
 
 quiet_datagram : (w : WorldState) (o : Option SentDatagram) → IsQuiet (datagram_at w o)
 quiet_datagram w None = tt
-quiet_datagram w (Some d) = quiet_seat d.route.receiver _ (seat_at w d.route.receiver) tt
+quiet_datagram w (Some d) = quiet_seat (present_life w d.route.receiver) _ (seat_at w (present_life w d.route.receiver)) tt
 
 quiet_opening : (s : Setting) (w : WorldState) (k : ℕ) (o : Option StreamState) → IsQuiet (opened_stream s w k o)
 quiet_opening s w k None = tt
-quiet_opening s w k (Some t) = by_waiting (is_waiting t.far_side) (member_at s t.to) (numbered s.members t.near.node) where
-  by_waiting : (b : Bool) (to : Option ℕ) (near : Option Member) → IsQuiet (cond b (opened_at s w k to near) None)
+quiet_opening s w k (Some t) = by_waiting (is_waiting t.far_side) (member_at s t.to) (seat_at w t.near.node) where
+  by_waiting : (b : Bool) (to : Option ℕ) (near : Option Seat) → IsQuiet (cond b (opened_at s w k to near) None)
   by_waiting false to near = tt
   by_waiting true None near = tt
   by_waiting true (Some node) None = tt
-  by_waiting true (Some node) (Some near) = quiet_seat node _ (seat_at w node) tt
+  by_waiting true (Some node) (Some near) = quiet_seat (present_life w node) _ (seat_at w (present_life w node)) tt
 
 quiet_piece : (w : WorldState) (side : _) (count : ℕ) (o : Option Reached) → IsQuiet (piece_at w side count o)
 quiet_piece w side count None = tt
@@ -147,12 +147,12 @@ quiet_event : (s : Setting) (w : WorldState) (e : Event) → MakesNoCall e → I
 unfolding arrival_visit piece_visit cut_visit datagram_visit
 quiet_event s w (event.Agent node hold) silent = absurd silent
 quiet_event s w (event.Api node asa made hold) silent = absurd silent
-quiet_event s w (event.Clock node millis) silent = quiet_clock node millis (seat_at w node)
+quiet_event s w (event.Clock node millis) silent = quiet_clock (present_life w node) millis (seat_at w (present_life w node))
 quiet_event s w (event.Datagram index hold) silent = quiet_datagram w (numbered w.datagrams index)
 quiet_event s w (event.Arrive stream hold) silent = quiet_opening s w stream (stream_numbered w.streams stream)
 quiet_event s w (event.Bytes stream far count hold) silent = quiet_piece w (side_named far) count (reached_side w stream (side_named far))
 quiet_event s w (event.Cut stream far hold) silent = quiet_cut w (reached_side w stream (side_named far))
-quiet_event s w (event.Drain node max) silent = quiet_seat node (input.Drain max) (seat_at w node) tt
+quiet_event s w (event.Drain node max) silent = quiet_seat (present_life w node) (input.Drain max) (seat_at w (present_life w node)) tt
 quiet_event s w _ silent = tt
 
 -- what comes with a visit of a node's seat
@@ -262,7 +262,7 @@ module _ (s : Setting) (w : WorldState) (e : Event) (c : Choice) where
     unfolding searches_in
     searches_grow after (reply.Api answer.Searching) said h =
         one (BeginsSearch s w e c) w.searches after _
-        (record { visit = v; asa = asa; made = made; begun = answered answer.Searching said; node = refl; life = refl; session = refl }) h
+        (record { visit = v; asa = asa; made = made; begun = answered answer.Searching said; node = refl; address = refl; life = refl; session = refl }) h
     searches_grow after r said h = stays (One (BeginsSearch s w e c)) w.searches after (λ more t. subst IsSearch (sym t.1.begun.answers ∙ said) tt) h
 
     handles_grow : (after : List GivenHandle) (r : Reply) → c.reply ≡ r → after ≡ w.handles ++ handles_in v r → Grows (One (GivesHandle s w e c)) w.handles after
@@ -320,7 +320,7 @@ module _ (s : Setting) (w : WorldState) (index : ℕ) (hold : Bool) (c : Choice)
       (same_Some t.visit v (sym t.visits ∙ visits)) t.response) refl
 
   by_queued : (d : SentDatagram) → numbered w.datagrams index ≡ Some d → (after : List DiscoveryAnswer) → (q : Queued) → Contains queued q → is_own_answer q ≡ true → (m : Message) → d.message ≡ m
-      → after ≡ w.answers ++ answers_to v m → Grows (One Answers) w.answers after
+      → after ≡ w.answers ++ answers_to (member_of w v.node) v m → Grows (One Answers) w.answers after
   by_queued d found after (send stream (Response number from ttl (Locators locators) about)) has own (Discovery session initiator o) is h =
       one Answers w.answers after _ (record {
         visit = v;
@@ -347,11 +347,11 @@ module _ (s : Setting) (w : WorldState) (index : ℕ) (hold : Bool) (c : Choice)
   by_queued d found after q has own m is h = absurd (true≢false (sym own))
 
   by_own : (d : SentDatagram) → numbered w.datagrams index ≡ Some d → (after : List DiscoveryAnswer) → (b : Bool) → list_any is_own_answer queued ≡ b
-      → after ≡ w.answers ++ cond b (answers_to v d.message) [] → Grows (One Answers) w.answers after
+      → after ≡ w.answers ++ cond b (answers_to (member_of w v.node) v d.message) [] → Grows (One Answers) w.answers after
   by_own d found after true own h = let q = Any-from_list_any is_own_answer queued own in by_queued d found after q.1 (q.0, q.2, q.3) q.4 d.message refl h
   by_own d found after false own h = stays (One Answers) w.answers after (λ more t. true≢false (sym (is_own t.0 t.1) ∙ own)) h
 
-  answers_grow : (after : List DiscoveryAnswer) (o : Option SentDatagram) → numbered w.datagrams index ≡ o → after ≡ w.answers ++ answered_with v c o → Grows (One Answers) w.answers after
+  answers_grow : (after : List DiscoveryAnswer) (o : Option SentDatagram) → numbered w.datagrams index ≡ o → after ≡ w.answers ++ answered_with (member_of w v.node) v c o → Grows (One Answers) w.answers after
   answers_grow after None found h = stays (One Answers) w.answers after (λ more t. none-some _ (sym found ∙ is_it t.0 t.1)) h
   answers_grow after (Some d) found h = by_own d found after (list_any is_own_answer queued) refl h
 
@@ -378,10 +378,10 @@ unfolding after_clock after_agent after_agent_call after_arrival after_piece aft
 visit_noted s w (event.Clock node millis) c v is = nothing s w (event.Clock node millis) c (after_clock w v c) refl tt tt
 visit_noted s w (event.Agent node hold) c v is =
     same_notes s w (event.Agent node hold) c _ (after_agent w v c) refl
-    (call_noted s w (event.Agent node hold) c v v.seat.agent.asa (next_call v.seat.agent) is (agent_given node v (seat_at w node) is) (stepped w v c.after v.seat.agent) refl
+    (call_noted s w (event.Agent node hold) c v v.seat.agent.asa (next_call v.seat.agent) is (agent_given (present_life w node) v (seat_at w (present_life w node)) is) (stepped w v c.after v.seat.agent) refl
     (no_answer s w (event.Agent node hold) c tt))
 visit_noted s w (event.Api node asa made hold) c v is =
-    call_noted s w (event.Api node asa made hold) c v asa made is (sym (call_given node (input.Api asa made) v (seat_at w node) is)) (stepped w v c.after v.seat.agent) refl
+    call_noted s w (event.Api node asa made hold) c v asa made is (sym (call_given (present_life w node) (input.Api asa made) v (seat_at w (present_life w node)) is)) (stepped w v c.after v.seat.agent) refl
     (no_answer s w (event.Api node asa made hold) c tt)
 visit_noted s w (event.Datagram index hold) c v is = delivery_noted s w index hold c v is
 visit_noted s w (event.Arrive stream hold) c v is =

@@ -8,6 +8,7 @@ use Rattle.grasp_pool.specs.Functions.{after_take_at}
 use Rattle.grasp_pool.specs.Holdings.{Holding}
 use Rattle.grasp_types.specs.Prefix.{AddressBlock as Prefix}
 use Rattle.grasp_types.specs.declared.address.Locator.{Locator}
+use Rattle.grasp_laws_network.proofs.Here.{present_least}
 use Rattle.grasp_laws_network.proofs.Others.{put_same}
 use Rattle.grasp_laws_network.proofs.Staying.{told_here}
 use Rattle.grasp_model_network.specs.Events.{after_event}
@@ -15,7 +16,7 @@ use Rattle.grasp_laws_network.specs.Keeping.{ReturnChanges, ReturnsChangeReturns
 use Rattle.grasp_model_network.specs.Sending.{seat_with}
 use Rattle.grasp_model_network.specs.Setting.{numbered}
 use Rattle.grasp_model_network.specs.Telling.{return_told, after_telling, after_told}
-use Rattle.grasp_model_network.specs.World.{Seat, WorldState, seat_at}
+use Rattle.grasp_model_network.specs.World.{Seat, WorldState, present_life, seat_at}
 
 abbrev pool_after : AgentState → Prefix → Result (Unit {0}) ReturnFault → Holding
 pool_after a p (Ok done) = after_take_at a.pool p true
@@ -53,11 +54,14 @@ return_changes w node seat p peer least here = record {
 
 pub returns_change_returns : ReturnsChangeReturns
 unfolding after_event
-returns_change_returns s w node peer p c least = by_peer (numbered s.peers peer) where
-  by_seat : (to : Locator) (o : Option Seat) → seat_at w node ≡ o → ReturnChanges w (after_telling w (record { node = node; what = returned p to }) o) node
-  by_seat to None here = nothing_changes w node
-  by_seat to (Some seat) here = return_changes w node seat p to least here
+returns_change_returns s w node peer p c = by_peer (numbered s.peers peer) where
+  life : ℕ
+  life = present_life w node
 
-  by_peer : (o : Option Locator) → ReturnChanges w (after_told w (return_told node p o)) node
-  by_peer None = nothing_changes w node
-  by_peer (Some to) = by_seat to (seat_at w node) refl
+  by_seat : (to : Locator) (o : Option Seat) → seat_at w life ≡ o → ReturnChanges w (after_telling w (record { node = life; what = returned p to }) o) life
+  by_seat to None here = nothing_changes w life
+  by_seat to (Some seat) here = return_changes w life seat p to (present_least w node) here
+
+  by_peer : (o : Option Locator) → ReturnChanges w (after_told w (return_told life p o)) life
+  by_peer None = nothing_changes w life
+  by_peer (Some to) = by_seat to (seat_at w life) refl

@@ -6,14 +6,14 @@ use Rattle.grasp_laws_network.specs.Laws.{SendingKeepsNodes}
 use Rattle.grasp_model_network.specs.Routes.{Route, route_of}
 use Rattle.grasp_model_network.specs.Sending.{posted, having_sent, having_closed, handed_over}
 use Rattle.grasp_model_network.specs.Setting.{Setting}
-use Rattle.grasp_model_network.specs.World.{Seat, WorldState}
+use Rattle.grasp_model_network.specs.World.{Seat, WorldState, member_of}
 
 pub posted_keeps : (w : WorldState) (m : Message) (route : Option Route) → (posted w m route).seats ≡ w.seats
 posted_keeps w m None = refl
 posted_keeps w m (Some route) = refl
 
 pub sent_keeps : (s : Setting) (node : ℕ) (seat : Seat) (w : WorldState) (q : Queued) → (having_sent s node seat w q).seats ≡ w.seats
-sent_keeps s node seat w (datagram link to m) = posted_keeps w m (route_of s node link to)
+sent_keeps s node seat w (datagram link to m) = posted_keeps w m (route_of s (member_of w node) link to)
 sent_keeps s node seat w (dial stream to) = refl
 sent_keeps s node seat w (send stream m) = refl
 

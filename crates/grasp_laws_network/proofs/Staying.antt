@@ -1,25 +1,37 @@
--- No event adds a node or takes one away, and a want changes the want of one agent alone.
-use Rattle.std.proofs.Common.{◌≡◌, refl, sym, ap, ◌∙◌, subst, ℕ, zero, suc, ◌-◌, ◌≤◌, ◌==◌, Bool, true, false, cond, List, [], ◌∷◌, length, slice_get, slice_set, Option, Some, None, Result, Ok, Err}
-use Rattle.std.proofs.lemmas.List.{length-map, length-set}
+-- No event begins a life or takes one away, of each it is known whose it is, and a want changes the want of one agent alone.
+use Rattle.std.proofs.Common.{◌≡◌, refl, sym, ap, ◌∙◌, subst, arith, ℕ, zero, suc, ◌+◌, ◌-◌, ◌≤◌, ◌==◌, Bool, true, false, cond, List, [], ◌∷◌, ◌++◌, length, slice_get, slice_set, Option, Some, None, Result, Ok, Err}
+use Rattle.std.proofs.lemmas.List.{length-append, length-map, length-set}
 use Rattle.std.proofs.lemmas.Option.{none-some, same_Some}
 use Rattle.grasp_agent.specs.Replies as agent
+use Rattle.grasp_agent.specs.Reopening.{retired}
 use Rattle.grasp_agent.specs.Replies.{want_reply, after_want, new_want}
 use Rattle.grasp_agent.specs.States.{AgentState}
 use Rattle.grasp_agent.specs.declared.want.Want.{Want}
 use Rattle.grasp_agent.specs.declared.want.WantFault.{WantFault}
+use Rattle.grasp_pool.specs.Functions.{pool_of_image}
+use Rattle.grasp_pool.specs.declared.image.PoolImage.{PoolImage}
 use Rattle.grasp_types.specs.declared.address.Locator.{Locator}
+use Rattle.grasp_laws_network.proofs.Appended.{get_numbered}
+use Rattle.grasp_laws_network.proofs.GoodPlans.{count_numbers, number_at, one_more}
+use Rattle.grasp_laws_network.proofs.Here.{present_least}
 use Rattle.grasp_laws_network.proofs.Others.{put_same, event_same}
 use Rattle.grasp_laws_network.proofs.Reached.{reached_keeps}
+use Rattle.grasp_laws_network.proofs.SameLives.{one_lives, event_lives}
 use Rattle.grasp_laws_network.proofs.Telling.{none_one}
+use Rattle.grasp_laws_network.proofs.Turning.{settle_one, restart_by}
 use Rattle.grasp_model_network.specs.Events.{visit_of, after_none, after_by, after_event}
 use Rattle.grasp_laws_network.specs.Keeping.{SeatsStay, WantChanges, WantsChangeWants}
+use Rattle.grasp_laws_network.specs.Lives.{TurnsKeep}
 use Rattle.grasp_laws_network.specs.Telling.{OneAgent}
-use Rattle.grasp_model_network.specs.Runs.{first_seat, first_world}
+use Rattle.grasp_model_network.specs.Openings.{first_seat, opened_seat}
+use Rattle.grasp_model_network.specs.Plans.{IsNode}
+use Rattle.grasp_model_network.specs.Restarting.{restarted}
+use Rattle.grasp_model_network.specs.Runs.{IsReached, first_world}
 use Rattle.grasp_model_network.specs.Sending.{seat_with}
-use Rattle.grasp_model_network.specs.Setting.{Setting, numbered}
+use Rattle.grasp_model_network.specs.Setting.{Member, Setting, numbered, numbers_from}
 use Rattle.grasp_model_network.specs.Telling.{Telling, want_told, after_telling, after_told}
 use Rattle.grasp_model_network.specs.Visits.{Visit, Choice}
-use Rattle.grasp_model_network.specs.World.{Seat, WorldState, seat_at, with_seat}
+use Rattle.grasp_model_network.specs.World.{Seat, WorldState, present_life, seat_at, with_seat}
 use Rattle.grasp_model_network.specs.declared.event.Event.{Event}
 
 -- ---- as many nodes as before
@@ -45,11 +57,48 @@ pub first_seats : (s : Setting) → length (first_world s).seats ≡ length s.me
 unfolding first_world
 first_seats s = length-map s.members first_seat
 
-pub seats_stay : SeatsStay
-seats_stay = record {
-  each = seats_stay_each;
-  all = λ s w r. reached_keeps s (λ x. length x.seats ≡ length s.members) (first_seats s) (λ x e c o h. seats_stay_each s x e c ∙ h) w r;
+-- ---- whose each life is
+
+abbrev pub KnowsLives : WorldState → Type 0
+KnowsLives w = length w.seats ≡ length w.lives
+
+-- the first lives are those of the members, in order
+pub first_own : (s : Setting) (node : ℕ) → IsNode (length s.members) node → numbered (first_world s).lives node ≡ Some node
+unfolding first_world
+first_own s node is =
+    get_numbered (numbers_from 1 (length s.members)) node (Some node) is.least
+    (number_at 1 (length s.members) (node - 1) (let a : 1 ≤ node = is.least in let b : node ≤ length s.members = is.most in omega arith)
+    ∙ ap (λ k. Some k) (one_more node is.least))
+
+first_knows : (s : Setting) → KnowsLives (first_world s)
+unfolding first_world
+first_knows s = length-map s.members first_seat ∙ sym (count_numbers 1 (length s.members))
+
+one_knows : (w x : WorldState) → KnowsLives w → OneAgent w x → KnowsLives x
+one_knows w x known o = one_same w x o ∙ known ∙ sym (ap length (one_lives w x o))
+
+begun_knows : (s : Setting) (w : WorldState) (node life : ℕ) (image : PoolImage) (seat : Seat) (m : Member) → KnowsLives w → KnowsLives (restarted s w node life image seat m)
+begun_knows s w node life image seat m known = by_lists (seat_with seat seat.core (retired seat.agent)) (opened_seat m.plan (pool_of_image image)) where
+  by_lists : (old new : Seat) → length (slice_set w.seats (life - 1) old ++ new ∷ []) ≡ length (w.lives ++ node ∷ [])
+  by_lists old new =
+      let a : length (slice_set w.seats (life - 1) old ++ new ∷ []) ≡ length (slice_set w.seats (life - 1) old) + 1 = length-append (slice_set w.seats (life - 1) old) (new ∷ []) in
+      let b : length (slice_set w.seats (life - 1) old) ≡ length w.seats = length-set w.seats (life - 1) old in
+      let c : length (w.lives ++ node ∷ []) ≡ length w.lives + 1 = length-append w.lives (node ∷ []) in
+      let d : length w.seats ≡ length w.lives = known in
+      omega arith
+
+turns_know : (s : Setting) → TurnsKeep s KnowsLives
+turns_know s = record {
+  events = λ w e c o known. seats_stay_each s w e c ∙ known ∙ sym (ap length (event_lives s w e c));
+  settles = λ w node p dead known. settle_one w node p KnowsLives known (λ x o. one_knows w x known o);
+  restarts = λ w node image may known. restart_by s w node image KnowsLives known (λ seat m here found. begun_knows s w node (present_life w node) image seat m known);
 }
+
+pub reached_knows : (s : Setting) (w : WorldState) → IsReached s w → KnowsLives w
+reached_knows s w r = reached_keeps s KnowsLives (first_knows s) (turns_know s) w r
+
+pub seats_stay : SeatsStay
+seats_stay = record { each = seats_stay_each; all = reached_knows }
 
 -- ---- wants
 
@@ -101,11 +150,14 @@ wanted_changes w node seat wanted longest peer least here = record {
 
 pub wants_change_wants : WantsChangeWants
 unfolding after_event
-wants_change_wants s w node wanted longest peer c least = by_peer (numbered s.peers peer) where
-  by_seat : (to : Locator) (o : Option Seat) → seat_at w node ≡ o → WantChanges w (after_telling w (record { node = node; what = agent.wanted wanted longest to }) o) node
-  by_seat to None here = nothing_changes w node
-  by_seat to (Some seat) here = wanted_changes w node seat wanted longest to least here
+wants_change_wants s w node wanted longest peer c = by_peer (numbered s.peers peer) where
+  life : ℕ
+  life = present_life w node
 
-  by_peer : (o : Option Locator) → WantChanges w (after_told w (want_told node wanted longest o)) node
-  by_peer None = nothing_changes w node
-  by_peer (Some to) = by_seat to (seat_at w node) refl
+  by_seat : (to : Locator) (o : Option Seat) → seat_at w life ≡ o → WantChanges w (after_telling w (record { node = life; what = agent.wanted wanted longest to }) o) life
+  by_seat to None here = nothing_changes w life
+  by_seat to (Some seat) here = wanted_changes w life seat wanted longest to (present_least w node) here
+
+  by_peer : (o : Option Locator) → WantChanges w (after_told w (want_told life wanted longest o)) life
+  by_peer None = nothing_changes w life
+  by_peer (Some to) = by_seat to (seat_at w life) refl

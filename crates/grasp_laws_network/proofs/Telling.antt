@@ -8,7 +8,7 @@ use Rattle.grasp_types.specs.declared.address.Locator.{Locator}
 use Rattle.grasp_model_network.specs.Events.{AreLengths, IsFit, after_none}
 use Rattle.grasp_model_network.specs.Setting.{Setting, numbered}
 use Rattle.grasp_model_network.specs.Telling.{Telling, want_told, return_told, telling_of, offers_told, after_telling, after_told}
-use Rattle.grasp_model_network.specs.World.{Seat, WorldState, seat_at}
+use Rattle.grasp_model_network.specs.World.{Seat, WorldState, present_life, seat_at}
 use Rattle.grasp_model_network.specs.declared.event.Event.{Event}
 use Rattle.grasp_model_network.specs.declared.event.Event.TheVariants as event
 use Rattle.grasp_laws_network.proofs.Here.{numbered_within}
@@ -39,13 +39,13 @@ one_least w x o = (numbered_within w.seats o.node o.seat o.here).least
 
 -- what holds of the same network, and of that in which an agent took what it was told, holds after an event without a step
 none_by : (s : Setting) (w : WorldState) (e : Event) (P : WorldState → Type 0) → P w
-    → ((t : Telling) → telling_of s e ≡ Some t → (seat : Seat) → seat_at w t.node ≡ Some seat → P (after_telling w t (Some seat))) → P (after_none s w e)
-none_by s w e P same told = by_telling (telling_of s e) refl where
-  by_seat : (t : Telling) → telling_of s e ≡ Some t → (o : Option Seat) → seat_at w t.node ≡ o → P (after_telling w t o)
+    → ((t : Telling) → telling_of s w e ≡ Some t → (seat : Seat) → seat_at w t.node ≡ Some seat → P (after_telling w t (Some seat))) → P (after_none s w e)
+none_by s w e P same told = by_telling (telling_of s w e) refl where
+  by_seat : (t : Telling) → telling_of s w e ≡ Some t → (o : Option Seat) → seat_at w t.node ≡ o → P (after_telling w t o)
   by_seat t is None here = same
   by_seat t is (Some seat) here = told t is seat here
 
-  by_telling : (o : Option Telling) → telling_of s e ≡ o → P (after_told w o)
+  by_telling : (o : Option Telling) → telling_of s w e ≡ o → P (after_told w o)
   by_telling None is = same
   by_telling (Some t) is = by_seat t is (seat_at w t.node) refl
 
@@ -66,9 +66,9 @@ return_may : (node : ℕ) (p : Prefix) (peer : Option Locator) (t : Telling) →
 return_may node p None t good is = absurd (none-some t is)
 return_may node p (Some peer) t good is = subst (λ (u : Telling). MayTell u.what) (same_Some (record { node = node; what = returned p peer }) t is) (good, tt)
 
-may_tell : (s : Setting) (w : WorldState) (e : Event) (t : Telling) → IsFit s w e → telling_of s e ≡ Some t → MayTell t.what
-may_tell s w (event.Want node length longest peer) t fit is = want_may node length longest (numbered s.peers peer) t fit.2 is
-may_tell s w (event.Return node prefix peer) t fit is = return_may node prefix (numbered s.peers peer) t fit.2 is
+may_tell : (s : Setting) (w : WorldState) (e : Event) (t : Telling) → IsFit s w e → telling_of s w e ≡ Some t → MayTell t.what
+may_tell s w (event.Want node length longest peer) t fit is = want_may (present_life w node) length longest (numbered s.peers peer) t fit.2 is
+may_tell s w (event.Return node prefix peer) t fit is = return_may (present_life w node) prefix (numbered s.peers peer) t fit.2 is
 may_tell s w _ t fit is = absurd (none-some t is)
 
 pub none_tells : NoneTells

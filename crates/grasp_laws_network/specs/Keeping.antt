@@ -1,4 +1,4 @@
--- What each event leaves as it is, and what it only adds to.
+-- What each event and each other turn leaves as it is, and what it only adds to.
 use Rattle.std.specs.Prelude.{◌≡◌, ◌≢◌, ◌≤◌, ℕ, List, [], ◌∷◌, ◌++◌, length, Some, None, Option}
 use Rattle.grasp_agent.specs.declared.back.Return.{Return}
 use Rattle.grasp_agent.specs.declared.want.Want.{Want}
@@ -8,58 +8,61 @@ use Rattle.grasp_session.specs.Conversation.{Said}
 use Rattle.grasp_types.specs.Prefix.{AddressBlock as Prefix}
 use Rattle.grasp_types.specs.declared.traffic.Input.{Input}
 use Rattle.grasp_types.specs.declared.traffic.Input.TheVariants as input
-use Rattle.grasp_model_network.specs.Events.{IsMember, visit_of, after_event, Occurs}
+use Rattle.grasp_model_network.specs.Events.{IsLife, visit_of, after_event, Occurs}
 use Rattle.grasp_model_network.specs.Reports.{report_of}
 use Rattle.grasp_model_network.specs.Runs.{IsReached}
 use Rattle.grasp_model_network.specs.Sending.{gained}
 use Rattle.grasp_model_network.specs.Setting.{Setting}
 use Rattle.grasp_model_network.specs.Streams.{Direction, StreamState}
+use Rattle.grasp_model_network.specs.Turns.{after_turn}
 use Rattle.grasp_model_network.specs.Visits.{Visit, Choice, VisitStep}
-use Rattle.grasp_model_network.specs.World.{Seat, WorldState, seat_at, bytes_sent}
+use Rattle.grasp_model_network.specs.World.{Seat, WorldState, present_life, seat_at, bytes_sent}
 use Rattle.grasp_model_network.specs.declared.event.Event.{Event}
 use Rattle.grasp_model_network.specs.declared.event.Event.TheVariants as event
+use Rattle.grasp_model_network.specs.declared.turn.Turn.{Turn}
 
 -- ---- nodes
 
--- the node of a visit is a member, and stands as the visit says
+-- the life of a visit is one of a node, and stands as the visit says
 pub record IsHere (w : WorldState) (v : Visit) : Type 0 where
-  pub member : IsMember w v.node
+  pub member : IsLife w v.node
   pub stands : seat_at w v.node ≡ Some v.seat
 
--- an event makes its step at a node that is there
+-- an event makes its step in a life that is there
 abbrev pub VisitsAreHere : Type 0
 VisitsAreHere = (s : Setting) (w : WorldState) (e : Event) (v : Visit) → visit_of s w e ≡ Some v → IsHere w v
 
--- no event adds a node or takes one away: there is always one for each member
+-- no event begins a life or takes one away, and of each it is known whose it is
 pub record SeatsStay : Type 0 where
   pub each : (s : Setting) (w : WorldState) (e : Event) (c : Choice) → length (after_event s w e c).seats ≡ length w.seats
-  pub all : (s : Setting) (w : WorldState) → IsReached s w → length w.seats ≡ length s.members
+  pub all : (s : Setting) (w : WorldState) → IsReached s w → length w.seats ≡ length w.lives
 
 -- ---- wants
 
--- two networks are the same but for the want of this node's agent
+-- two networks are the same but for the want of the agent of this life
 pub record WantChanges (w x : WorldState) (node : ℕ) : Type 0 where
   pub others : (n : ℕ) → n ≢ node → seat_at x n ≡ seat_at w n
   pub own : (seat : Seat) → seat_at w node ≡ Some seat → (want : Option Want) × (seat_at x node ≡ Some (record seat { agent = record seat.agent { want = want } }))
   pub rest : x ≡ record w { seats = x.seats }
 
--- a want changes the want of its node's agent and nothing else
+-- a want changes the want of its node's agent, in the present life, and nothing else
 abbrev pub WantsChangeWants : Type 0
-WantsChangeWants = (s : Setting) (w : WorldState) (node wanted longest peer : ℕ) (c : Choice) → 1 ≤ node
-    → WantChanges w (after_event s w (event.Want node wanted longest peer) c) node
+WantsChangeWants = (s : Setting) (w : WorldState) (node wanted longest peer : ℕ) (c : Choice)
+    → WantChanges w (after_event s w (event.Want node wanted longest peer) c) (present_life w node)
 
 -- ---- returns
 
--- two networks are the same but for the return and the pool of this node's agent, and for the offers
+-- two networks are the same but for the return and the pool of the agent of this life, and for the offers
 pub record ReturnChanges (w x : WorldState) (node : ℕ) : Type 0 where
   pub others : (n : ℕ) → n ≢ node → seat_at x n ≡ seat_at w n
   pub own : (seat : Seat) → seat_at w node ≡ Some seat
       → (pool : Holding) × ((back : Option Return) × (seat_at x node ≡ Some (record seat { agent = record seat.agent { pool = pool; back = back } })))
   pub rest : x ≡ record w { seats = x.seats; offers = x.offers }
 
--- a return changes the return and the pool of its node's agent, and the offers, and nothing else
+-- a return changes the return and the pool of its node's agent, in the present life, and the offers, and nothing else
 abbrev pub ReturnsChangeReturns : Type 0
-ReturnsChangeReturns = (s : Setting) (w : WorldState) (node peer : ℕ) (p : Prefix) (c : Choice) → 1 ≤ node → ReturnChanges w (after_event s w (event.Return node p peer) c) node
+ReturnsChangeReturns = (s : Setting) (w : WorldState) (node peer : ℕ) (p : Prefix) (c : Choice)
+    → ReturnChanges w (after_event s w (event.Return node p peer) c) (present_life w node)
 
 -- ---- what is queued
 
@@ -136,6 +139,10 @@ pub record WorldGrows (w x : WorldState) : Type 0 where
 -- no event takes anything back
 abbrev pub WhatWasSentStays : Type 0
 WhatWasSentStays = (s : Setting) (w : WorldState) (e : Event) (c : Choice) → WorldGrows w (after_event s w e c)
+
+-- and no other turn does
+abbrev pub WhatWasSentStaysOverTurns : Type 0
+WhatWasSentStaysOverTurns = (s : Setting) (w : WorldState) (t : Turn) (c : Choice) → WorldGrows w (after_turn s w t c)
 
 -- ---- how much was sent
 

@@ -9,8 +9,10 @@ use Rattle.grasp_model_node.specs.Node.{NodeState}
 use Rattle.grasp_model_node.specs.Plan.{is_bad_plan}
 use Rattle.grasp_model_node.specs.Queue.{Queued}
 use Rattle.grasp_model_node.specs.Step.{Coming, NodeStep}
+use Rattle.grasp_model_node.specs.declared.plan.NodePlan.{NodePlan}
 use Rattle.grasp_pool.specs.Answers.{IsOpened}
 use Rattle.grasp_pool.specs.Functions.{pool_of}
+use Rattle.grasp_pool.specs.Holdings.{Holding}
 use Rattle.grasp_types.specs.declared.call.Call.{Call}
 use Rattle.grasp_types.specs.declared.reply.ApiAnswer.{ApiAnswer}
 use Rattle.grasp_types.specs.declared.reply.ApiAnswer.TheVariants as answer
@@ -22,10 +24,10 @@ use Rattle.grasp_model_network.specs.GoodSetting.{IsLine, IsGoodSetting}
 use Rattle.grasp_model_network.specs.Plans.{IsNode, IsGoodPlan}
 use Rattle.grasp_model_network.specs.Reports.{report_of}
 use Rattle.grasp_model_network.specs.Routes.{Route, route_of}
-use Rattle.grasp_model_network.specs.Runs.{fresh_seat, answered_seat, first_seat}
+use Rattle.grasp_model_network.specs.Openings.{fresh_seat, answered_seat, opened_seat}
 use Rattle.grasp_model_network.specs.Sending as network
 use Rattle.grasp_model_network.specs.Sending.{event_drain}
-use Rattle.grasp_model_network.specs.Setting.{Member, Setting, line_of, link_of, script_node, script_roots, script_setting}
+use Rattle.grasp_model_network.specs.Setting.{Setting, line_of, link_of, script_node, script_roots, script_setting}
 use Rattle.grasp_model_network.specs.Visits.{Visit, Choice}
 use Rattle.grasp_model_network.specs.World.{Seat, WorldState, seat_at}
 use Rattle.grasp_model_network.specs.declared.event.Event.{Event}
@@ -79,21 +81,22 @@ pub record HeldThenDrained : Type 0 where
   pub drains : (s : Setting) (w : WorldState) (node max : ℕ) (c : Choice) (v : Visit) → visit_of s w (event.Drain node max) ≡ Some v
       → after_event s w (event.Drain node max) c ≡ network.drained s w v.node max
 
--- each answer to an opening call of an agent comes of a step at reading 0. The agent then serves as agent 1, has its roots, and listens for
--- its objective with the flags F_DISC and F_NEG (RFC 8992, section 5.1)
-pub record OpeningsAreSteps (m : Member) (x : Coming) : Type 0 where
-  pub registers : IsAnswered (fresh_seat m) x (answer.Asa 1)
-  pub declares : IsAnswered (answered_seat (fresh_seat m) (answer.Asa 1)) x answer.Done
-  pub listens : IsAnswered (answered_seat (answered_seat (fresh_seat m) (answer.Asa 1)) answer.Done) x answer.NotYet
-  pub number : (first_seat m).agent.asa ≡ 1
-  pub serves : (first_seat m).agent.stage ≡ Serving
-  pub pool : (first_seat m).agent.pool ≡ pool_of m.roots
-  pub flags : flags_registered (first_seat m).core.registrations objective_name ≡ Some 3
-  pub listener : listener_of (first_seat m).core.registrations objective_name ≡ Some 1
-  pub quiet : (first_seat m).core.queue ≡ []
+-- each answer to an opening call of an agent with this pool comes of a step at reading 0. The agent then serves as agent 1, has this pool,
+-- and listens for its objective with the flags F_DISC and F_NEG (RFC 8992, section 5.1)
+pub record OpeningsAreSteps (plan : NodePlan) (h : Holding) (x : Coming) : Type 0 where
+  pub registers : IsAnswered (fresh_seat plan h) x (answer.Asa 1)
+  pub declares : IsAnswered (answered_seat (fresh_seat plan h) (answer.Asa 1)) x answer.Done
+  pub listens : IsAnswered (answered_seat (answered_seat (fresh_seat plan h) (answer.Asa 1)) answer.Done) x answer.NotYet
+  pub number : (opened_seat plan h).agent.asa ≡ 1
+  pub serves : (opened_seat plan h).agent.stage ≡ Serving
+  pub pool : (opened_seat plan h).agent.pool ≡ h
+  pub flags : flags_registered (opened_seat plan h).core.registrations objective_name ≡ Some 3
+  pub listener : listener_of (opened_seat plan h).core.registrations objective_name ≡ Some 1
+  pub quiet : (opened_seat plan h).core.queue ≡ []
 
+-- so it is in each life that begins
 abbrev pub WorldsBegin : Type 0
-WorldsBegin = (m : Member) (x : Coming) → OpeningsAreSteps m x
+WorldsBegin = (plan : NodePlan) (h : Holding) (x : Coming) → OpeningsAreSteps plan h x
 
 -- the line that is a node's link of some number has that number among the node's links
 abbrev pub LinksAreFound : Type 0

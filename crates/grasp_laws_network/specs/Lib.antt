@@ -1,7 +1,9 @@
 pub mod Authorities
 pub mod Keeping
 pub mod Laws
+pub mod Lives
 pub mod Nodes
 pub mod Noted
 pub mod Telling
+pub mod TurnsDo
 pub mod Views

@@ -26,7 +26,7 @@ use Rattle.grasp_model_network.specs.Runs.{first_world}
 use Rattle.grasp_model_network.specs.Sending.{gained}
 use Rattle.grasp_model_network.specs.Setting.{Setting, numbered}
 use Rattle.grasp_model_network.specs.Visits.{Visit, Choice}
-use Rattle.grasp_model_network.specs.World.{FloodCall, SearchCall, DiscoveryAnswer, GivenHandle, WorldState}
+use Rattle.grasp_model_network.specs.World.{FloodCall, SearchCall, DiscoveryAnswer, GivenHandle, WorldState, member_of}
 use Rattle.grasp_model_network.specs.declared.event.Event.{Event}
 use Rattle.grasp_model_network.specs.declared.event.Event.TheVariants as event
 
@@ -54,13 +54,14 @@ pub record ReadsFloods (s : Setting) (w : WorldState) (e : Event) (c : Choice) (
   pub made : Call
   pub told : IsAnsweredCall s w e c visit asa made (answer.Floods reads)
 
--- a call is answered that a search begins: at this node, in the life of this number, under the session number that it draws next
+-- a call is answered that a search begins: in this life, at its node's address, under the session number that it draws next
 pub record BeginsSearch (s : Setting) (w : WorldState) (e : Event) (c : Choice) (x : SearchCall) : Type 0 where
   pub visit : Visit
   pub asa : ℕ
   pub made : Call
   pub begun : IsAnsweredCall s w e c visit asa made answer.Searching
   pub node : x.node ≡ visit.node
+  pub address : x.address ≡ visit.seat.core.plan.address
   pub life : x.life ≡ length visit.seat.earlier
   pub session : x.session ≡ next_session (begin visit.seat.core visit.now)
 
@@ -70,7 +71,7 @@ HasHandle h (answer.Started given) = h ≡ given
 HasHandle h (answer.Incoming given from objective) = h ≡ given
 HasHandle h _ = ⊥
 
--- a call is answered with this handle, at this node, in the life of this number
+-- a call is answered with this handle, in this life
 pub record GivesHandle (s : Setting) (w : WorldState) (e : Event) (c : Choice) (g : GivenHandle) : Type 0 where
   pub visit : Visit
   pub asa : ℕ
@@ -81,7 +82,7 @@ pub record GivesHandle (s : Setting) (w : WorldState) (e : Event) (c : Choice) (
   pub node : g.node ≡ visit.node
   pub life : g.life ≡ length visit.seat.earlier
 
--- a discovery of this objective is delivered to this node, and its step queues a response that tells locators and is no divert. The node
+-- a discovery of this objective is delivered to this member, and its step queues a response that tells locators and is no divert. The node
 -- has the name registered with these flags, or not at all
 pub record AnswersDiscovery (s : Setting) (w : WorldState) (e : Event) (c : Choice) (a : DiscoveryAnswer) : Type 0 where
   pub visit : Visit
@@ -100,7 +101,7 @@ pub record AnswersDiscovery (s : Setting) (w : WorldState) (e : Event) (c : Choi
   pub locators : List Locator
   pub about : Option Objective
   pub response : Contains (gained visit.seat.core c.after) (send stream (Response number from ttl (Locators locators) about))
-  pub node : a.node ≡ visit.node
+  pub node : a.node ≡ member_of w visit.node
   pub flags : a.flags ≡ flags_registered visit.seat.core.registrations a.objective.name
 
 -- ---- what is noted of it

@@ -28,7 +28,7 @@ IsNoReply _ = Unit {0}
 -- the event tells an agent something that may happen to it, and this is the network after that
 pub record Tells (s : Setting) (w : WorldState) (e : Event) (x : WorldState) : Type 0 where
   pub telling : Telling
-  pub is : telling_of s e ≡ Some telling
+  pub is : telling_of s w e ≡ Some telling
   pub seat : Seat
   pub here : seat_at w telling.node ≡ Some seat
   pub possible : IsPossible telling.what

@@ -1,14 +1,14 @@
 //! What every event leaves as it is, and what it only adds to. They say nothing at run time.
 
-ghost use Rattle.grasp_laws_network.specs.Keeping.{VisitsAreHere, SeatsStay, WantsChangeWants, ReturnsChangeReturns, QueuesGrow, OutcomesAgree, WhatWasSentStays, BytesAreCounted};
+ghost use Rattle.grasp_laws_network.specs.Keeping.{VisitsAreHere, SeatsStay, WantsChangeWants, ReturnsChangeReturns, QueuesGrow, OutcomesAgree, WhatWasSentStays, WhatWasSentStaysOverTurns, BytesAreCounted};
 ghost use Rattle.grasp_laws_network.specs.Nodes.{NodesAreSound};
 
-/// An event makes its step at a node that is there, as it stands.
+/// An event makes its step in a life that is there, as it stands.
 pub fn visits_are_here()
     ensures { VisitsAreHere }
 {}
 
-/// No event adds a node or takes one away: there is always one for each member.
+/// No event begins a life of a node or takes one away, and of each it is known whose it is.
 pub fn seats_stay()
     ensures { SeatsStay }
 {}
@@ -38,12 +38,17 @@ pub fn what_was_sent_stays()
     ensures { WhatWasSentStays }
 {}
 
+/// No turn does: no event, no settling and no restart.
+pub fn what_was_sent_stays_over_turns()
+    ensures { WhatWasSentStaysOverTurns }
+{}
+
 /// The count of bytes is that of all datagrams and streams that were sent.
 pub fn bytes_are_counted()
     ensures { BytesAreCounted }
 {}
 
-/// Each node of a network that events lead to is one to which steps lead: its lists stay within their limits, its
+/// Each life of a node of a network that turns lead to is one to which steps lead: its lists stay within their limits, its
 /// sessions are those to which calls of a table lead, and its plan is its member's.
 pub fn nodes_are_sound()
     ensures { NodesAreSound }

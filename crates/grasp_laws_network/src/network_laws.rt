@@ -19,7 +19,7 @@ pub fn held_then_drained()
     ensures { HeldThenDrained }
 {}
 
-/// The answers to the opening calls of the agents in a first world come of steps at reading 0.
+/// The answers to the opening calls of the agent in a life that begins come of steps at reading 0.
 pub fn worlds_begin()
     ensures { WorldsBegin }
 {}

@@ -1,3 +1,5 @@
+pub mod Acceptances
+pub mod Accepting
 pub mod Acting
 pub mod Allowed
 pub mod Beginning

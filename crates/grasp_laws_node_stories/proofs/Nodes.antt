@@ -124,7 +124,7 @@ drop_all zero (q ∷ qs) h = absurd (omega (arith, h))
 drop_all (suc k) [] h = refl
 drop_all (suc k) (q ∷ qs) h = drop_all k qs (omega (arith, h))
 
-dropped : (max : ℕ) (qs : List Queued) → drop (length qs) (drop max qs) ≡ []
+pub dropped : (max : ℕ) (qs : List Queued) → drop (length qs) (drop max qs) ≡ []
 dropped max qs = drop_all (length qs) (drop max qs) (let l = length-drop max qs in omega (arith, l))
 
 -- a beginning says nothing

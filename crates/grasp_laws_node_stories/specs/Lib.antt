@@ -1,2 +1,3 @@
+pub mod Acceptances
 pub mod Stories
 pub mod StreamMoves

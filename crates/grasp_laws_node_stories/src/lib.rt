@@ -3,4 +3,6 @@
 
 mod laws;
 
-pub use laws::{clear_streams_are_kept, streams_have_stories};
+pub use laws::{
+    acceptances_are_calls, clear_streams_are_kept, ended_sessions_stay, streams_have_stories,
+};

@@ -2,7 +2,6 @@
 use Rattle.std.proofs.Common.{◌≡◌, ◌≢◌, refl, sym, ap, ◌∙◌, subst, ℕ, false, inl, inr, ◌⊎◌, Contains, Some, None}
 use Rattle.std.proofs.lemmas.Bool.{true≢false, cases_eq}
 use Rattle.std.proofs.lemmas.Option.{none-some, same_Some}
-use Rattle.grasp_agent.specs.States.{unsent_of}
 use Rattle.grasp_agent.specs.declared.act.Act.TheVariants as act
 use Rattle.grasp_pool.proofs.Maximal.{cases_prefix}
 use Rattle.grasp_pool.specs.Holdings.{IsFree, IsListed}
@@ -15,17 +14,17 @@ use Rattle.grasp_model_network.specs.Offers.{JustOffered, is_offer_of}
 use Rattle.grasp_model_network.specs.Runs.{IsReached}
 use Rattle.grasp_model_network.specs.Sending.{seat_with}
 use Rattle.grasp_model_network.specs.Setting.{Setting}
-use Rattle.grasp_model_network.specs.World.{Seat, Offered, WorldState, seat_at}
+use Rattle.grasp_model_network.specs.World.{Seat, Offered, WorldState, seat_at, member_of}
 use Rattle.grasp_laws_agents.specs.OfferLaws.{FreedBy, MayGoBack, IsAcceptance}
-use Rattle.grasp_laws_prefixes.proofs.AgentOffers.{IsJust, newly, IsListedNow, was_listed, is_new, listed_now, is_kept_now, NewFrom, from_old, from_unsent, from_free, new_from, offers_known}
-use Rattle.grasp_laws_prefixes.proofs.AgentSteps.{AgentStep, IsOfferOf, given_offer, theirs, mine, accepted_offer, spent}
-use Rattle.grasp_laws_prefixes.proofs.EntryOffers.{unsent_reserved}
+use Rattle.grasp_laws_prefixes.proofs.AgentOffers.{IsJust, newly, IsListedNow, was_listed, is_new, listed_now, is_kept_now, NewFrom, from_old, from_unsent, from_free, new_from, once_now, offers_known}
+use Rattle.grasp_laws_prefixes.proofs.AgentSteps.{AgentStep, IsOfferOf, given_offer, unsent_authority, theirs, mine, accepted_offer, spent}
 use Rattle.grasp_laws_prefixes.proofs.Listing.{offer_of, Begins, decides, hands, begins, is_just}
 use Rattle.grasp_laws_prefixes.proofs.OneNode.{each_node}
+use Rattle.grasp_laws_prefixes.proofs.OwnSteps.{IsCall}
 use Rattle.grasp_laws_prefixes.proofs.QuietKeeps.{may_before}
-use Rattle.grasp_laws_prefixes.proofs.Standing.{offer_on, offer_unsent, PrefixesStand}
+use Rattle.grasp_laws_prefixes.proofs.Standing.{offer_unsent, PrefixesStand}
 use Rattle.grasp_laws_prefixes.specs.Grounds.{Grounds}
-use Rattle.grasp_laws_prefixes.specs.Apart.{HeldApart}
+use Rattle.grasp_laws_prefixes.specs.Apart.{HeldApart, offer_on}
 
 module _ (l : Grounds) (s : Setting) (w y : WorldState) (r : IsReached s w) (q : IsReached s y) (a : AgentStep w y) (k : PrefixesStand w) where
   -- ---- the node of the step
@@ -65,24 +64,14 @@ module _ (l : Grounds) (s : Setting) (w y : WorldState) (r : IsReached s w) (q :
     spent_now = λ free z e f h. pool_now.held o.prefix address (subst (λ u. IsListed a.agent.pool u) (sym f) (listed_at z.node z.prefix (sym e ∙ own) h.kept)) span free;
   }
 
-  -- what is to be requested might be accepted
-  unsent_authority : (p : Prefix) → unsent_of a.visit.seat.agent.back ≡ Some p → IsAuthority w (offer_unsent a.visit.node p)
-  unsent_authority p e =
-      let reserved = unsent_reserved a.visit.seat.agent p (l.kept s w r a.visit.node a.visit.seat a.here) e in
-      record {
-        listed = k.known.unsent a.visit.node a.visit.seat a.here p e;
-        kept = record { seat = a.visit.seat; here = a.here; listed = inl reserved };
-        live = record { seat = a.visit.seat; here = a.here; reserved = reserved };
-      }
-
   accepted_freed : (p : Prefix) (address : ℕ) → span_of p address → IsAcceptance a.visit.seat.core a.core a.visit.seat.agent p → IsFreed address
   accepted_freed p address span g = record { offer = _; authority = was; span = span; spent_now = λ free o e f h. spent_so o e f h (listed_now l s w y r q a k o h.listed) } where
-    was : IsAuthority w (offer_on (theirs l s w r k a.visit.node a.visit.seat a.here a.core p g).at.node p (mine l s w r k a.visit.node a.visit.seat a.here a.core p g).place)
-    was = accepted_offer l s w r k a.visit.node a.visit.seat a.here a.core p g
+    was : IsAuthority w (offer_on (theirs l s w r k a.visit.node a.visit.seat a.here a.present a.core p g).at.node p (mine l s w r k a.visit.node a.visit.seat a.here a.present a.core p g).place)
+    was = accepted_offer l s w r k a.visit.node a.visit.seat a.here a.present a.core p g
 
-    spent_so : (o : Offered) → (theirs l s w r k a.visit.node a.visit.seat a.here a.core p g).at.node ≡ o.node → p ≡ o.prefix → IsAuthority y o → IsListedNow l s w y r q a k o → ⊥
+    spent_so : (o : Offered) → (theirs l s w r k a.visit.node a.visit.seat a.here a.present a.core p g).at.node ≡ o.node → p ≡ o.prefix → IsAuthority y o → IsListedNow l s w y r q a k o → ⊥
     spent_so o e f h (was_listed listed kept apart) =
-        spent l s w r k a.visit.node a.visit.seat a.here a.core p g y q a.streams a.agent a.there (subst (λ z. MayAccept y z z.talk) (sym (k.known.once _ o was.listed listed e f)) h.live)
+        spent l s w r k a.visit.node a.visit.seat a.here a.present a.core p g y q a.streams a.agent a.there (subst (λ z. MayAccept y z z.talk) (sym (k.known.once _ o was.listed listed (ap (λ n. member_of w n) e) f)) h.live)
     spent_so o e f h (is_new j is same) = by_case (begins a.visit.seat.agent a.agent j is) where
       -- the same prefix isn't to be requested by the same node
       by_case : Begins a.visit.seat.agent a.agent j → ⊥
@@ -90,15 +79,15 @@ module _ (l : Grounds) (s : Setting) (w y : WorldState) (r : IsReached s w) (q :
       by_case (hands unsent session) =
           none-some _
           (sym (ap (λ (u : Offered). u.talk)
-          (k.known.once _ (offer_unsent a.visit.node j.prefix) was.listed (k.known.unsent a.visit.node a.visit.seat a.here j.prefix unsent) (e ∙ ap (λ (u : Offered). u.node) same)
+          (k.known.once _ (offer_unsent a.visit.node j.prefix) was.listed (k.known.unsent a.visit.node a.visit.seat a.here j.prefix unsent) (ap (λ n. member_of w n) (e ∙ ap (λ (u : Offered). u.node) same))
           (f ∙ ap (λ (u : Offered). u.prefix) same))))
 
   freed : (address : ℕ) → FreedBy a.visit.seat.core a.core a.visit.seat.agent address → IsFreed address
   freed address (inl g) =
-      let o = given_offer l s w r k a.visit.node a.visit.seat a.here g.0 g.2 in
+      let o = given_offer l s w r k a.visit.node a.visit.seat a.here a.present g.0 g.2 in
       own_freed (offer_on a.visit.node g.0 o.place) address refl g.1 o.authority
   freed address (inr (inl g)) = accepted_freed g.0 address g.1 g.2
-  freed address (inr (inr g)) = own_freed (offer_unsent a.visit.node g.0) address refl g.1 (unsent_authority g.0 g.2)
+  freed address (inr (inr g)) = own_freed (offer_unsent a.visit.node g.0) address refl g.1 (unsent_authority l s w r k a.visit.node a.visit.seat a.here g.0 g.2)
 
   -- an address that is held was held there, or was freed
   pub holds_before : (n address : ℕ) → Holds y n address → Holds w n address ⊎ ((n ≡ a.visit.node) × IsFreed address)
@@ -161,12 +150,12 @@ module _ (l : Grounds) (s : Setting) (w y : WorldState) (r : IsReached s w) (q :
     by_case : NewFrom l s w y r q a k j → WasAuthority (newly l s w y r q a k j)
     by_case (from_old listed reserved) =
         old_authority (newly l s w y r q a k j) listed (record { seat = a.visit.seat; here = a.here; listed = inl reserved }) (λ h. record { seat = a.visit.seat; here = a.here; reserved = reserved }) auth
-    by_case (from_unsent unsent) = was (offer_unsent a.visit.node j.prefix) refl refl (unsent_authority j.prefix unsent)
+    by_case (from_unsent unsent) = was (offer_unsent a.visit.node j.prefix) refl refl (unsent_authority l s w r k a.visit.node a.visit.seat a.here j.prefix unsent)
     by_case (from_free free) = is_taken refl (λ address span. by_free address (free address span)) where
       by_free : (address : ℕ) → IsFree a.visit.seat.agent.pool address ⊎ ((z : Prefix) × span_of z address × MayGoBack a.visit.seat.core a.visit.seat.agent z)
           → Holds w a.visit.node address ⊎ ((z : Prefix) × span_of z address × IsOfferOf w a.visit.node z)
       by_free address (inl f) = inl (own_holds address f)
-      by_free address (inr g) = inr (g.0, g.1, given_offer l s w r k a.visit.node a.visit.seat a.here g.0 g.2)
+      by_free address (inr g) = inr (g.0, g.1, given_offer l s w r k a.visit.node a.visit.seat a.here a.present g.0 g.2)
 
   pub was_authority : (o : Offered) → IsAuthority y o → WasAuthority o
   was_authority o auth = by_case (listed_now l s w y r q a k o auth.listed) where
@@ -204,7 +193,7 @@ module _ (l : Grounds) (s : Setting) (w y : WorldState) (r : IsReached s w) (q :
   auth_others o p first second differ = by_node (cases_eq o.node p.node) where
     -- at one node
     own : o.node ≡ p.node → (o.prefix ≡ p.prefix) ⊎ (¬ (o.prefix ≡ p.prefix)) → Apart o.prefix p.prefix
-    own e (inl same) = absurd (differ ((offers_known l s w y r q a k).once o p first.listed second.listed e same))
+    own e (inl same) = absurd (differ (once_now l s w y r q a k o p (listed_now l s w y r q a k o first.listed) (listed_now l s w y r q a k p second.listed) (ap (λ n. member_of w n) e) same))
     own e (inr other) =
         let seat_is : first.kept.seat ≡ second.kept.seat = same_Some first.kept.seat second.kept.seat (sym first.kept.here ∙ (ap (λ m. seat_at y m) e ∙ second.kept.here)) in
         (l.kept s y q p.node second.kept.seat second.kept.here).pool.apart o.prefix p.prefix other (subst (λ (z : Seat). IsListed z.agent.pool o.prefix) seat_is first.kept.listed) second.kept.listed
@@ -227,9 +216,9 @@ module _ (l : Grounds) (s : Setting) (w y : WorldState) (r : IsReached s w) (q :
     by_node (inl e) = own e (cases_prefix o.prefix p.prefix)
     by_node (inr apart) = by_case apart (was_authority o first) (was_authority p second)
 
-  pub agent_keeps : PrefixesStand y
-  agent_keeps = record {
-    known = offers_known l s w y r q a k;
+  pub agent_keeps : IsCall w y a → PrefixesStand y
+  agent_keeps c = record {
+    known = offers_known l s w y r q a k c;
     held = held;
     authorities = record { held = auth_held; others = auth_others };
   }

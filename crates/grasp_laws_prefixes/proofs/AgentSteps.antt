@@ -6,48 +6,57 @@ use Rattle.grasp_agent.specs.Calls.{objective_name}
 use Rattle.grasp_agent.specs.States.{AgentState, unsent_of}
 use Rattle.grasp_model_node.specs.Node.{NodeState}
 use Rattle.grasp_laws_session.proofs.Follows.{other_other}
+use Rattle.grasp_session.proofs.Facts.{allowed_goes}
 use Rattle.grasp_session.specs.Conversation.{Said, strip, requested, accepted_by, ended, turn, spoken}
 use Rattle.grasp_session.specs.Laws.{IsView, Accepting}
 use Rattle.grasp_session.specs.Messages.{Side, other}
 use Rattle.grasp_session.specs.Sessions.{SessionState}
 use Rattle.grasp_session.specs.Transcript.{Transcript, SayEnd, having_said, known, sent_of, session_of}
+use Rattle.grasp_session.specs.declared.answer.Act.TheVariants as session_act
 use Rattle.grasp_types.specs.Prefix.{AddressBlock as Prefix}
 use Rattle.grasp_types.specs.declared.message.Message.TheVariants.{End}
 use Rattle.grasp_types.specs.declared.message.Verdict.TheVariants.{Accept}
 use Rattle.grasp_types.specs.declared.objective.Objective.{Objective}
-use Rattle.grasp_types.specs.declared.session.Handle.{Handle}
 use Rattle.grasp_types.specs.declared.session.Kind.TheVariants.{Negotiation}
-use Rattle.grasp_laws_network.specs.Authorities.{IsOpenTalk, IsAuthority, is_return, offering_by, taking_side, is_accepted, has_accepted}
+use Rattle.grasp_laws_network.specs.Authorities.{IsOpenTalk, IsAuthority}
+use Rattle.grasp_model_network.specs.Accepting.{is_return, offering_by, taking_side, is_accepted, has_accepted}
 use Rattle.grasp_model_network.specs.Offers.{offers_after}
 use Rattle.grasp_model_network.specs.Runs.{IsReached}
 use Rattle.grasp_model_network.specs.Sending.{seat_with}
 use Rattle.grasp_model_network.specs.Setting.{Setting}
-use Rattle.grasp_model_network.specs.Streams.{StreamState, end_at}
+use Rattle.grasp_model_network.specs.Settling.{NeverAccepts}
+use Rattle.grasp_model_network.specs.Streams.{StreamEnd, StreamState, end_at}
 use Rattle.grasp_laws_network.specs.Views.{view_at}
 use Rattle.grasp_model_network.specs.Visits.{Visit}
-use Rattle.grasp_model_network.specs.World.{Seat, WorldState, seat_at, end_of}
+use Rattle.grasp_model_network.specs.World.{Seat, WorldState, seat_at, end_of, is_present}
 use Rattle.grasp_laws_agents.specs.Owning.{IsOwned}
-use Rattle.grasp_laws_agents.specs.Giving.{IsOpenOffer, IsOwnSession}
+use Rattle.grasp_laws_agents.specs.Giving.{IsOpenOffer}
 use Rattle.grasp_laws_agents.specs.OfferLaws.{AgentMoves, MayGoBack, IsAcceptance}
 use Rattle.grasp_laws_node.proofs.Consistent.Declines.{handle_state}
-use Rattle.grasp_laws_prefixes.proofs.Asked.{request_stays}
-use Rattle.grasp_laws_prefixes.proofs.EntryOffers.{offers_reserved}
-use Rattle.grasp_laws_prefixes.proofs.Givers.{Gave, by_offer, by_gone, gave_there, kept_there, offering_there}
-use Rattle.grasp_laws_prefixes.proofs.OwnSessions.{handle_made, IsSessionAt, session_there, IsViewOf, view_of, IsTalkOf, talk_of}
+use Rattle.grasp_laws_prefixes.proofs.Asked.{request_stays, placed_one}
+use Rattle.grasp_laws_prefixes.proofs.Asking.{is_asking}
+use Rattle.grasp_laws_prefixes.proofs.EntryOffers.{offers_reserved, unsent_reserved}
+use Rattle.grasp_laws_prefixes.proofs.Givers.{gave_owner, gave_there, offering_there}
+use Rattle.grasp_laws_prefixes.proofs.OpenOffers.{IsKnownOn, open_known}
+use Rattle.grasp_laws_prefixes.proofs.OwnSessions.{handle_made, IsSessionAt, session_there, IsViewOf, view_of, IsTalkOf, talk_of, own_talk, own_view}
 use Rattle.grasp_laws_prefixes.proofs.Places.{same_place}
 use Rattle.grasp_laws_prefixes.proofs.Speech.{never_accepted, open_unaccepted, said_acceptance, accepting_open}
-use Rattle.grasp_laws_prefixes.proofs.Standing.{offer_on, IsOfferedOn, PrefixesStand, Stays, AllStay}
+use Rattle.grasp_laws_prefixes.proofs.Standing.{offer_unsent, IsOfferedOn, WasSettledOn, StaysUnaccepted, PrefixesStand, Stays, AllStay}
+use Rattle.grasp_laws_prefixes.specs.Apart.{offer_on}
 use Rattle.grasp_laws_prefixes.specs.Grounds.{Grounds}
 
--- the network after an agent's own step, with what that left
+-- the network after an agent's own step in a present life, with what that left
 pub record AgentStep (w y : WorldState) : Type 0 where
   pub visit : Visit
   pub core : NodeState
   pub agent : AgentState
   pub here : seat_at w visit.node ≡ Some visit.seat
+  pub present : is_present w visit.node ≡ true
   pub there : seat_at y visit.node ≡ Some (seat_with visit.seat core agent)
   pub others : (n : ℕ) → n ≢ visit.node → seat_at y n ≡ seat_at w n
   pub offers : y.offers ≡ offers_after y.streams w visit core agent
+  pub settled : y.settled ≡ w.settled
+  pub lives : y.lives ≡ w.lives
   pub streams : AllStay w.streams y.streams
   pub moves : AgentMoves visit.seat.core core visit.seat.agent agent
   -- where a return is to be requested, nothing is decided
@@ -57,18 +66,6 @@ pub record AgentStep (w y : WorldState) : Type 0 where
 pub record IsOfferOf (w : WorldState) (node : ℕ) (p : Prefix) : Type 0 where
   pub place : ℕ
   pub authority : IsAuthority w (offer_on node p place)
-
-module _ (l : Grounds) (s : Setting) (w : WorldState) (r : IsReached s w) where
-  -- ---- a session of agent 1
-
-  pub own_talk : (node : ℕ) (seat : Seat) → seat_at w node ≡ Some seat → (h : Handle) (side : Side) (x : SessionState) → IsOwnSession seat.core.sessions h side x → IsTalkOf w node seat x side
-  own_talk node seat here h side x own =
-      let owned : IsOwned x = l.owned s w r node seat here h.place x (handle_state seat.core.sessions h x own.at).0 in
-      talk_of l.streams s w r node seat here x (handle_made seat.core.sessions h x own.at) side own.role (owned.own own.owner).0
-
-  -- what it saw on its stream
-  pub own_view : (node : ℕ) (seat : Seat) (x : SessionState) (side : Side) → (t : IsTalkOf w node seat x side) → IsView side t.talk.said x.view
-  own_view node seat x side t = (l.known s w r t.place t.talk t.stands t.negotiation).views side x.view t.saw
 
 module _ (l : Grounds) (s : Setting) (w : WorldState) (r : IsReached s w) (k : PrefixesStand w) where
   -- an offer that is listed for the stream of a session is for that stream
@@ -80,11 +77,11 @@ module _ (l : Grounds) (s : Setting) (w : WorldState) (r : IsReached s w) (k : P
 
   -- ---- an offer that is given back
 
-  pub given_offer : (node : ℕ) (seat : Seat) → seat_at w node ≡ Some seat → (p : Prefix) → MayGoBack seat.core seat.agent p → IsOfferOf w node p
-  given_offer node seat here p g = record {
+  pub given_offer : (node : ℕ) (seat : Seat) → seat_at w node ≡ Some seat → is_present w node ≡ true → (p : Prefix) → MayGoBack seat.core seat.agent p → IsOfferOf w node p
+  given_offer node seat here present p g = record {
     place = t.place;
     authority = record {
-      listed = listed_at node seat g.side g.session.stream p t.place t.talk t.stands t.ends (k.known.offered node seat here g.side g.handle p g.offers g.session g.own);
+      listed = listed_at node seat g.side g.session.stream p t.place t.talk t.stands t.ends (k.known.offered node seat here present g.side g.handle p g.offers g.session g.own);
       kept = record { seat = seat; here = here; listed = inl (offers_reserved seat.agent g.side g.handle p (l.kept s w r node seat here) g.offers) };
       live = record { talk = t.talk; here = t.stands; open_still = never_accepted (taking_side t.talk) t.talk.said (l.in_order s w r t.place t.talk t.stands t.negotiation) unaccepted };
     };
@@ -102,9 +99,21 @@ module _ (l : Grounds) (s : Setting) (w : WorldState) (r : IsReached s w) (k : P
     unaccepted : accepted_by (taking_side t.talk) (strip t.talk.said) ≡ false
     unaccepted = ap (λ (c : List Said). accepted_by (taking_side t.talk) c) (sym (whole g.unaccepted.whole)) ∙ g.unaccepted.no_acceptance (taking_side t.talk)
 
+  -- ---- an offer that is to be made
+
+  -- what is to be requested might be accepted
+  pub unsent_authority : (node : ℕ) (seat : Seat) → seat_at w node ≡ Some seat → (p : Prefix) → unsent_of seat.agent.back ≡ Some p → IsAuthority w (offer_unsent node p)
+  unsent_authority node seat here p e =
+      let reserved = unsent_reserved seat.agent p (l.kept s w r node seat here) e in
+      record {
+        listed = k.known.unsent node seat here p e;
+        kept = record { seat = seat; here = here; listed = inl reserved };
+        live = record { seat = seat; here = here; reserved = reserved };
+      }
+
   -- ---- an offer that is accepted
 
-  module _ (node : ℕ) (seat : Seat) (here : seat_at w node ≡ Some seat) (after : NodeState) (p : Prefix) (g : IsAcceptance seat.core after seat.agent p) where
+  module _ (node : ℕ) (seat : Seat) (here : seat_at w node ≡ Some seat) (present : is_present w node ≡ true) (after : NodeState) (p : Prefix) (g : IsAcceptance seat.core after seat.agent p) where
     pub mine : IsTalkOf w node seat g.session g.side
     mine = own_talk l s w r node seat here g.handle g.side g.session g.own
 
@@ -140,18 +149,53 @@ module _ (l : Grounds) (s : Setting) (w : WorldState) (r : IsReached s w) (k : P
     open_there : IsOpenOffer theirs.session.view p
     open_there = subst (λ u. IsOpenOffer u p) (sym theirs.view) is_open
 
-    -- the offer is listed at the other end
-    offered_there : Gave there.seat theirs.session p → IsOfferedOn w theirs.at.node there.seat (other g.side) theirs.session.stream p
-    offered_there (by_offer side h o own) =
-        subst (λ k. IsOfferedOn w theirs.at.node there.seat k theirs.session.stream p) (sym own.role ∙ seen.role) (k.known.offered theirs.at.node there.seat there.here side h p o theirs.session own)
-    offered_there (by_gone gone own) =
-        subst (λ k. IsOfferedOn w theirs.at.node there.seat k theirs.session.stream p) seen.role (k.known.gone theirs.at.node there.seat there.here theirs.session p gone own open_there)
+    -- the other end offers, so this one takes
+    pub takes : taking_side mine.talk ≡ g.side
+    takes =
+        ap (λ k. other k) (offering_there l s w r theirs.at (other g.side) mine.place mine.talk mine.stands mine.negotiation theirs.session there p seen name open_there) ∙ other_other g.side
+
+    -- the offer isn't settled: that is never accepted
+    not_settled : WasSettledOn w theirs.at.node there.seat (other g.side) theirs.session.stream p → ⊥
+    not_settled o = never.over (is_asking w mine.talk (ap (λ (e : StreamEnd). is_present w e.node) near_is ∙ present) seat (ap (λ (e : StreamEnd). seat_at w e.node) near_is ∙ here) (record {
+      place = g.handle.place;
+      session = g.session;
+      at = (handle_state seat.core.sessions g.handle g.session g.own.at).0;
+      on = sym (ap (λ (e : StreamEnd). e.number) near_is);
+      going = allowed_goes g.session.view session_act.End g.may;
+    })) where
+      end_is : StreamEnd
+      end_is = end_of theirs.at.node there.seat theirs.session.stream
+
+      place_is : o.place ≡ mine.place
+      place_is = same_place l.ready s w r end_is o.place mine.place o.at.talk mine.talk (other g.side) (other g.side) o.at.stands o.at.end_is mine.stands (theirs.ends ∙ ap (λ e. Some e) there.end_is)
+
+      stays : StaysUnaccepted w (offer_on theirs.at.node p o.place)
+      stays = k.known.settled (offer_on theirs.at.node p o.place) o.listed
+
+      never : NeverAccepts w mine.talk
+      never =
+          subst (λ t. NeverAccepts w t)
+          (placed_one w.streams (offer_on theirs.at.node p o.place) stays.at mine.place mine.talk (ap (λ n. Some n) place_is) mine.stands) stays.never
+
+      near_is : mine.talk.near ≡ end_of node seat g.session.stream
+      near_is = same_Some mine.talk.near (end_of node seat g.session.stream) (ap (λ i. end_at mine.talk i) (sym never.takes ∙ takes) ∙ mine.ends)
+
+    -- so it is listed at the other end
+    offer_there : Contains w.offers (offer_on theirs.at.node p mine.place)
+    offer_there = from (open_known l s w r theirs.at.node there.seat there.here theirs.session p owner open_there k.known there.made) where
+      owner : theirs.session.owner ≡ 1
+      owner = gave_owner there.seat theirs.session p (gave_there l s w r theirs.at (other g.side) mine.place mine.talk mine.stands mine.negotiation theirs.session there p seen name open_there)
+
+      from : IsKnownOn w theirs.at.node there.seat theirs.session p → Contains w.offers (offer_on theirs.at.node p mine.place)
+      from (inl o) =
+          listed_at theirs.at.node there.seat (other g.side) theirs.session.stream p mine.place mine.talk mine.stands (theirs.ends ∙ ap (λ e. Some e) there.end_is)
+          (subst (λ i. IsOfferedOn w theirs.at.node there.seat i theirs.session.stream p) seen.role o)
+      from (inr o) = absurd (not_settled (subst (λ i. WasSettledOn w theirs.at.node there.seat i theirs.session.stream p) seen.role o))
 
     pub accepted_offer : IsAuthority w (offer_on theirs.at.node p mine.place)
     accepted_offer = record {
-      listed = listed_at theirs.at.node there.seat (other g.side) theirs.session.stream p mine.place mine.talk mine.stands (theirs.ends ∙ ap (λ e. Some e) there.end_is)
-          (offered_there (gave_there l s w r theirs.at (other g.side) mine.place mine.talk mine.stands mine.negotiation theirs.session there p seen name open_there));
-      kept = kept_there l s w r theirs.at (other g.side) mine.place mine.talk mine.stands mine.negotiation theirs.session there p seen name open_there;
+      listed = offer_there;
+      kept = k.known.kept (offer_on theirs.at.node p mine.place) offer_there;
       live = record {
         talk = mine.talk;
         here = mine.stands;
@@ -159,11 +203,6 @@ module _ (l : Grounds) (s : Setting) (w : WorldState) (r : IsReached s w) (k : P
             (open_unaccepted (taking_side mine.talk) (strip mine.talk.said) accepting.no_end);
       };
     }
-
-    -- the other end offers, so this one takes
-    pub takes : taking_side mine.talk ≡ g.side
-    takes =
-        ap (λ k. other k) (offering_there l s w r theirs.at (other g.side) mine.place mine.talk mine.stands mine.negotiation theirs.session there p seen name open_there) ∙ other_other g.side
 
     -- after it the taking side has accepted
     pub spent : (y : WorldState) → IsReached s y → AllStay w.streams y.streams → (agent : AgentState) → seat_at y node ≡ Some (seat_with seat after agent) → ¬ IsOpenTalk y.streams mine.place

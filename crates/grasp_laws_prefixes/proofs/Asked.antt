@@ -1,5 +1,5 @@
--- A negotiation that was requested stays one, and what was requested stays the same.
-use Rattle.std.proofs.Common.{◌≡◌, ◌≢◌, refl, sym, ap, ◌∙◌, subst, ℕ, Bool, true, false, cond, inl, inr, ◌⊎◌, List, [], ◌∷◌, ◌++◌, reverse, Some, slice_get}
+-- A negotiation that was requested stays one, and what was requested stays the same; so the stream of an offer is one for it still.
+use Rattle.std.proofs.Common.{◌≡◌, ◌≢◌, refl, sym, ap, ◌∙◌, subst, ℕ, Bool, true, false, cond, inl, inr, ◌⊎◌, List, [], ◌∷◌, ◌++◌, reverse, Some, None, slice_get}
 use Rattle.std.proofs.lemmas.Bool.{true≢false, false≢true}
 use Rattle.std.proofs.lemmas.List.{reverse-append, reverse-reverse}
 use Rattle.std.proofs.lemmas.Option.{same_Some}
@@ -9,14 +9,15 @@ use Rattle.grasp_session.specs.Laws.{IsOpened}
 use Rattle.grasp_session.specs.Messages.{Side, Near, is_side, is_invalid}
 use Rattle.grasp_types.specs.declared.message.Message.{Message}
 use Rattle.grasp_types.specs.declared.message.Message.TheVariants.{ReqNeg, Negotiate, Wait, End}
+use Rattle.grasp_types.specs.declared.objective.Objective.{Objective}
 use Rattle.grasp_model_network.specs.Runs.{IsReached}
 use Rattle.grasp_model_network.specs.Setting.{Setting}
 use Rattle.grasp_model_network.specs.Streams.{StreamState}
-use Rattle.grasp_model_network.specs.World.{WorldState}
+use Rattle.grasp_model_network.specs.World.{Offered, WorldState}
 use Rattle.grasp_laws_negotiation.proofs.TalkSteps.{cons_nil}
 use Rattle.grasp_laws_negotiation.specs.Negotiations.{IsNegotiation}
 use Rattle.grasp_laws_prefixes.proofs.Speech.{same_requested}
-use Rattle.grasp_laws_prefixes.proofs.Standing.{Stays, NothingSaid}
+use Rattle.grasp_laws_prefixes.proofs.Standing.{Stays, AllStay, IsPlaced, NothingHappens}
 use Rattle.grasp_laws_prefixes.specs.Grounds.{Grounds}
 
 -- ---- who says the first message
@@ -89,11 +90,38 @@ module _ (l : Grounds) (s : Setting) (w : WorldState) (r : IsReached s w) (place
     ap (λ c. begun (strip c)) u.said ∙ begun_still u.newer t.said asked,
   )
 
-  pub request_stays : (y : WorldState) → IsReached s y ⊎ NothingSaid w y → (u : Stays y.streams place t) → requested u.after.said ≡ requested t.said
+  pub request_stays : (y : WorldState) → IsReached s y ⊎ NothingHappens w y → (u : Stays y.streams place t) → requested u.after.said ≡ requested t.said
   request_stays y (inl q) u =
       sym (same_requested u.after.said)
       ∙ (ap (λ c. requested (strip c)) u.said
       ∙ (same_still u.newer t.said (subst (λ c. IsLegal (strip c)) u.said (l.in_order s y q place u.after u.stands (asked_still y.streams u).0).legal) asked ∙ same_requested t.said))
   request_stays y (inr none) u =
-      let same = none place t stands in
+      let same = none.said place t stands in
       ap (λ (x : StreamState). requested x.said) (same_Some u.after same.0 (sym u.stands ∙ same.1.0)) ∙ ap requested same.1.1
+
+-- ---- the stream of an offer
+
+-- where one stands at the offer's place, it is this
+pub placed_one : (ts : List StreamState) (o : Offered) (at : IsPlaced ts o) (place : ℕ) (t : StreamState) → o.talk ≡ Some place → slice_get ts place ≡ Some t → at.talk ≡ t
+placed_one ts o at place t is stands =
+    same_Some at.talk t (sym at.stands ∙ (ap (λ n. slice_get ts n) (same_Some at.place place (sym at.is ∙ is)) ∙ stands))
+
+-- and it is one for the offer still
+module _ (l : Grounds) (s : Setting) (w : WorldState) (r : IsReached s w) (y : WorldState) (said : IsReached s y ⊎ NothingHappens w y) (stay : AllStay w.streams y.streams) (o : Offered) where
+  pub placed_at : IsPlaced w.streams o → IsPlaced y.streams o
+  placed_at at =
+      let u = stay at.place at.talk at.stands in
+      let still = asked_still l s w r at.place at.talk at.stands at.negotiation at.asked y.streams u in
+      record {
+        place = at.place;
+        talk = u.after;
+        is = at.is;
+        stands = u.stands;
+        negotiation = still.0;
+        asked = still.1;
+        name = ap (λ (x : Objective). x.name) (request_stays l s w r at.place at.talk at.stands at.negotiation at.asked y said u) ∙ at.name;
+      }
+
+  pub placed_still : IsPlaced w.streams o ⊎ (o.talk ≡ None) → IsPlaced y.streams o ⊎ (o.talk ≡ None)
+  placed_still (inl at) = inl (placed_at at)
+  placed_still (inr none) = inr none

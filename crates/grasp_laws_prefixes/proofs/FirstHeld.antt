@@ -2,13 +2,14 @@
 use Rattle.std.proofs.Common.{◌≡◌, sym, ap, ◌∙◌, subst, arith, ℕ, ◌-◌, ◌≤◌, ◌==◌, Bool, true, false, cond, refl, Option, Some, None, option_map, map, slice_get}
 use Rattle.std.proofs.lemmas.Bool.{eqb-true}
 use Rattle.std.proofs.lemmas.Option.{none-some, slice_get_within, get_or_from_slice_get, slice_get-map}
+use Rattle.grasp_pool.specs.Functions.{pool_of}
 use Rattle.grasp_pool.specs.Holdings.{Holding, IsFree}
-use Rattle.grasp_laws_network.proofs.Openings.{worlds_begin}
+use Rattle.grasp_laws_network.proofs.Begun.{begun_pool}
 use Rattle.grasp_laws_network.specs.Authorities.{Holds}
 use Rattle.grasp_model_network.specs.GoodSetting.{IsGoodMember, IsGoodSetting}
-use Rattle.grasp_model_network.specs.Runs.{first_seat, first_world}
+use Rattle.grasp_model_network.specs.Runs.{first_world}
+use Rattle.grasp_model_network.specs.Openings.{first_seat}
 use Rattle.grasp_model_network.specs.Setting.{Member, Setting, numbered}
-use Rattle.grasp_model_network.specs.Visits.{no_choice}
 use Rattle.grasp_model_network.specs.World.{seat_at}
 use Rattle.grasp_laws_prefixes.proofs.FirstPrefixes.{IsFirst, is_first}
 use Rattle.grasp_laws_prefixes.specs.Hands.{IsRootAt, FirstHoldings}
@@ -52,7 +53,7 @@ module _ (s : Setting) (good : IsGoodSetting s) where
   root_held node a r = record {
     seat = first_seat r.member;
     here = seat_found node r.member r.found;
-    free = subst (λ (z : Holding). IsFree z a) (sym (worlds_begin r.member no_choice.coming).pool)
+    free = subst (λ (z : Holding). IsFree z a) (sym (begun_pool r.member.plan (pool_of r.member.roots)))
         (((member_good (node - 1) r.member (found_at node r.member r.found).1).pool.free a).1 r.root);
   }
 

@@ -8,14 +8,17 @@ use Rattle.grasp_pool.specs.Holdings.{Holding, IsFree}
 use Rattle.grasp_pool.specs.Roots.{block_of, IsRootAddress}
 use Rattle.grasp_pool.specs.Spans.{Apart}
 use Rattle.grasp_pool.specs.declared.roots.RootPrefix.{RootPrefix}
+use Rattle.grasp_laws_session.proofs.Runs.{none_live}
+use Rattle.grasp_session.specs.Says.{IsAt}
+use Rattle.grasp_session.specs.Sessions.{Sessions, no_sessions}
 use Rattle.grasp_types.specs.Prefix.{AddressBlock as Prefix}
 use Rattle.grasp_laws_network.proofs.EachNode.{IsMade, is_made}
-use Rattle.grasp_laws_network.proofs.Openings.{worlds_begin}
+use Rattle.grasp_laws_network.proofs.Begun.{begun_pool, begun_sessions}
 use Rattle.grasp_model_network.proofs.Facts.{first_reached}
 use Rattle.grasp_model_network.specs.GoodSetting.{IsGoodMember, IsGoodSetting, AreDifferent, RootsAreApart}
-use Rattle.grasp_model_network.specs.Runs.{first_seat, first_world}
+use Rattle.grasp_model_network.specs.Runs.{first_world}
+use Rattle.grasp_model_network.specs.Openings.{first_seat}
 use Rattle.grasp_model_network.specs.Setting.{Member, Setting}
-use Rattle.grasp_model_network.specs.Visits.{no_choice}
 use Rattle.grasp_model_network.specs.World.{Seat, Offered, seat_at}
 use Rattle.grasp_laws_prefixes.proofs.EntryOffers.{offers_reserved, unsent_reserved}
 use Rattle.grasp_laws_prefixes.proofs.Listing.{none_in}
@@ -28,6 +31,7 @@ pub record IsFirst (s : Setting) (node : ℕ) (seat : Seat) : Type 0 where
   pub least : 1 ≤ node
   pub member : Member
   pub stands : slice_get s.members (node - 1) ≡ Some member
+  pub made : seat ≡ first_seat member
   pub pool : seat.agent.pool ≡ pool_of member.roots
 
 pub is_first : (s : Setting) (node : ℕ) (seat : Seat) → seat_at (first_world s) node ≡ Some seat → IsFirst s node seat
@@ -38,7 +42,8 @@ is_first s node seat found = by_zero (node == 0) refl where
     least = at_least node (eqb-false node 0 is);
     member = m.of;
     stands = m.stands;
-    pool = ap (λ (z : Seat). z.agent.pool) (sym m.made) ∙ (worlds_begin m.of no_choice.coming).pool;
+    made = sym m.made;
+    pool = ap (λ (z : Seat). z.agent.pool) (sym m.made) ∙ begun_pool m.of.plan (pool_of m.of.roots);
   } where
     at_least : (n : ℕ) → (n ≡ 0 → ⊥) → 1 ≤ n
     at_least n h = omega arith
@@ -86,23 +91,36 @@ module _ (s : Setting) (good : IsGoodSetting s) where
   unfolding first_world
   none_offered o h = none_in o h
 
+  none_settled : (o : Offered) → Contains (first_world s).settled o → ⊥
+  unfolding first_world
+  none_settled o h = none_in o h
+
+  -- no session was made
+  none_made : (node : ℕ) (seat : Seat) → seat_at (first_world s) node ≡ Some seat → seat.core.sessions ≡ no_sessions
+  none_made node seat here =
+      let f = is_first s node seat here in
+      ap (λ (z : Seat). z.core.sessions) f.made ∙ begun_sessions f.member.plan (pool_of f.member.roots)
+
+  -- and nothing is reserved
+  pub none_reserved : (node : ℕ) (seat : Seat) → seat_at (first_world s) node ≡ Some seat → (p : Prefix) → Contains seat.agent.pool.reserved p → ⊥
+  none_reserved node seat here p h = none_in p (subst (λ (z : Holding). Contains z.reserved p) (is_first s node seat here).pool h)
+
   pub first_stands : Grounds → PrefixesStand (first_world s)
   first_stands l = record {
     known = record {
       once = λ o p h j e f. absurd (none_offered o h);
       placed = λ o h. absurd (none_offered o h);
+      kept = λ o h. absurd (none_offered o h);
+      carried = λ o h past. absurd (none_offered o h);
       unsent = λ node seat here p e. absurd (none_reserved node seat here p (unsent_reserved seat.agent p (l.kept s (first_world s) (first_reached s good) node seat here) e));
-      offered = λ node seat here side h p o x own. absurd (none_reserved node seat here p (offers_reserved seat.agent side h p (l.kept s (first_world s) (first_reached s good) node seat here) o));
-      gone = λ node seat here x p gone own is_open. absurd (none_doubtful node seat here p ((l.give s (first_world s) (first_reached s good) node seat here).gone x p gone own is_open));
+      offered = λ node seat here present side h p o x own. absurd (none_reserved node seat here p (offers_reserved seat.agent side h p (l.kept s (first_world s) (first_reached s good) node seat here) o));
+      gone = λ node seat here x p gone own is_open. absurd (none_in x (subst (λ (z : Sessions). Contains z.gone x) (none_made node seat here) gone));
+      ended = λ node seat here past place x p at own is_open. absurd (none_live 64 place x (subst (λ (z : Sessions). IsAt z place x) (none_made node seat here) at));
+      settled = λ o h. absurd (none_settled o h);
     };
     held = first_held;
     authorities = record {
       held = λ o h node a i j. none_offered o h.listed;
       others = λ o p h j differ a i k. none_offered o h.listed;
     };
-  } where
-    none_reserved : (node : ℕ) (seat : Seat) → seat_at (first_world s) node ≡ Some seat → (p : Prefix) → Contains seat.agent.pool.reserved p → ⊥
-    none_reserved node seat here p h = none_in p (subst (λ (z : Holding). Contains z.reserved p) (is_first s node seat here).pool h)
-
-    none_doubtful : (node : ℕ) (seat : Seat) → seat_at (first_world s) node ≡ Some seat → (p : Prefix) → Contains seat.agent.pool.doubtful p → ⊥
-    none_doubtful node seat here p h = none_in p (subst (λ (z : Holding). Contains z.doubtful p) (is_first s node seat here).pool h)
+  }

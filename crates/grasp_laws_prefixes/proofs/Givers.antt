@@ -1,11 +1,10 @@
--- What an open offer is at its node: that of an agent of prefixes, or in doubt.
+-- What an open offer is at its node: that of an agent of prefixes, or of a session that is no longer live.
 use Rattle.std.proofs.Common.{◌≡◌, refl, sym, ap, ◌∙◌, subst, ℕ, Bool, true, false, inl, inr, ◌⊎◌, Contains, Option, Some, None, slice_get}
 use Rattle.std.proofs.lemmas.Bool.{true≢false, cases_eq}
 use Rattle.std.proofs.lemmas.Option.{same_Some}
 use Rattle.grasp_agent.specs.Calls.{objective_name}
 use Rattle.grasp_agent.specs.declared.back.Return.{Return}
 use Rattle.grasp_agent.specs.declared.giving.Giving.{Giving}
-use Rattle.grasp_pool.specs.Holdings.{IsFree, IsListed}
 use Rattle.grasp_laws_session.proofs.Trailing.{trails_legal}
 use Rattle.grasp_session.proofs.Facts.{at_handle}
 use Rattle.grasp_session.specs.Conversation.{strip, requested, has_offered, IsLegal}
@@ -16,14 +15,13 @@ use Rattle.grasp_session.specs.Runs.{WasMade}
 use Rattle.grasp_session.specs.Says.{IsAt}
 use Rattle.grasp_session.specs.Sessions.{SessionState}
 use Rattle.grasp_session.specs.Transcript.{Transcript, known, request_of}
-use Rattle.grasp_types.specs.Prefix.{AddressBlock as Prefix, span_of}
+use Rattle.grasp_types.specs.Prefix.{AddressBlock as Prefix}
 use Rattle.grasp_types.specs.declared.objective.Objective.{Objective}
 use Rattle.grasp_types.specs.declared.session.Handle.{Handle}
-use Rattle.grasp_laws_network.specs.Authorities.{Holds, Keeps, is_return, offering_by, offering_side}
+use Rattle.grasp_model_network.specs.Accepting.{is_return, offering_by, offering_side}
 use Rattle.grasp_model_network.specs.Runs.{IsReached}
 use Rattle.grasp_model_network.specs.Setting.{Setting}
 use Rattle.grasp_model_network.specs.Streams.{StreamEnd, StreamState}
-use Rattle.grasp_laws_network.specs.Views.{session_of_end}
 use Rattle.grasp_model_network.specs.World.{Seat, WorldState, seat_at}
 use Rattle.grasp_laws_agents.proofs.Sides.{sides}
 use Rattle.grasp_laws_agents.specs.GoingOn.{IsOwnedGone}
@@ -31,16 +29,18 @@ use Rattle.grasp_laws_agents.specs.Owning.{IsOwned}
 use Rattle.grasp_laws_agents.specs.Giving.{HasOffered, IsOpenOffer, IsOwnSession, OfferStands, OffersIn, in_entry, in_return, IsOffersSession, of_entry, of_return, EntryStands, ReturnStands, is_offering}
 use Rattle.grasp_laws_delivery.proofs.Worlds.{reached_in_order}
 use Rattle.grasp_laws_negotiation.specs.Negotiations.{IsNegotiation}
-use Rattle.grasp_laws_prefixes.proofs.EntryOffers.{offers_reserved}
-use Rattle.grasp_laws_prefixes.proofs.OwnSessions.{one_session, IsSessionAt, session_there, IsViewOf, view_of}
+use Rattle.grasp_laws_prefixes.proofs.OwnSessions.{one_session, IsSessionAt}
 use Rattle.grasp_laws_prefixes.proofs.Speech.{deciding_closed, same_requested}
 use Rattle.grasp_laws_prefixes.specs.Grounds.{Grounds}
-use Rattle.grasp_laws_prefixes.specs.Apart.{IsSetAside, OffersAreSetAside}
 
 -- the session that made it: one in which the agent offers this prefix, or one that is no longer live
 pub data Gave (seat : Seat) (x : SessionState) (p : Prefix) : Type 0 where
   by_offer : (side : Side) (h : Handle) → OffersIn seat.agent side h p → IsOwnSession seat.core.sessions h side x → Gave seat x p
   by_gone : Contains seat.core.sessions.gone x → x.owner ≡ 1 → Gave seat x p
+
+pub gave_owner : (seat : Seat) (x : SessionState) (p : Prefix) → Gave seat x p → x.owner ≡ 1
+gave_owner seat x p (by_offer side h o own) = own.owner
+gave_owner seat x p (by_gone gone own) = own
 
 -- a listener that has only heard the request has offered nothing
 fresh_offers : (v : Transcript) → IsFresh v → has_offered v.role (known v) ≡ false
@@ -82,7 +82,7 @@ module _ (l : Grounds) (s : Setting) (w : WorldState) (r : IsReached s w) where
         entry_gave place g at (subst (λ k. IsOwnSession seat.core.sessions k Far x) (sym on) (subst (λ k. IsOwnSession seat.core.sessions h k x) far own))
     own_gave h side own (of_return near z is on) = return_gave z h is on (subst (λ k. IsOwnSession seat.core.sessions h k x) near own)
 
-    own_live : (place : ℕ) → IsAt seat.core.sessions place x → x.owner ≡ 1 → Gave seat x p
+    pub own_live : (place : ℕ) → IsAt seat.core.sessions place x → x.owner ≡ 1 → Gave seat x p
     own_live place at own =
         let h : Handle = record { place = place; number = x.number } in
         let mine : IsOwnSession seat.core.sessions h x.view.role x = record { at = at_handle seat.core.sessions h x at refl; owner = own; role = refl } in
@@ -115,21 +115,6 @@ module _ (l : Grounds) (s : Setting) (w : WorldState) (r : IsReached s w) where
       by_owner (inr foreign) (inl untaken) = absurd (untaken_gone (owned.untaken untaken))
       by_owner (inr foreign) (inr taken) = absurd (owned.foreign taken foreign name)
 
-  gave_owner : (seat : Seat) (x : SessionState) (p : Prefix) → Gave seat x p → x.owner ≡ 1
-  gave_owner seat x p (by_offer side h o own) = own.owner
-  gave_owner seat x p (by_gone gone own) = own
-
-  -- the node has reserved it, or has it in doubt
-  gave_listed : (node : ℕ) (seat : Seat) → seat_at w node ≡ Some seat → (x : SessionState) (p : Prefix) → IsOpenOffer x.view p → Gave seat x p → IsListed seat.agent.pool p
-  gave_listed node seat here x p is_open (by_offer side h o own) = inl (offers_reserved seat.agent side h p (l.kept s w r node seat here) o)
-  gave_listed node seat here x p is_open (by_gone gone own) = inr ((l.give s w r node seat here).gone x p gone own is_open)
-
-  -- what is reserved or in doubt isn't held there
-  listed_unheld : (node : ℕ) (seat : Seat) → seat_at w node ≡ Some seat → (p : Prefix) → IsListed seat.agent.pool p → (a : ℕ) → span_of p a → ¬ IsFree seat.agent.pool a
-  listed_unheld node seat here p listed a i free = (l.kept s w r node seat here).pool.held p a listed i free
-
-  -- ---- what is offered is set aside
-
   -- of a session at this end that saw this
   module _ (e : StreamEnd) (side : Side) (place : ℕ) (t : StreamState) (stands : slice_get w.streams place ≡ Some t) (negotiation : IsNegotiation t) (x : SessionState) (there : IsSessionAt w e x) (p : Prefix)
       (view : IsView side t.said x.view) (name : (requested (strip t.said)).name ≡ objective_name) (is_open : IsOpenOffer x.view p) where
@@ -138,37 +123,8 @@ module _ (l : Grounds) (s : Setting) (w : WorldState) (r : IsReached s w) where
         gave e.node there.seat there.here x p (ap (λ (o : Objective). o.name) view.same_request ∙ name)
         (trails_legal side (known x.view) (strip t.said) (l.in_order s w r place t stands negotiation).legal view.trails) is_open there.made
 
-    pub kept_there : Keeps w e.node p
-    kept_there = record { seat = there.seat; here = there.here; listed = gave_listed e.node there.seat there.here x p is_open gave_there }
-
     -- this side is the one that offers
     pub offering_there : offering_side t ≡ side
     offering_there =
         ap (λ (o : Objective). offering_by (is_return o.value)) (sym (view.same_request ∙ same_requested t.said))
         ∙ (sides there.seat.core there.seat.agent (l.give s w r e.node there.seat there.here) x p there.made (gave_owner there.seat x p gave_there) is_open.offered ∙ view.role)
-
-  pub set_aside : OffersAreSetAside w
-  set_aside place e v p giver is_open = by_view (view_of w giver.talk (offering_side giver.talk) v giver.saw) where
-    view : IsView (offering_side giver.talk) giver.talk.said v
-    view = (l.known s w r place giver.talk giver.stands giver.negotiation).views (offering_side giver.talk) v giver.saw
-
-    name : (requested (strip giver.talk.said)).name ≡ objective_name
-    name = ap (λ (o : Objective). o.name) (same_requested giver.talk.said) ∙ giver.objective
-
-    aside : Keeps w e.node p → IsSetAside w e.node p
-    aside kept = record { kept = kept; unheld = unheld } where
-      unheld : (a : ℕ) → span_of p a → ¬ Holds w e.node a
-      unheld a i h =
-          let same : h.seat ≡ kept.seat = same_Some h.seat kept.seat (sym h.here ∙ kept.here) in
-          listed_unheld e.node kept.seat kept.here p kept.listed a i (subst (λ (z : Seat). IsFree z.agent.pool a) same h.free)
-
-    by_view : IsViewOf w giver.talk (offering_side giver.talk) v → IsSetAside w e.node p
-    by_view z =
-        aside
-        (kept_there e (offering_side giver.talk) place giver.talk giver.stands giver.negotiation z.session there p (subst (λ u. IsView (offering_side giver.talk) giver.talk.said u) (sym z.view) view) name
-        (subst (λ u. IsOpenOffer u p) (sym z.view) is_open)) where
-          at : z.at ≡ e
-          at = same_Some z.at e (sym z.ends ∙ giver.end_is)
-
-          there : IsSessionAt w e z.session
-          there = session_there l.ready s w r place giver.talk giver.stands (offering_side giver.talk) e giver.end_is z.session (ap (λ k. session_of_end w (Some k)) (sym at) ∙ z.found)

@@ -1,36 +1,32 @@
 -- An address that is in hand stays so where no agent did anything.
-use Rattle.std.proofs.Common.{◌≡◌, refl, sym, ap, ◌∙◌, subst, arith, ℕ, ◌-◌, ◌<◌, ◌≤◌, ◌==◌, Bool, true, false, cond, inl, inr, ◌⊎◌, List, Contains, length, Option, Some, None, get_or, slice_get}
-use Rattle.std.proofs.lemmas.Bool.{eqb-true}
-use Rattle.std.proofs.lemmas.Option.{slice_get-get_or, same_Some}
+use Rattle.std.proofs.Common.{◌≡◌, refl, sym, ap, ◌∙◌, subst, ℕ, inl, inr, ◌⊎◌, List, Contains, Option, Some}
+use Rattle.std.proofs.lemmas.Option.{same_Some}
 use Rattle.grasp_agent.specs.States.{unsent_of}
 use Rattle.grasp_agent.specs.declared.back.Return.{Return}
 use Rattle.grasp_pool.specs.Holdings.{Holding, IsFree, IsListed}
 use Rattle.grasp_session.specs.Conversation.{Said, requested}
-use Rattle.grasp_session.specs.Laws.{SilentUnseen}
 use Rattle.grasp_session.specs.Messages.{Side, other}
 use Rattle.grasp_session.specs.Sessions.{SessionState}
 use Rattle.grasp_types.specs.Prefix.{AddressBlock as Prefix, span_of}
 use Rattle.grasp_types.specs.declared.session.Handle.{Handle}
-use Rattle.grasp_laws_network.proofs.Here.{numbered_within}
-use Rattle.grasp_laws_network.specs.Authorities.{Holds, IsOpenTalk, has_accepted, is_return, offering_by}
-use Rattle.grasp_model_network.specs.Plans.{IsNode}
+use Rattle.grasp_laws_network.specs.Authorities.{Holds, IsOpenTalk}
+use Rattle.grasp_model_network.specs.Accepting.{has_accepted, is_return, offering_by}
 use Rattle.grasp_model_network.specs.Runs.{IsReached}
 use Rattle.grasp_model_network.specs.Setting.{Setting}
-use Rattle.grasp_model_network.specs.Streams.{StreamState}
 use Rattle.grasp_model_network.specs.World.{Seat, Offered, WorldState, seat_at}
 use Rattle.grasp_laws_agents.proofs.GoingOn.{nothing_heard}
 use Rattle.grasp_laws_agents.proofs.Going.{StillOwn, own_on}
 use Rattle.grasp_laws_agents.specs.Giving.{HasOffered, IsOwnSession, OffersIn}
 use Rattle.grasp_laws_agents.specs.GoingOn.{OnlyHeard}
 use Rattle.grasp_laws_prefixes.proofs.EntryOffers.{offers_reserved, unsent_reserved, same_offers}
-use Rattle.grasp_laws_prefixes.proofs.OwnSessions.{handle_made, end_with}
+use Rattle.grasp_laws_prefixes.proofs.OwnSessions.{handle_made}
 use Rattle.grasp_laws_prefixes.proofs.Safe.{stand}
-use Rattle.grasp_laws_prefixes.proofs.Standing.{offer_on, offer_unsent, SeatGoesOn, WorldGoesOn, NothingSaid}
+use Rattle.grasp_laws_prefixes.proofs.Standing.{offer_unsent, SeatGoesOn, WorldGoesOn, NothingHappens}
 use Rattle.grasp_laws_prefixes.specs.Grounds.{Grounds}
-use Rattle.grasp_laws_negotiation.specs.Negotiations.{NegotiationsAreTalks}
-use Rattle.grasp_laws_prefixes.proofs.Speaking.{accepted_back}
-use Rattle.grasp_laws_prefixes.proofs.Talking.{IsGiver, giver_on, GivesAt, gives_at, AcceptedBy, open_on}
+use Rattle.grasp_laws_prefixes.proofs.OneNode.{seat_there}
+use Rattle.grasp_laws_prefixes.proofs.Talking.{quiet_accepted, IsGiver, giver_on, GivesAt, gives_at, open_on}
 use Rattle.grasp_laws_prefixes.specs.Hands.{IsInHand}
+use Rattle.grasp_laws_prefixes.specs.Apart.{offer_on}
 
 -- ---- an address in hand
 
@@ -100,34 +96,16 @@ kept_in_hand l s w r a (inr (inr u)) = inr (record {
   reserved : Contains u.seat.agent.pool.reserved u.prefix
   reserved = unsent_reserved u.seat.agent u.prefix (l.kept s w r u.node u.seat u.here) u.unsent
 
--- ---- the same nodes
-
--- where there are as many nodes, each is there
-pub seat_there : (w y : WorldState) → length y.seats ≡ length w.seats → (node : ℕ) (seat : Seat) → seat_at w node ≡ Some seat → (new : Seat) × (seat_at y node ≡ Some new)
-seat_there w y count node seat here = (get_or y.seats (node - 1) seat, by_zero (node == 0) refl) where
-  n : IsNode (length w.seats) node
-  n = numbered_within w.seats node seat here
-
-  low : (k a b : ℕ) → 1 ≤ k → k ≤ a → b ≡ a → k - 1 < b
-  low k a b h i e = omega (arith, h, i, e)
-
-  zero_not : (k : ℕ) → 1 ≤ k → k ≡ 0 → ⊥
-  zero_not k h e = omega (arith, h, e)
-
-  by_zero : (b : Bool) → (node == 0) ≡ b → cond b None (slice_get y.seats (node - 1)) ≡ Some (get_or y.seats (node - 1) seat)
-  by_zero true is = absurd (zero_not node n.least (eqb-true node 0 is))
-  by_zero false is = slice_get-get_or y.seats (node - 1) seat (low node (length w.seats) (length y.seats) n.least n.most count)
-
 -- ---- where no agent did anything
 
 -- a session of which nothing was heard
 pub same_heard : (x : SessionState) → OnlyHeard x x
 same_heard x = record { number = refl; owner = refl; stream = refl; view = nothing_heard x.view }
 
-module _ (l : Grounds) (talks : NegotiationsAreTalks) (unseen : SilentUnseen) (s : Setting) (w y : WorldState) (r : IsReached s w) (g : WorldGoesOn w y) (count : length y.seats ≡ length w.seats) where
+module _ (l : Grounds) (s : Setting) (w y : WorldState) (r : IsReached s w) (g : WorldGoesOn w y) where
   new_seat : (node : ℕ) (seat : Seat) → seat_at w node ≡ Some seat → (new : Seat) × (seat_at y node ≡ Some new) × SeatGoesOn seat new
   new_seat node seat here =
-      let n = seat_there w y count node seat here in
+      let n = seat_there w y g.count node seat here in
       let b = g.seats node n.0 n.1 in
       (n.0, n.1, subst (λ (z : Seat). SeatGoesOn z n.0) (same_Some b.0 seat (sym b.1 ∙ here)) b.2)
 
@@ -135,19 +113,6 @@ module _ (l : Grounds) (talks : NegotiationsAreTalks) (unseen : SilentUnseen) (s
   still_held node a h =
       let n = new_seat node h.seat h.here in
       record { seat = n.0; here = n.1; free = subst (λ (p : Holding). IsFree p a) (sym n.2.pool) h.free }
-
-  -- a session that had accepted had so before
-  accepted_before : (side : Side) (u : StreamState) → AcceptedBy y side u → AcceptedBy w side u
-  accepted_before side u a =
-      let b = g.seats a.node a.seat a.here in
-      record {
-        node = a.node;
-        seat = b.0;
-        here = b.1;
-        stream = a.stream;
-        ends = a.ends ∙ ap (λ n. Some (end_with a.node n a.stream)) b.2.life;
-        accepted = accepted_back b.0.core.sessions a.seat.core.sessions b.2.sessions side a.stream a.accepted;
-      }
 
   module _ (a node : ℕ) (seat new : Seat) (goes : SeatGoesOn seat new) (h : IsGivenAt w a node seat) where
     -- what a session that goes on gave, it gives
@@ -168,10 +133,10 @@ module _ (l : Grounds) (talks : NegotiationsAreTalks) (unseen : SilentUnseen) (s
         by_offer k (same_offers new.agent seat.agent h.side k h.prefix (sym goes.giving) (sym goes.back) offers) t.own,
       )
 
-    still_open : (here : seat_at w node ≡ Some seat) (there : seat_at y node ≡ Some new) (z : SessionState) → IsGiver y node new h.side h.place z → IsReached s y ⊎ NothingSaid w y → IsOpenTalk y.streams h.place
+    still_open : (here : seat_at w node ≡ Some seat) (there : seat_at y node ≡ Some new) (z : SessionState) → IsGiver y node new h.side h.place z → IsReached s y ⊎ NothingHappens w y → IsOpenTalk y.streams h.place
     still_open here there z giver (inl q) =
-        from (open_on l talks unseen s w y r q g.streams h.place h.side h.session z (gives_at l s w r node seat here h.side h.place h.session h.giver) now h.open_still
-        (λ e. inl (accepted_before (other h.side) now.talk e))) where
+        from (open_on l s w y r q g.streams h.place h.side h.session z (gives_at l s w r node seat here h.side h.place h.session h.giver) now h.open_still
+        (λ e. inl (quiet_accepted w y g (other h.side) now.talk e))) where
           now : GivesAt y h.place h.side z
           now = gives_at l s y q node new there h.side h.place z giver
 
@@ -179,14 +144,14 @@ module _ (l : Grounds) (talks : NegotiationsAreTalks) (unseen : SilentUnseen) (s
           from (inl o) = o
           from (inr none) = absurd none
     still_open here there z giver (inr said) =
-        let u = said h.place h.open_still.talk h.open_still.here in
+        let u = said.said h.place h.open_still.talk h.open_still.here in
         record {
           talk = u.0;
           here = u.1.0;
           open_still = ap (λ (c : List Said). has_accepted (other (offering_by (is_return (requested c).value))) c) u.1.1 ∙ h.open_still.open_still;
         }
 
-    still_given : seat_at w node ≡ Some seat → seat_at y node ≡ Some new → IsReached s y ⊎ NothingSaid w y → IsGiven y a
+    still_given : seat_at w node ≡ Some seat → seat_at y node ≡ Some new → IsReached s y ⊎ NothingHappens w y → IsGiven y a
     still_given here there said =
         let n = new_giver h.gives in
         record {
@@ -206,7 +171,7 @@ module _ (l : Grounds) (talks : NegotiationsAreTalks) (unseen : SilentUnseen) (s
           };
         }
 
-  pub quiet_kept : IsReached s y ⊎ NothingSaid w y → (a : ℕ) → IsKeptIn w a → IsKeptIn y a
+  pub quiet_kept : IsReached s y ⊎ NothingHappens w y → (a : ℕ) → IsKeptIn w a → IsKeptIn y a
   quiet_kept said a (inl h) = inl (h.0, still_held h.0 a h.1)
   quiet_kept said a (inr (inl h)) = let n = new_seat h.node h.seat h.here in inr (inl (still_given a h.node h.seat n.0 n.2 h.given h.here n.1 said))
   quiet_kept said a (inr (inr u)) =

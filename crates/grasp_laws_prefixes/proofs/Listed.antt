@@ -6,8 +6,9 @@ use Rattle.grasp_types.specs.Prefix.{AddressBlock as Prefix}
 use Rattle.grasp_model_network.specs.Offers.{JustOffered, is_kept, is_offer_of, just_offered, offers_after}
 use Rattle.grasp_model_network.specs.World.{Offered, WorldState}
 use Rattle.grasp_laws_prefixes.proofs.AgentSteps.{AgentStep}
-use Rattle.grasp_laws_prefixes.proofs.Listing.{kept_elsewhere, kept_listed, no_offer_of, stays_listed}
-use Rattle.grasp_laws_prefixes.proofs.Standing.{offer_on}
+use Rattle.grasp_laws_network.proofs.Offers.{kept_other, kept_listed}
+use Rattle.grasp_laws_prefixes.proofs.Listing.{no_offer_of, stays_listed}
+use Rattle.grasp_laws_prefixes.specs.Apart.{offer_on}
 
 module _ (w y : WorldState) (a : AgentStep w y) where
   -- one that is kept, where none of its prefix was just offered
@@ -21,7 +22,7 @@ module _ (w y : WorldState) (a : AgentStep w y) where
   -- an offer of another node
   pub others_listed : (n : ℕ) (p : Prefix) (place : ℕ) → n ≢ a.visit.node → Contains w.offers (offer_on n p place) → Contains y.offers (offer_on n p place)
   others_listed n p place apart listed =
-      still_listed (offer_on n p place) listed (kept_elsewhere a.visit.node a.agent.pool (offer_on n p place) apart) (λ j is. no_offer_of a.visit.node j.prefix (offer_on n p place) (λ e f. apart e))
+      still_listed (offer_on n p place) listed (kept_other a.visit.node a.agent.pool (offer_on n p place) apart) (λ j is. no_offer_of a.visit.node j.prefix (offer_on n p place) (λ e f. apart e))
 
   -- an offer of this node that is reserved or in doubt, where its prefix wasn't just offered
   pub own_listed : (p : Prefix) (place : ℕ) → IsListed a.agent.pool p → ((j : JustOffered) → just_offered a.visit.seat.agent a.agent ≡ Some j → ¬ (j.prefix ≡ p))

@@ -1,19 +1,18 @@
 -- Which offers are listed after a step of their node's agent.
-use Rattle.std.proofs.Common.{◌≡◌, ◌≢◌, refl, sym, ap, ◌∙◌, subst, arith, ℕ, suc, ◌≤◌, ◌==◌, ◌||◌, not, Bool, true, false, cond, inl, inr, ◌⊎◌, List, [], ◌∷◌, filter, Contains, Option, Some, None}
-use Rattle.std.proofs.lemmas.Bool.{and_parts, eqb-true, eq-eqb, ne_eqb, not-true, and_from, or_right, or_left}
+use Rattle.std.proofs.Common.{◌≡◌, refl, sym, ap, ◌∙◌, subst, arith, ℕ, suc, ◌≤◌, ◌==◌, not, Bool, true, false, inl, inr, ◌⊎◌, List, [], ◌∷◌, filter, Contains, Option, Some, None}
+use Rattle.std.proofs.lemmas.Bool.{and_parts, eqb-true, eq-eqb, not-true, and_from}
 use Rattle.std.proofs.lemmas.List.Elements.{Contains-append_left, Contains-append_right, Contains-append_cases, Contains-push, Contains-push_cases}
-use Rattle.std.proofs.lemmas.List.Folds.{list_any_at}
 use Rattle.std.proofs.lemmas.Option.{none-some, same_Some}
-use Rattle.std.specs.List.{list_any}
 use Rattle.grasp_agent.specs.States.{AgentState, back_session, unsent_of}
 use Rattle.grasp_agent.specs.declared.act.Act.{Act}
 use Rattle.grasp_agent.specs.declared.act.Act.TheVariants as act
+use Rattle.grasp_laws_network.proofs.Lists.{filtered}
+use Rattle.grasp_laws_network.proofs.Offers.{same_prefix, prefix_itself}
 use Rattle.grasp_laws_tables.proofs.Lists.{filter_keeps}
 use Rattle.grasp_model_node.specs.Node.{NodeState}
-use Rattle.grasp_pool.specs.Holdings.{Holding, IsListed}
 use Rattle.grasp_types.specs.Prefix.{AddressBlock as Prefix}
 use Rattle.grasp_types.specs.declared.session.Handle.{Handle}
-use Rattle.grasp_model_network.specs.Offers.{JustOffered, is_same_prefix, is_listed, is_kept, is_offer_of, put_offer, talk_of_handle, just_handed, just_offered, with_offer}
+use Rattle.grasp_model_network.specs.Offers.{JustOffered, is_same_prefix, is_offer_of, put_offer, talk_of_handle, just_handed, just_offered, with_offer}
 use Rattle.grasp_model_network.specs.Streams.{StreamState}
 use Rattle.grasp_model_network.specs.Visits.{Visit}
 use Rattle.grasp_model_network.specs.World.{Offered}
@@ -41,46 +40,7 @@ either_in y xs x h = by_case (Contains-append_cases (y ∷ []) xs x h) where
   by_case (inl first) = by_first (Contains-push_cases [] y x first)
   by_case (inr more) = inr more
 
-pub passed : {A : Type 0} (p : A → Bool) (xs : List A) (x : A) → Contains (filter p xs) x → Contains xs x × (p x ≡ true)
-passed p [] x h = absurd (none_in x h)
-passed {A} p (y ∷ ys) x h = by_test (p y) refl h (passed p ys x) where
-  behind : Contains ys x × (p x ≡ true) → Contains (y ∷ ys) x × (p x ≡ true)
-  behind r = (more_in y ys x r.0, r.1)
-
-  by_case : p y ≡ true → (y ≡ x) ⊎ Contains (filter p ys) x → (Contains (filter p ys) x → Contains ys x × (p x ≡ true)) → Contains (y ∷ ys) x × (p x ≡ true)
-  by_case is (inl e) again = (subst (λ z. Contains (y ∷ ys) z) e (first_in y ys), ap p (sym e) ∙ is)
-  by_case is (inr more) again = behind (again more)
-
-  by_test : (b : Bool) → p y ≡ b → Contains (cond b (y ∷ filter p ys) (filter p ys)) x → (Contains (filter p ys) x → Contains ys x × (p x ≡ true)) → Contains (y ∷ ys) x × (p x ≡ true)
-  by_test true is g again = by_case is (either_in y (filter p ys) x g) again
-  by_test false is g again = behind (again g)
-
-any_of : {A : Type 0} (p : A → Bool) (xs : List A) (x : A) → Contains xs x → p x ≡ true → list_any p xs ≡ true
-any_of p xs x h is = list_any_at p xs h.0 x h.1 (ap p h.2 ∙ is)
-
--- ---- prefixes
-
-pub same_prefix : (p q : Prefix) → is_same_prefix p q ≡ true → p ≡ q
-same_prefix p q e =
-    let a = and_parts (p.address == q.address) (p.length == q.length) e in
-    ap (λ n. prefix_with n p.length) (eqb-true p.address q.address a.0) ∙ ap (λ n. prefix_with q.address n) (eqb-true p.length q.length a.1) where
-      prefix_with : ℕ → ℕ → Prefix
-      prefix_with address length = record { address = address; length = length }
-
-pub prefix_itself : (p q : Prefix) → p ≡ q → is_same_prefix p q ≡ true
-prefix_itself p q e =
-    and_from (p.address == q.address) (p.length == q.length) (eq-eqb p.address q.address (ap (λ (x : Prefix). x.address) e)) (eq-eqb p.length q.length (ap (λ (x : Prefix). x.length) e))
-
-so_listed : (h : Holding) (p : Prefix) → IsListed h p → is_listed h p ≡ true
-so_listed h p (inl r) = or_left (list_any (is_same_prefix p) h.reserved) (list_any (is_same_prefix p) h.doubtful) (any_of (is_same_prefix p) h.reserved p r (prefix_itself p p refl))
-so_listed h p (inr d) = or_right (list_any (is_same_prefix p) h.reserved) (list_any (is_same_prefix p) h.doubtful) (any_of (is_same_prefix p) h.doubtful p d (prefix_itself p p refl))
-
--- an offer of another node is kept, and so is one that this node has reserved or in doubt
-pub kept_elsewhere : (node : ℕ) (h : Holding) (o : Offered) → o.node ≢ node → is_kept node h o ≡ true
-kept_elsewhere node h o apart = ap (λ b. not b || is_listed h o.prefix) (ne_eqb o.node node apart)
-
-pub kept_listed : (node : ℕ) (h : Holding) (o : Offered) → IsListed h o.prefix → is_kept node h o ≡ true
-kept_listed node h o l = or_right (not (o.node == node)) (is_listed h o.prefix) (so_listed h o.prefix l)
+-- ---- offers
 
 -- `is_offer_of` is true of an offer of this prefix by this node, and false of any other
 pub offer_of : (node : ℕ) (p : Prefix) (o : Offered) → o.node ≡ node → o.prefix ≡ p → is_offer_of node p o ≡ true
@@ -105,7 +65,7 @@ pub put_from : (os : List Offered) (node : ℕ) (p : Prefix) (talk : Option ℕ)
 put_from os node p talk o h = by_case (Contains-push_cases (filter (λ x. not (is_offer_of node p x)) os) (offer_for node p talk) o h) where
   by_case : Contains (filter (λ x. not (is_offer_of node p x)) os) o ⊎ (offer_for node p talk ≡ o)
       → (Contains os o × (is_offer_of node p o ≡ false)) ⊎ (o ≡ offer_for node p talk)
-  by_case (inl old) = let f = passed (λ x. not (is_offer_of node p x)) os o old in inl (f.0, not-true (is_offer_of node p o) f.1)
+  by_case (inl old) = let f = filtered (λ x. not (is_offer_of node p x)) os o old in inl (f.0, not-true (is_offer_of node p o) f.1)
   by_case (inr e) = inr (sym e)
 
 pub put_keeps : (os : List Offered) (node : ℕ) (p : Prefix) (talk : Option ℕ) (o : Offered) → Contains os o → is_offer_of node p o ≡ false → Contains (put_offer os node p talk) o

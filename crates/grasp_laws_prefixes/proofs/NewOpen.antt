@@ -32,7 +32,7 @@ use Rattle.grasp_laws_agents.specs.Calls.{CallsMean}
 use Rattle.grasp_laws_negotiation.proofs.Steps.{every_at}
 use Rattle.grasp_laws_negotiation.specs.Streams.{HasItsStream}
 use Rattle.grasp_laws_prefixes.proofs.AgentSteps.{AgentStep}
-use Rattle.grasp_laws_prefixes.proofs.OwnCalls.{CallGrounds, IsBegun, AcceptsNow, accepted_now}
+use Rattle.grasp_laws_prefixes.proofs.BegunCalls.{IsBegun, AcceptsNow, accepted_now}
 use Rattle.grasp_laws_prefixes.proofs.OwnSessions.{one_session}
 use Rattle.grasp_laws_prefixes.proofs.OwnSteps.{IsCall}
 use Rattle.grasp_laws_prefixes.proofs.Standing.{Stays}
@@ -64,11 +64,11 @@ module _ (means : CallsMean) (n after : NodeState) (sound : IsBoundedNode n) (h 
       let v = next_return a next (next_call a) (next_calls_are a) in
       requested_on v.0 r told (subst (λ c. Calls n 1 c r after) v.1 t)
 
-module _ (l : Grounds) (m : CallGrounds) (s : Setting) (w y : WorldState) (r : IsReached s w) (q : IsReached s y) (a : AgentStep w y) (c : IsCall w y a) (b : IsBegun w y a c) where
+module _ (l : Grounds) (s : Setting) (w y : WorldState) (r : IsReached s w) (q : IsReached s y) (a : AgentStep w y) (c : IsCall w y a) (b : IsBegun w y a c) where
   -- where the agent had no act, nobody has accepted on the stream that the node dials next
   pub new_open : a.visit.seat.agent.act ≡ None → (place : ℕ) (x : SessionState) → (now : GivesAt y place Near x) → (stream : ℕ) → end_at now.talk Near ≡ Some (end_of a.visit.node a.visit.seat stream)
       → stream ≡ 2 * (begin a.visit.seat.core c.now).streams.dialled → IsOpenTalk y.streams place
-  new_open idle place x now stream ends dialled = by_case (open_or l m.negotiations m.unseen s y q place Near x now) where
+  new_open idle place x now stream ends dialled = by_case (open_or l s y q place Near x now) where
     below : (u d e n : ℕ) → n < 2 * d → n ≡ u → u ≡ 2 * e → e ≡ d → ⊥
     below u d e n lt f g h = omega (arith, lt, f, g, h)
 
@@ -83,10 +83,10 @@ module _ (l : Grounds) (m : CallGrounds) (s : Setting) (w y : WorldState) (r : I
         (every_at (λ (t : StreamState). t.near.node ≡ a.visit.node → t.near.number < 2 * a.visit.seat.core.streams.dialled) w.streams k.0.place k.0.talk (l.ready.next s w r a.visit.node a.visit.seat a.here) k.0.stands
         (ap (λ (u : StreamEnd). u.node) near)) (ap (λ (u : StreamEnd). u.number) near) dialled (beginnings_end a.visit.seat.core c.now).0.dialled
 
-    by_now : AcceptedBy w Far now.talk ⊎ AcceptsNow l m s w y r q a c b Far now.talk → ⊥
-    by_now (inl e) = none_was e (stream_was l m.negotiations m.unseen s w y r q a.streams place now.talk now.stands Far e)
+    by_now : AcceptedBy w Far now.talk ⊎ AcceptsNow w y a c Far now.talk → ⊥
+    by_now (inl e) = none_was e (stream_was l s w y r q a.streams place now.talk now.stands Far e)
     by_now (inr e) = none-some _ (sym idle ∙ e.accepts.act_is)
 
     by_case : IsOpenTalk y.streams place ⊎ AcceptedBy y Far now.talk → IsOpenTalk y.streams place
     by_case (inl is_open) = is_open
-    by_case (inr e) = absurd (by_now (accepted_now l m s w y r q a c b Far now.talk e))
+    by_case (inr e) = absurd (by_now (accepted_now w y a c b Far now.talk e))

@@ -11,7 +11,7 @@ use Rattle.grasp_session.specs.Sessions.{SessionState, session_at}
 use Rattle.grasp_session.specs.Transcript.{Transcript, request_of}
 use Rattle.grasp_types.specs.Prefix.{AddressBlock as Prefix}
 use Rattle.grasp_types.specs.declared.session.Handle.{Handle}
-use Rattle.grasp_laws_network.specs.Authorities.{offering_by}
+use Rattle.grasp_model_network.specs.Accepting.{offering_by}
 use Rattle.grasp_model_network.specs.Runs.{IsReached}
 use Rattle.grasp_model_network.specs.Setting.{Setting}
 use Rattle.grasp_model_network.specs.World.{Seat, WorldState, seat_at}

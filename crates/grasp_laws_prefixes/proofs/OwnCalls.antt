@@ -1,25 +1,19 @@
--- The agent's own call where its step has begun, and what its acceptance makes of the offer that is accepted.
-use Rattle.std.proofs.Common.{◌≡◌, refl, sym, ap, ◌∙◌, subst, ℕ, inl, inr, ◌⊎◌, Option, Some, slice_get}
-use Rattle.std.proofs.lemmas.Bool.{cases_eq}
+-- What an acceptance by the agent's own call makes of the offer that is accepted.
+use Rattle.std.proofs.Common.{◌≡◌, refl, sym, ap, ◌∙◌, subst, ℕ, inr, Option, Some, slice_get}
 use Rattle.std.proofs.lemmas.Option.{same_Some}
 use Rattle.grasp_agent.proofs.Keeping.{act_stands}
-use Rattle.grasp_agent.specs.Calls.{next_call}
-use Rattle.grasp_agent.specs.Kept.{IsKept, MayAccept, accepts_in_want, accepts_in_giving}
-use Rattle.grasp_laws_agent.specs.Moves.{MovesAreMade, NothingElseMoves, is_made}
+use Rattle.grasp_agent.specs.Kept.{MayAccept, accepts_in_want, accepts_in_giving}
+use Rattle.grasp_laws_agent.proofs.LawMoves.{moves_are_made}
+use Rattle.grasp_laws_agent.specs.Moves.{is_made}
 use Rattle.grasp_agent.specs.States.{AgentState, want_session}
 use Rattle.grasp_agent.specs.declared.act.Act.{Act}
 use Rattle.grasp_agent.specs.declared.act.Act.TheVariants as act
-use Rattle.grasp_laws_node.proofs.Bounded.Nodes.{begin_kept}
 use Rattle.grasp_model_node.specs.Begin.{begin}
 use Rattle.grasp_model_node.specs.Node.{NodeState}
-use Rattle.grasp_model_node.specs.BoundedNodes.{IsBoundedNode}
-use Rattle.grasp_model_node.specs.Step.{Calls}
-use Rattle.grasp_laws_node.specs.Consistent.{IsConsistent}
 use Rattle.grasp_pool.specs.Holdings.{IsFree}
 use Rattle.grasp_laws_session.proofs.Follows.{other_other}
 use Rattle.grasp_laws_session.proofs.Trailing.{trails_legal}
 use Rattle.grasp_session.specs.Conversation.{IsLegal}
-use Rattle.grasp_session.specs.Laws.{SilentUnseen}
 use Rattle.grasp_session.specs.Messages.{Side, Near, Far, other}
 use Rattle.grasp_session.specs.Sessions.{SessionState}
 use Rattle.grasp_session.specs.Transcript.{Transcript, known, peer_offer}
@@ -31,116 +25,30 @@ use Rattle.grasp_model_network.specs.Setting.{Setting}
 use Rattle.grasp_model_network.specs.Streams.{StreamEnd, StreamState, end_at}
 use Rattle.grasp_laws_network.specs.Views.{view_at}
 use Rattle.grasp_model_network.specs.World.{Seat, WorldState, seat_at, end_of}
-use Rattle.grasp_laws_agents.specs.GoingOn.{OwnGoOn}
-use Rattle.grasp_laws_agents.specs.Laws.{AgentsServe}
-use Rattle.grasp_laws_agents.specs.Serving.{Serves}
-use Rattle.grasp_laws_agents.proofs.Agents.{begin_tied}
 use Rattle.grasp_laws_agents.proofs.Begun.{WasSo, was_so}
-use Rattle.grasp_laws_agents.proofs.Going.{gives_on}
 use Rattle.grasp_laws_agents.proofs.Known.{may_say_end}
-use Rattle.grasp_laws_agents.specs.Calls.{CallsMean}
-use Rattle.grasp_laws_agents.specs.Giving.{Gives, HasOffered, IsOpenOffer, IsOwnSession, AcceptStands, offered_by}
+use Rattle.grasp_laws_agents.specs.Giving.{HasOffered, IsOpenOffer, IsOwnSession, AcceptStands, offered_by}
 use Rattle.grasp_laws_negotiation.specs.Knowing.{IsKnown}
-use Rattle.grasp_laws_prefixes.proofs.AgentSteps.{AgentStep, own_talk}
+use Rattle.grasp_laws_prefixes.proofs.AgentSteps.{AgentStep}
+use Rattle.grasp_laws_prefixes.proofs.BegunCalls.{IsBegun, AcceptsNow}
 use Rattle.grasp_laws_prefixes.proofs.Offering.{StandsOffered, is_coming, is_said, stands_offered}
-use Rattle.grasp_laws_prefixes.proofs.OwnSessions.{one_session, IsTalkOf}
+use Rattle.grasp_laws_prefixes.proofs.OwnSessions.{one_session, IsTalkOf, own_talk}
 use Rattle.grasp_laws_prefixes.proofs.OwnSteps.{IsCall}
 use Rattle.grasp_laws_prefixes.proofs.Places.{same_place}
 use Rattle.grasp_laws_prefixes.proofs.Speech.{accepting_open, deciding_closed}
 use Rattle.grasp_laws_prefixes.proofs.Standing.{Stays}
 use Rattle.grasp_laws_prefixes.specs.Grounds.{Grounds}
-use Rattle.grasp_laws_delivery.proofs.Worlds.{reached_in_order}
-use Rattle.grasp_laws_negotiation.specs.Negotiations.{NegotiationsAreTalks}
 use Rattle.grasp_laws_prefixes.proofs.Keeping.{GivesIt, by_offer, in_doubt}
-use Rattle.grasp_laws_prefixes.proofs.Speaking.{HasAccepted, NowAccepts, Spoke, accepted_back, spoke}
-use Rattle.grasp_laws_prefixes.proofs.Staying.{GoneStay, gone_stay}
-use Rattle.grasp_laws_prefixes.proofs.Talking.{AcceptedBy, GivesAt}
-
--- the laws on which the agent's own call stands
-pub record CallGrounds : Type 0 where
-  pub serve : AgentsServe
-  pub negotiations : NegotiationsAreTalks
-  pub unseen : SilentUnseen
-  pub means : CallsMean
-  pub moves : MovesAreMade
-  pub nothing : NothingElseMoves
-
--- the call, made where its step has begun
-pub record IsBegun (w y : WorldState) (a : AgentStep w y) (c : IsCall w y a) : Type 0 where
-  pub sound : IsBoundedNode a.visit.seat.core
-  pub sound_begun : IsBoundedNode (begin a.visit.seat.core c.now)
-  pub on : OwnGoOn a.visit.seat.core.sessions (begin a.visit.seat.core c.now).sessions
-  pub kept : IsKept a.visit.seat.agent
-  pub gives : Gives (begin a.visit.seat.core c.now) a.visit.seat.agent
-  pub called : Calls (begin a.visit.seat.core c.now) 1 (next_call a.visit.seat.agent) c.reply a.core
-  pub spoken : Spoke (begin a.visit.seat.core c.now) a.core a.visit.seat.agent c.reply
-  pub stays : GoneStay (begin a.visit.seat.core c.now) a.core
-
-pub is_begun : (l : Grounds) → CallGrounds → (s : Setting) (w y : WorldState) → IsReached s w → (a : AgentStep w y) (c : IsCall w y a) → IsBegun w y a c
-is_begun l m s w y r a c = record {
-  sound = sound;
-  sound_begun = begin_kept a.visit.seat.core c.now sound;
-  on = l.goes_on.begins a.visit.seat.core c.now;
-  kept = l.kept s w r a.visit.node a.visit.seat a.here;
-  gives = gives_on a.visit.seat.core (begin a.visit.seat.core c.now) a.visit.seat.agent (l.goes_on.begins a.visit.seat.core c.now) (l.give s w r a.visit.node a.visit.seat a.here);
-  called = called;
-  spoken = spoke m.means (begin a.visit.seat.core c.now) a.core a.visit.seat.agent (begin_kept a.visit.seat.core c.now sound)
-      (begin_tied l.ties a.visit.seat.core c.now c.coming sound tied).fresh served.stage c.reply called;
-  stays = gone_stay m.means (begin a.visit.seat.core c.now) a.core a.visit.seat.agent (begin_kept a.visit.seat.core c.now sound) served.stage c.reply called;
-} where
-  sound : IsBoundedNode a.visit.seat.core
-  sound = ((reached_in_order l.ties s w r).sound a.visit.node a.visit.seat a.here).0
-
-  tied : IsConsistent a.visit.seat.core
-  tied = ((reached_in_order l.ties s w r).sound a.visit.node a.visit.seat a.here).1
-
-  served : Serves a.visit.seat.core a.visit.seat.agent
-  served = m.serve s w r a.visit.node a.visit.seat a.here
-
-  called : Calls (begin a.visit.seat.core c.now) 1 (next_call a.visit.seat.agent) c.reply a.core
-  called = subst (λ asa. Calls (begin a.visit.seat.core c.now) asa (next_call a.visit.seat.agent) c.reply a.core) served.number c.steps.acts
+use Rattle.grasp_laws_prefixes.proofs.Speaking.{NowAccepts}
+use Rattle.grasp_laws_prefixes.proofs.Talking.{GivesAt}
 
 -- the prefix of an offer that is open is the one that is offered
 one_offer : (v : Transcript) (p z : Prefix) → IsOpenOffer v p → HasOffered v z → p ≡ z
 one_offer v p z o h = same_Some p z (sym o.offered.offer ∙ h.offer)
 
-module _ (l : Grounds) (m : CallGrounds) (s : Setting) (w y : WorldState) (r : IsReached s w) (q : IsReached s y) (a : AgentStep w y) (c : IsCall w y a) (b : IsBegun w y a c) where
-  -- the node where the step has begun
-  abbrev pub begun : NodeState
+module _ (l : Grounds) (s : Setting) (w y : WorldState) (r : IsReached s w) (q : IsReached s y) (a : AgentStep w y) (c : IsCall w y a) (b : IsBegun w y a c) where
+  abbrev begun : NodeState
   begun = begin a.visit.seat.core c.now
-
-  -- ---- who accepts
-
-  -- the agent has accepted at this side of the stream just now
-  pub record AcceptsNow (side : Side) (u : StreamState) : Type 0 where
-    pub stream : ℕ
-    pub ends : end_at u side ≡ Some (end_of a.visit.node a.visit.seat stream)
-    pub accepts : NowAccepts begun a.core a.visit.seat.agent c.reply side stream
-
-  pub accepted_now : (side : Side) (u : StreamState) → AcceptedBy y side u → AcceptedBy w side u ⊎ AcceptsNow side u
-  accepted_now side u e = by_node (cases_eq e.node a.visit.node) where
-    new : Seat
-    new = seat_with a.visit.seat a.core a.agent
-
-    by_node : (e.node ≡ a.visit.node) ⊎ (e.node ≡ a.visit.node → ⊥) → AcceptedBy w side u ⊎ AcceptsNow side u
-    by_node (inr apart) = inl (record { node = e.node; seat = e.seat; here = sym (a.others e.node apart) ∙ e.here; stream = e.stream; ends = e.ends; accepted = e.accepted })
-    by_node (inl same) = by_spoken (b.spoken side e.stream (subst (λ (z : Seat). HasAccepted z.core.sessions side e.stream) seat_is e.accepted)) where
-      seat_is : e.seat ≡ seat_with a.visit.seat a.core a.agent
-      seat_is = same_Some e.seat (seat_with a.visit.seat a.core a.agent) (sym e.here ∙ (ap (λ n. seat_at y n) same ∙ a.there))
-
-      end_is : end_at u side ≡ Some (end_of a.visit.node a.visit.seat e.stream)
-      end_is = e.ends ∙ (ap (λ (z : Seat). Some (end_of e.node z e.stream)) seat_is ∙ ap (λ n. Some (end_of n a.visit.seat e.stream)) same)
-
-      by_spoken : HasAccepted begun.sessions side e.stream ⊎ NowAccepts begun a.core a.visit.seat.agent c.reply side e.stream → AcceptedBy w side u ⊎ AcceptsNow side u
-      by_spoken (inl before) = inl (record {
-        node = a.visit.node;
-        seat = a.visit.seat;
-        here = a.here;
-        stream = e.stream;
-        ends = end_is;
-        accepted = accepted_back a.visit.seat.core.sessions begun.sessions b.on side e.stream before;
-      })
-      by_spoken (inr now) = inr (record { stream = e.stream; ends = end_is; accepts = now })
 
   -- ---- what it accepts
 
@@ -203,11 +111,11 @@ module _ (l : Grounds) (m : CallGrounds) (s : Setting) (w y : WorldState) (r : I
     accepted_free : (address : ℕ) → span_of n.prefix address → IsFree a.agent.pool address
     accepted_free address span =
         subst (λ (z : AgentState). IsFree z.pool address) (sym c.agent_is)
-        (((m.moves a.visit.seat.agent c.reply (is_made (act.Accept n.handle n.prefix)) b.kept (n.act_is, n.reply_is)).4.free address).1 (inr span))
+        (((moves_are_made a.visit.seat.agent c.reply (is_made (act.Accept n.handle n.prefix)) b.kept (n.act_is, n.reply_is)).4.free address).1 (inr span))
 
   -- an offer that is accepted now is held by the node that accepts
   pub accepted_held : (node : ℕ) (seat : Seat) → seat_at w node ≡ Some seat → (side : Side) (place : ℕ) (u : StreamState) → slice_get y.streams place ≡ Some u → (x : SessionState) (p : Prefix)
-      → GivesAt w place side x → GivesIt seat side x p → (address : ℕ) → span_of p address → AcceptsNow (other side) u → Holds y a.visit.node address
+      → GivesAt w place side x → GivesIt seat side x p → (address : ℕ) → span_of p address → AcceptsNow w y a c (other side) u → Holds y a.visit.node address
   accepted_held node seat here side place u now x p g gives address span e =
       let back : other (other side) ≡ side = other_other side in
       let at : GivesAt w place (other (other side)) x = subst (λ i. GivesAt w place i x) (sym back) g in

@@ -3,7 +3,9 @@ use Rattle.std.proofs.Common.{◌≡◌, ◌≢◌, refl, sym, ap, ◌∙◌, su
 use Rattle.std.proofs.lemmas.Bool.{true≢false, cases_eq, eq-eqb, or_right}
 use Rattle.std.proofs.lemmas.Option.{none-some, same_Some}
 use Rattle.grasp_agent.proofs.Keeping.{act_stands}
+use Rattle.grasp_laws_agent.proofs.LawMoves.{moves_are_made}
 use Rattle.grasp_laws_agent.proofs.LawOffers.{doubts_stay}
+use Rattle.grasp_laws_agent.proofs.LawStays.{nothing_else_moves}
 use Rattle.grasp_agent.specs.Kept.{IsKept}
 use Rattle.grasp_laws_agent.specs.Moves.{IsReturning, Settled}
 use Rattle.grasp_agent.specs.Replies.{answer_in, started_in, after_reply}
@@ -26,7 +28,9 @@ use Rattle.grasp_types.specs.declared.session.By.TheVariants.{Theirs}
 use Rattle.grasp_types.specs.declared.session.Handle.{Handle}
 use Rattle.grasp_types.specs.declared.session.Outcome.{Outcome}
 use Rattle.grasp_types.specs.declared.session.Outcome.TheVariants as outcome
-use Rattle.grasp_laws_network.specs.Authorities.{Holds, IsOpenTalk, has_accepted, is_accepted, taking_side}
+use Rattle.grasp_laws_network.proofs.Lives.{same_is_present}
+use Rattle.grasp_laws_network.specs.Authorities.{Holds, IsOpenTalk}
+use Rattle.grasp_model_network.specs.Accepting.{has_accepted, is_accepted, taking_side}
 use Rattle.grasp_model_network.specs.Runs.{IsReached}
 use Rattle.grasp_model_network.specs.Sending.{seat_with}
 use Rattle.grasp_model_network.specs.Setting.{Setting}
@@ -46,16 +50,18 @@ use Rattle.grasp_laws_prefixes.proofs.OwnSteps.{IsCall}
 use Rattle.grasp_laws_prefixes.proofs.Places.{end_stays, same_place}
 use Rattle.grasp_laws_prefixes.proofs.Safe.{stand}
 use Rattle.grasp_laws_prefixes.proofs.Speech.{never_accepted}
-use Rattle.grasp_laws_prefixes.proofs.Standing.{offer_on, IsEndAt, IsOfferedOn, PrefixesStand}
+use Rattle.grasp_laws_prefixes.proofs.Standing.{IsEndAt, IsOfferedOn, PrefixesStand}
 use Rattle.grasp_laws_prefixes.specs.Grounds.{Grounds}
 use Rattle.grasp_laws_prefixes.proofs.AgentOffers.{just_reserved}
 use Rattle.grasp_laws_prefixes.proofs.AgentPools.{IsNow, is_free, is_decided, still_free, OfferNow, stays, goes, ends, offer_now, UnsentNow, waits, is_back, is_requested, unsent_now}
 use Rattle.grasp_laws_prefixes.proofs.Keeping.{GivesIt, by_offer, in_doubt, IsGivenAt, IsGiven, IsUnsentAt, IsKeptIn, same_heard}
 use Rattle.grasp_laws_prefixes.proofs.Listed.{others_listed, own_listed}
 use Rattle.grasp_laws_prefixes.proofs.NewOpen.{dialled_on, new_open}
-use Rattle.grasp_laws_prefixes.proofs.OwnCalls.{CallGrounds, IsBegun, AcceptsNow, accepted_now, accepted_held}
+use Rattle.grasp_laws_prefixes.proofs.BegunCalls.{IsBegun, AcceptsNow, accepted_now}
+use Rattle.grasp_laws_prefixes.proofs.OwnCalls.{accepted_held}
 use Rattle.grasp_laws_prefixes.proofs.Polling.{HasEnded, has_ended}
 use Rattle.grasp_laws_prefixes.proofs.Talking.{GivesAt, IsGiver, giver_on, gives_at, open_on}
+use Rattle.grasp_laws_prefixes.specs.Apart.{offer_on}
 
 -- an acceptance that ends a conversation was said in it
 ends_accepted : (side : Side) (c : List Said) → accepted_by side (strip c) ≡ true → has_accepted side c ≡ true
@@ -70,7 +76,7 @@ ends_accepted side (x ∷ c) e = by_test (is_invalid x.message) e (ends_accepted
   by_test true f rest = or_right (is_side side x.side && is_acceptance x.message) (has_accepted side c) (rest f)
   by_test false f rest = either (is_side side x.side && is_acceptance x.message) (has_accepted side c) f
 
-module _ (l : Grounds) (m : CallGrounds) (s : Setting) (w y : WorldState) (r : IsReached s w) (q : IsReached s y) (a : AgentStep w y) (c : IsCall w y a) (b : IsBegun w y a c) where
+module _ (l : Grounds) (s : Setting) (w y : WorldState) (r : IsReached s w) (q : IsReached s y) (a : AgentStep w y) (c : IsCall w y a) (b : IsBegun w y a c) where
   abbrev new_seat : Seat
   new_seat = seat_with a.visit.seat a.core a.agent
 
@@ -91,7 +97,7 @@ module _ (l : Grounds) (m : CallGrounds) (s : Setting) (w y : WorldState) (r : I
 
   module _ (side : Side) (h : Handle) (p : Prefix) (offers : OffersIn a.agent side h p) (x : SessionState) (own : IsOwnSession a.core.sessions h side x) where
     offered : IsOfferedOn y a.visit.node new_seat side x.stream p
-    offered = now_stands.known.offered a.visit.node new_seat a.there side h p offers x own
+    offered = now_stands.known.offered a.visit.node new_seat a.there (same_is_present w y a.visit.node a.lives ∙ a.present) side h p offers x own
 
     offer_giver : IsGiver y a.visit.node new_seat side offered.place x
     offer_giver = record {
@@ -161,9 +167,9 @@ module _ (l : Grounds) (m : CallGrounds) (s : Setting) (w y : WorldState) (r : I
 
       is_open : GivesAt y there.place Near x.0 → IsOpenTalk y.streams there.place
       is_open g =
-          new_open l m s w y r q a c b next.idle there.place x.0 g x.0.stream
+          new_open l s w y r q a c b next.idle there.place x.0 g x.0.stream
           (ap (λ (t : StreamState). end_at t Near) (same_Some g.talk there.at.talk (sym g.stands ∙ there.at.stands)) ∙ there.at.end_is)
-          (dialled_on m.means begun a.core b.sound_begun h x.0 x.1.at a.visit.seat.agent next c.reply told b.called)
+          (dialled_on l.means begun a.core b.sound_begun h x.0 x.1.at a.visit.seat.agent next c.reply told b.called)
 
     requested_kept : (address : ℕ) → span_of p address → IsKeptIn y address
     requested_kept address span = requested_given address span (offering_session a.core a.agent Near h p (l.give s y q a.visit.node new_seat a.there) offers)
@@ -181,7 +187,7 @@ module _ (l : Grounds) (m : CallGrounds) (s : Setting) (w y : WorldState) (r : I
   held_kept node address h = by_node (cases_eq node a.visit.node) where
     by_node : (node ≡ a.visit.node) ⊎ (node ≡ a.visit.node → ⊥) → IsKeptIn y address
     by_node (inr apart) = inl (node, record { seat = h.seat; here = a.others node apart ∙ h.here; free = h.free })
-    by_node (inl e) = now_kept address (is_now address (still_free m.moves m.nothing a.visit.seat.agent c.reply b.kept address (subst (λ (z : Seat). IsFree z.agent.pool address) seat_is h.free))) where
+    by_node (inl e) = now_kept address (is_now address (still_free moves_are_made nothing_else_moves a.visit.seat.agent c.reply b.kept address (subst (λ (z : Seat). IsFree z.agent.pool address) seat_is h.free))) where
       seat_is : h.seat ≡ a.visit.seat
       seat_is = same_Some h.seat a.visit.seat (sym h.here ∙ (ap (λ n. seat_at w n) e ∙ a.here))
 
@@ -197,13 +203,13 @@ module _ (l : Grounds) (m : CallGrounds) (s : Setting) (w y : WorldState) (r : I
       now_at = gives_at l s y q node z there h.side h.place x g
 
       -- the offer may still be accepted on its stream, or was just accepted there
-      still_open : IsOpenTalk y.streams h.place ⊎ AcceptsNow l m s w y r q a c b (other h.side) now_at.talk
+      still_open : IsOpenTalk y.streams h.place ⊎ AcceptsNow w y a c (other h.side) now_at.talk
       still_open =
-          open_on l m.negotiations m.unseen s w y r q a.streams h.place h.side h.session x before now_at h.open_still (λ e. accepted_now l m s w y r q a c b (other h.side) now_at.talk e)
+          open_on l s w y r q a.streams h.place h.side h.session x before now_at h.open_still (λ e. accepted_now w y a c b (other h.side) now_at.talk e)
 
       given_on : GivesIt z h.side x h.prefix → Contains y.offers (offer_on node h.prefix h.place) → IsKeptIn y address
       given_on gives listed = by_open still_open where
-        by_open : IsOpenTalk y.streams h.place ⊎ AcceptsNow l m s w y r q a c b (other h.side) now_at.talk → IsKeptIn y address
+        by_open : IsOpenTalk y.streams h.place ⊎ AcceptsNow w y a c (other h.side) now_at.talk → IsKeptIn y address
         by_open (inl is_open) = inr (inl (record {
           node = node;
           seat = z;
@@ -211,7 +217,7 @@ module _ (l : Grounds) (m : CallGrounds) (s : Setting) (w y : WorldState) (r : I
           given = record { side = h.side; place = h.place; session = x; prefix = h.prefix; giver = g; gives = gives; span = h.span; listed = listed; open_still = is_open };
         }))
         by_open (inr e) =
-            inl (a.visit.node, accepted_held l m s w y r q a c b node seat here h.side h.place now_at.talk now_at.stands h.session h.prefix before h.gives address h.span e)
+            inl (a.visit.node, accepted_held l s w y r q a c b node seat here h.side h.place now_at.talk now_at.stands h.session h.prefix before h.gives address h.span e)
 
     -- at another node
     other_given : node ≢ a.visit.node → IsKeptIn y address
@@ -295,7 +301,7 @@ module _ (l : Grounds) (m : CallGrounds) (s : Setting) (w y : WorldState) (r : I
         not_agreed u is =
             from (now_at address a.visit.node a.visit.seat a.here h new_seat a.there over.session over_goes)
             (still_open address a.visit.node a.visit.seat a.here h new_seat a.there over.session over_goes) where
-              from : (g : GivesAt y h.place h.side over.session) → {e : _} → IsOpenTalk y.streams h.place ⊎ AcceptsNow l m s w y r q a c b (other h.side) e → ⊥
+              from : (g : GivesAt y h.place h.side over.session) → {e : _} → IsOpenTalk y.streams h.place ⊎ AcceptsNow w y a c (other h.side) e → ⊥
               from g (inr e) = none-some _ (sym idle ∙ e.accepts.act_is)
               from g (inl is_open) =
                   let says : OutcomeSays h.side g.talk.said over.session.view (Some (outcome.Agreed Theirs u))
@@ -316,13 +322,13 @@ module _ (l : Grounds) (m : CallGrounds) (s : Setting) (w y : WorldState) (r : I
 
     own_given : GivesIt a.visit.seat h.side h.session h.prefix → IsKeptIn y address
     own_given (in_doubt doubtful gone offered) = doubt_stays doubtful gone offered
-    own_given (by_offer handle offers own) = by_now (offer_now m.moves m.nothing a.visit.seat.agent c.reply b.kept h.side handle h.prefix offers) where
-      by_now : OfferNow m.moves m.nothing a.visit.seat.agent c.reply b.kept h.side handle h.prefix → IsKeptIn y address
+    own_given (by_offer handle offers own) = by_now (offer_now moves_are_made nothing_else_moves a.visit.seat.agent c.reply b.kept h.side handle h.prefix offers) where
+      by_now : OfferNow moves_are_made nothing_else_moves a.visit.seat.agent c.reply b.kept h.side handle h.prefix → IsKeptIn y address
       by_now (stays still) = offer_stays handle offers own offers_now (offering_session a.core a.agent h.side handle h.prefix (l.give s y q a.visit.node new_seat a.there) offers_now) where
         offers_now : OffersIn a.agent h.side handle h.prefix
         offers_now = subst (λ (z : AgentState). OffersIn z h.side handle h.prefix) (sym c.agent_is) still
       by_now (goes now) = now_kept address (is_now address (now address h.span))
-      by_now (ends d e next polls told t) = end_given handle offers own e next.idle (has_ended m.means begun a.core handle e a.visit.seat.agent d next polls c.reply told b.called) t
+      by_now (ends d e next polls told t) = end_given handle offers own e next.idle (has_ended l.means begun a.core handle e a.visit.seat.agent d next polls c.reply told b.called) t
 
   given_kept : (address : ℕ) → IsGiven w address → IsKeptIn y address
   given_kept address g = by_node (cases_eq g.node a.visit.node) where
@@ -339,8 +345,8 @@ module _ (l : Grounds) (m : CallGrounds) (s : Setting) (w y : WorldState) (r : I
 
   -- at the node of the step
   own_unsent : (address : ℕ) (p : Prefix) → span_of p address → unsent_of a.visit.seat.agent.back ≡ Some p → IsKeptIn y address
-  own_unsent address p span unsent = by_now (unsent_now m.moves m.nothing a.visit.seat.agent c.reply b.kept p unsent) where
-    by_now : UnsentNow m.moves m.nothing a.visit.seat.agent c.reply b.kept p → IsKeptIn y address
+  own_unsent address p span unsent = by_now (unsent_now moves_are_made nothing_else_moves a.visit.seat.agent c.reply b.kept p unsent) where
+    by_now : UnsentNow moves_are_made nothing_else_moves a.visit.seat.agent c.reply b.kept p → IsKeptIn y address
     by_now (waits still) = inr (inr (record { node = a.visit.node; seat = new_seat; here = a.there; prefix = p; unsent = ap (λ (z : AgentState). unsent_of z.back) c.agent_is ∙ still; span = span }))
     by_now (is_back free) = inl (a.visit.node, own_holds address (subst (λ (z : AgentState). IsFree z.pool address) (sym c.agent_is) (free address span)))
     by_now (is_requested h next told offers) = requested_kept h p next told (subst (λ (z : AgentState). OffersIn z Near h p) (sym c.agent_is) offers) address span

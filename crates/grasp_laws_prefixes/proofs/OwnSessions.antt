@@ -4,6 +4,7 @@ use Rattle.std.proofs.lemmas.Bool.{eqb-true, eq-eqb}
 use Rattle.std.proofs.lemmas.List.Elements.{Contains-append_cases}
 use Rattle.std.proofs.lemmas.Option.{none-some, same_Some}
 use Rattle.grasp_model_node.specs.Node.{NodeState}
+use Rattle.grasp_session.specs.Laws.{IsView}
 use Rattle.grasp_session.specs.Messages.{Side}
 use Rattle.grasp_session.specs.Runs.{WasMade}
 use Rattle.grasp_session.specs.Sessions.{SessionState, Sessions, session_at}
@@ -15,13 +16,16 @@ use Rattle.grasp_model_network.specs.Setting.{Setting}
 use Rattle.grasp_model_network.specs.Streams.{StreamEnd, StreamState, end_at}
 use Rattle.grasp_laws_network.specs.Views.{core_in, all_sessions, session_on, session_in, session_of_end, view_in, view_at}
 use Rattle.grasp_model_network.specs.World.{Seat, WorldState, seat_at, end_of, life_of}
+use Rattle.grasp_laws_agents.specs.Giving.{IsOwnSession}
 use Rattle.grasp_laws_agents.specs.GoingOn.{OwnGoOn}
+use Rattle.grasp_laws_agents.specs.Owning.{IsOwned}
 use Rattle.grasp_laws_delivery.proofs.FromReady.{first_lives}
 use Rattle.grasp_laws_negotiation.specs.Streams.{HasItsStream, SessionsHaveStreams}
 use Rattle.grasp_laws_delivery.specs.Ready.{StreamsAreReady}
 use Rattle.grasp_laws_negotiation.specs.Negotiations.{IsNegotiation}
 use Rattle.grasp_laws_node.proofs.Consistent.Declines.{handle_state}
 use Rattle.grasp_laws_prefixes.proofs.Listing.{none_in, first_in, more_in, either_in}
+use Rattle.grasp_laws_prefixes.specs.Grounds.{Grounds}
 
 -- ---- by their handles
 
@@ -140,3 +144,14 @@ talk_of streams s w r node seat here x made side role kind =
       saw = ap (λ k. view_at w h.talk k) (sym same) ∙ ap (λ o. view_in o) h.found;
       negotiation = h.request kind;
     }
+
+-- of a live session of agent 1
+module _ (l : Grounds) (s : Setting) (w : WorldState) (r : IsReached s w) where
+  pub own_talk : (node : ℕ) (seat : Seat) → seat_at w node ≡ Some seat → (h : Handle) (side : Side) (x : SessionState) → IsOwnSession seat.core.sessions h side x → IsTalkOf w node seat x side
+  own_talk node seat here h side x own =
+      let owned : IsOwned x = l.owned s w r node seat here h.place x (handle_state seat.core.sessions h x own.at).0 in
+      talk_of l.streams s w r node seat here x (handle_made seat.core.sessions h x own.at) side own.role (owned.own own.owner).0
+
+  -- what it saw on its stream
+  pub own_view : (node : ℕ) (seat : Seat) (x : SessionState) (side : Side) → (t : IsTalkOf w node seat x side) → IsView side t.talk.said x.view
+  own_view node seat x side t = (l.known s w r t.place t.talk t.stands t.negotiation).views side x.view t.saw

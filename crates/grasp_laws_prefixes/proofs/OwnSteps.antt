@@ -18,6 +18,7 @@ use Rattle.grasp_types.specs.declared.reply.Reply.{Reply}
 use Rattle.grasp_types.specs.declared.session.Handle.{Handle}
 use Rattle.grasp_laws_network.proofs.Here.{visits_are_here}
 use Rattle.grasp_laws_network.proofs.Others.{put_elsewhere}
+use Rattle.grasp_laws_network.proofs.SameLives.{visit_lives}
 use Rattle.grasp_laws_network.proofs.Staying.{put_here}
 use Rattle.grasp_model_network.proofs.Facts.{agent_given}
 use Rattle.grasp_model_network.specs.EventSteps.{agent_input, agent_visit, after_agent}
@@ -29,7 +30,7 @@ use Rattle.grasp_model_network.specs.Runs.{IsReached}
 use Rattle.grasp_model_network.specs.Sending.{seat_with, stepped}
 use Rattle.grasp_model_network.specs.Setting.{Setting, numbered}
 use Rattle.grasp_model_network.specs.Visits.{Visit, Choice, MayCome, VisitStep}
-use Rattle.grasp_model_network.specs.World.{Seat, WorldState, seat_at}
+use Rattle.grasp_model_network.specs.World.{Seat, WorldState, present_life, seat_at}
 use Rattle.grasp_model_network.specs.declared.event.Event.TheVariants as event
 use Rattle.grasp_laws_prefixes.proofs.AgentSteps.{AgentStep}
 use Rattle.grasp_laws_prefixes.proofs.Places.{step_stays}
@@ -71,7 +72,7 @@ none_decided a r p kept unsent none = by_move (nothing_else_moves a r) where
 
 agent_call : (s : Setting) (w : WorldState) (node : ℕ) (hold : Bool) (v : Visit) → visit_of s w (event.Agent node hold) ≡ Some v → v.input ≡ agent_input v.seat.agent
 unfolding agent_visit
-agent_call s w node hold v is = agent_given node v (seat_at w node) is
+agent_call s w node hold v is = agent_given (present_life w node) v (seat_at w (present_life w node)) is
 
 agent_seats : (w : WorldState) (v : Visit) (c : Choice) → (after_agent w v c).seats ≡ slice_set w.seats (v.node - 1) (seat_with v.seat c.after (after_reply v.seat.agent c.reply))
 unfolding after_agent noted stepped
@@ -80,6 +81,10 @@ agent_seats w v c = refl
 agent_offers : (w : WorldState) (v : Visit) (c : Choice) → (after_agent w v c).offers ≡ offers_after (after_agent w v c).streams w v c.after (after_reply v.seat.agent c.reply)
 unfolding after_agent noted
 agent_offers w v c = refl
+
+agent_settled : (w : WorldState) (v : Visit) (c : Choice) → (after_agent w v c).settled ≡ w.settled
+unfolding after_agent noted stepped
+agent_settled w v c = refl
 
 -- the call of a step, and what it leaves
 pub record IsCall (w y : WorldState) (a : AgentStep w y) : Type 0 where
@@ -98,9 +103,12 @@ module _ (l : Grounds) (s : Setting) where
       core = c.after;
       agent = after_reply v.seat.agent c.reply;
       here = here.stands;
+      present = l.present s w (event.Agent node hold) v r o.fit is;
       there = ap (λ xs. numbered xs v.node) (agent_seats w v c) ∙ put_here w.seats v.node v.seat new here.stands;
       others = λ n apart. ap (λ xs. numbered xs n) (agent_seats w v c) ∙ put_elsewhere w.seats v.node n new here.member.least apart;
       offers = agent_offers w v c;
+      settled = agent_settled w v c;
+      lives = visit_lives s w (event.Agent node hold) v c;
       streams = step_stays l.ready s w r (event.Agent node hold) v c is tt;
       moves = l.move s w r v.node v.seat here.stands v.now c.coming c.reply c.after called;
       alone = λ p unsent none. none_decided v.seat.agent c.reply p (l.kept s w r v.node v.seat here.stands) unsent none;

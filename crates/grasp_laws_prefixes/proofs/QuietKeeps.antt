@@ -7,32 +7,41 @@ use Rattle.grasp_pool.specs.Holdings.{Holding, IsFree, IsListed}
 use Rattle.grasp_session.proofs.Facts.{at_handle as session_is}
 use Rattle.grasp_session.specs.Conversation.{Said, begun, strip}
 use Rattle.grasp_session.specs.Messages.{Side, other}
+use Rattle.grasp_session.specs.Says.{IsAt}
 use Rattle.grasp_session.specs.Sessions.{SessionState}
 use Rattle.grasp_types.specs.Prefix.{AddressBlock as Prefix}
 use Rattle.grasp_types.specs.declared.objective.Objective.{Objective}
 use Rattle.grasp_types.specs.declared.session.Handle.{Handle}
-use Rattle.grasp_laws_network.specs.Authorities.{Holds, Reserves, Keeps, IsOpenTalk, MayAccept, IsAuthority, is_return, offering_by, taking_side, is_accepted, has_accepted}
+use Rattle.grasp_laws_network.proofs.Lives.{same_member, same_present, same_is_present}
+use Rattle.grasp_laws_network.specs.Authorities.{Holds, Reserves, Keeps, IsOpenTalk, MayAccept, IsAuthority}
+use Rattle.grasp_model_network.specs.Accepting.{is_return, offering_by, taking_side, is_accepted, has_accepted}
 use Rattle.grasp_model_network.specs.Runs.{IsReached}
 use Rattle.grasp_model_network.specs.Setting.{Setting}
 use Rattle.grasp_model_network.specs.Streams.{StreamState}
-use Rattle.grasp_model_network.specs.World.{Seat, Offered, WorldState, seat_at, end_of, life_of}
+use Rattle.grasp_model_network.specs.World.{Seat, Offered, WorldState, seat_at, end_of, life_of, is_present, member_of, present_life}
+use Rattle.grasp_laws_agents.proofs.Going.{open_back}
+use Rattle.grasp_laws_agents.proofs.GoingOn.{heard_alike}
 use Rattle.grasp_laws_agents.specs.Giving.{IsOpenOffer, IsOwnSession, OffersIn}
+use Rattle.grasp_laws_agents.specs.GoingOn.{OnlyHeard}
 use Rattle.grasp_laws_negotiation.specs.Negotiations.{IsNegotiation}
 use Rattle.grasp_laws_node.proofs.Consistent.Declines.{handle_state}
-use Rattle.grasp_laws_prefixes.proofs.Asked.{asked_still, request_stays}
+use Rattle.grasp_laws_prefixes.proofs.Asked.{request_stays, placed_still}
 use Rattle.grasp_laws_prefixes.proofs.EntryOffers.{same_offers, offering_session}
+use Rattle.grasp_laws_prefixes.proofs.NeverAccepted.{quiet_unaccepted, still_unaccepted}
+use Rattle.grasp_laws_prefixes.proofs.OneNode.{seat_there}
 use Rattle.grasp_laws_prefixes.proofs.OwnSessions.{one_session, end_with}
 use Rattle.grasp_laws_prefixes.proofs.Places.{end_stays}
 use Rattle.grasp_laws_prefixes.proofs.Speech.{accepted_before}
-use Rattle.grasp_laws_prefixes.proofs.Standing.{offer_unsent, IsEndAt, IsOfferedOn, IsPlaced, PrefixesStand, Stays, AllStay, SeatGoesOn, WorldGoesOn, NothingSaid}
+use Rattle.grasp_laws_prefixes.proofs.Standing.{offer_unsent, IsEndAt, IsOfferIn, IsOfferedOn, WasSettledOn, IsPlaced, StaysUnaccepted, PrefixesStand, Stays, AllStay, SeatGoesOn, WorldGoesOn, NothingHappens}
 use Rattle.grasp_laws_prefixes.specs.Grounds.{Grounds}
-use Rattle.grasp_laws_prefixes.specs.Apart.{HeldApart, AuthoritiesApart}
+use Rattle.grasp_laws_prefixes.specs.Apart.{HeldApart, AuthoritiesApart, offer_on}
+use Rattle.grasp_laws_prefixes.specs.Known.{HasInDoubt}
 
 module _ (l : Grounds) (s : Setting) (w : WorldState) (r : IsReached s w) where
   -- ---- what may be accepted might be before
 
   -- a stream on which the taking side hasn't accepted
-  open_before : (y : WorldState) → IsReached s y ⊎ NothingSaid w y → AllStay w.streams y.streams → (place : ℕ) (t : StreamState) → slice_get w.streams place ≡ Some t → IsNegotiation t → begun (strip t.said) ≡ true
+  open_before : (y : WorldState) → IsReached s y ⊎ NothingHappens w y → AllStay w.streams y.streams → (place : ℕ) (t : StreamState) → slice_get w.streams place ≡ Some t → IsNegotiation t → begun (strip t.said) ≡ true
       → IsOpenTalk y.streams place → IsOpenTalk w.streams place
   open_before y said stay place t stands negotiation asked is_open = record { talk = t; here = stands; open_still = accepted_before (taking_side t) u.newer t.said none } where
     u : Stays y.streams place t
@@ -47,20 +56,26 @@ module _ (l : Grounds) (s : Setting) (w : WorldState) (r : IsReached s w) where
         ∙ (ap (λ (o : Objective). has_accepted (other (offering_by (is_return o.value))) u.after.said) (sym (request_stays l s w r place t stands negotiation asked y said u))
         ∙ (ap (λ (x : StreamState). is_accepted x) (sym same) ∙ is_open.open_still))
 
-  pub may_before : (y : WorldState) → IsReached s y ⊎ NothingSaid w y → AllStay w.streams y.streams → (o : Offered) → IsPlaced w.streams o ⊎ (o.talk ≡ None)
+  pub may_before : (y : WorldState) → IsReached s y ⊎ NothingHappens w y → AllStay w.streams y.streams → (o : Offered) → IsPlaced w.streams o ⊎ (o.talk ≡ None)
       → (Reserves y o.node o.prefix → Reserves w o.node o.prefix) → MayAccept y o o.talk → MayAccept w o o.talk
   may_before y said stay o (inl at) reserved may =
       subst (λ z. MayAccept w o z) (sym at.is) (open_before y said stay at.place at.talk at.stands at.negotiation at.asked (subst (λ z. MayAccept y o z) at.is may))
   may_before y said stay o (inr none) reserved may = subst (λ z. MayAccept w o z) (sym none) (reserved (subst (λ z. MayAccept y o z) none may))
 
-  pub placed_still : (us : List StreamState) → AllStay w.streams us → (o : Offered) → IsPlaced w.streams o ⊎ (o.talk ≡ None) → IsPlaced us o ⊎ (o.talk ≡ None)
-  placed_still us stay o (inl at) =
-      let u = stay at.place at.talk at.stands in
-      let still = asked_still l s w r at.place at.talk at.stands at.negotiation at.asked us u in
-      inl (record { place = at.place; talk = u.after; is = at.is; stands = u.stands; negotiation = still.0; asked = still.1 })
-  placed_still us stay o (inr none) = inr none
+  -- ---- what is offered was so before
 
-  module _ (y : WorldState) (said : IsReached s y ⊎ NothingSaid w y) (g : WorldGoesOn w y) (k : PrefixesStand w) where
+  -- in a session on the same stream
+  pub offered_before : (node : ℕ) (seat new : Seat) → seat_at w node ≡ Some seat → SeatGoesOn seat new → (side : Side) (h : Handle) (p : Prefix) → OffersIn new.agent side h p
+      → (x : SessionState) → IsOwnSession new.core.sessions h side x → OffersIn seat.agent side h p × ((z : SessionState) × IsOwnSession seat.core.sessions h side z × (z.stream ≡ x.stream))
+  offered_before node seat new here goes side h p o x own =
+      let was : OffersIn seat.agent side h p = same_offers seat.agent new.agent side h p goes.giving goes.back o in
+      let mine = offering_session seat.core seat.agent side h p (l.give s w r node seat here) was in
+      let there = handle_state new.core.sessions h x own.at in
+      let before = goes.sessions.were h.place x there.0 own.owner in
+      let same : mine.0 ≡ before.0 = one_session seat.core.sessions h mine.0 before.0 mine.1.at (session_is seat.core.sessions h before.0 before.1 (sym before.2.number ∙ there.1)) in
+      (was, (mine.0, mine.1, ap (λ (z : SessionState). z.stream) same ∙ sym before.2.stream))
+
+  module _ (y : WorldState) (said : IsReached s y ⊎ NothingHappens w y) (g : WorldGoesOn w y) (k : PrefixesStand w) where
     -- ---- what is held and offered was so before
 
     pub held_before : (node a : ℕ) → Holds y node a → Holds w node a
@@ -97,27 +112,52 @@ module _ (l : Grounds) (s : Setting) (w : WorldState) (r : IsReached s w) where
       others = λ o p h j differ. k.authorities.others o p (authority_before o h) (authority_before p j) differ;
     }
 
+    -- ---- what is offered is known
+
+    -- a node that has something listed has the same still
+    seat_still : (node : ℕ) (seat : Seat) → seat_at w node ≡ Some seat → (new : Seat) × (seat_at y node ≡ Some new) × SeatGoesOn seat new
+    seat_still node seat here =
+        let n = seat_there w y g.count node seat here in
+        let b = g.seats node n.0 n.1 in
+        (n.0, n.1, subst (λ (z : Seat). SeatGoesOn z n.0) (same_Some b.0 seat (sym b.1 ∙ here)) b.2)
+
+    kept_still : (node : ℕ) (p : Prefix) → Keeps w node p → Keeps y node p
+    kept_still node p h =
+        let n = seat_still node h.seat h.here in
+        record { seat = n.0; here = n.1; listed = subst (λ (q : Holding). IsListed q p) (sym n.2.pool) h.listed }
+
+    doubt_still : (life : ℕ) (p : Prefix) → HasInDoubt w life p → HasInDoubt y life p
+    doubt_still life p h =
+        let n = seat_still life h.seat h.here in
+        record { seat = n.0; here = n.1; doubtful = subst (λ (q : Holding). Contains q.doubtful p) (sym n.2.pool) h.doubtful }
+
+    once : (o p : Offered) → Contains y.offers o → Contains y.offers p → member_of y o.node ≡ member_of y p.node → o.prefix ≡ p.prefix → o ≡ p
+    once o p h j e f = k.known.once o p (listed_before o h) (listed_before p j) (sym (same_member w y o.node g.lives) ∙ (e ∙ same_member w y p.node g.lives)) f
+
+    carried : (o : Offered) → Contains y.offers o → is_present y o.node ≡ false → HasInDoubt y (present_life y (member_of y o.node)) o.prefix
+    carried o h gone =
+        subst (λ life. HasInDoubt y life o.prefix) (sym (same_present w y (member_of y o.node) g.lives ∙ ap (λ m. present_life w m) (same_member w y o.node g.lives)))
+        (doubt_still (present_life w (member_of w o.node)) o.prefix (k.known.carried o (listed_before o h) (sym (same_is_present w y o.node g.lives) ∙ gone)))
+
     -- the stream of a session is that which it was
-    offered_still : (node : ℕ) (seat new : Seat) → SeatGoesOn seat new → (side : Side) (stream now : ℕ) (p : Prefix) → stream ≡ now → IsOfferedOn w node seat side stream p → IsOfferedOn y node new side now p
-    offered_still node seat new goes side stream now p same o = record {
+    pub among_still : (os us : List Offered) → us ≡ os → (node : ℕ) (seat new : Seat) → SeatGoesOn seat new → (side i : Side) → i ≡ side → (stream now : ℕ) (p : Prefix) → stream ≡ now
+        → IsOfferIn os w node seat side stream p → IsOfferIn us y node new i now p
+    among_still os us list node seat new goes side i side_is stream now p same o = record {
       place = o.place;
-      at = subst (λ e. IsEndAt y.streams o.place side e) end_is (end_stays w.streams y.streams g.streams o.place side (end_of node seat stream) o.at);
-      listed = subst (λ (os : List Offered). Contains os (record { node = node; prefix = p; talk = Some o.place })) (sym g.offers) o.listed;
+      at = subst (λ j. IsEndAt y.streams o.place j (end_of node new now)) (sym side_is)
+          (subst (λ e. IsEndAt y.streams o.place side e) end_is (end_stays w.streams y.streams g.streams o.place side (end_of node seat stream) o.at));
+      listed = subst (λ (xs : List Offered). Contains xs (offer_on node p o.place)) (sym list) o.listed;
     } where
       end_is : end_of node seat stream ≡ end_of node new now
       end_is = ap (λ n. end_with node n stream) (sym goes.life) ∙ ap (λ n. end_with node (life_of new) n) same
 
-    offered : (node : ℕ) (new : Seat) → seat_at y node ≡ Some new → (side : Side) (h : Handle) (p : Prefix) → OffersIn new.agent side h p → (x : SessionState) → IsOwnSession new.core.sessions h side x
-        → IsOfferedOn y node new side x.stream p
-    offered node new there side h p o x own =
+    offered : (node : ℕ) (new : Seat) → seat_at y node ≡ Some new → is_present y node ≡ true → (side : Side) (h : Handle) (p : Prefix) → OffersIn new.agent side h p
+        → (x : SessionState) → IsOwnSession new.core.sessions h side x → IsOfferedOn y node new side x.stream p
+    offered node new there present side h p o x own =
         let b = g.seats node new there in
-        let seat = b.0 in
-        let was : OffersIn seat.agent side h p = same_offers seat.agent new.agent side h p b.2.giving b.2.back o in
-        let mine = offering_session seat.core seat.agent side h p (l.give s w r node seat b.1) was in
-        let here = handle_state new.core.sessions h x own.at in
-        let before = b.2.sessions.were h.place x here.0 own.owner in
-        let same : mine.0 ≡ before.0 = one_session seat.core.sessions h mine.0 before.0 mine.1.at (session_is seat.core.sessions h before.0 before.1 (sym before.2.number ∙ here.1)) in
-        offered_still node seat new b.2 side mine.0.stream x.stream p (ap (λ (z : SessionState). z.stream) same ∙ sym before.2.stream) (k.known.offered node seat b.1 side h p was mine.0 mine.1)
+        let was = offered_before node b.0 new b.1 b.2 side h p o x own in
+        among_still w.offers y.offers g.offers node b.0 new b.2 side side refl was.1.0.stream x.stream p was.1.2
+        (k.known.offered node b.0 b.1 (sym (same_is_present w y node g.lives) ∙ present) side h p was.0 was.1.0 was.1.1)
 
     unsent : (node : ℕ) (new : Seat) → seat_at y node ≡ Some new → (p : Prefix) → unsent_of new.agent.back ≡ Some p → Contains y.offers (offer_unsent node p)
     unsent node new there p e =
@@ -126,19 +166,55 @@ module _ (l : Grounds) (s : Setting) (w : WorldState) (r : IsReached s w) where
         (k.known.unsent node b.0 b.1 p (subst (λ (z : Option Return). unsent_of z ≡ Some p) b.2.back e))
 
     gone : (node : ℕ) (new : Seat) → seat_at y node ≡ Some new → (x : SessionState) (p : Prefix) → Contains new.core.sessions.gone x → x.owner ≡ 1 → IsOpenOffer x.view p
-        → IsOfferedOn y node new x.view.role x.stream p
-    gone node new there x p was own is_open =
-        let b = g.seats node new there in
-        offered_still node b.0 new b.2 x.view.role x.stream x.stream p refl (k.known.gone node b.0 b.1 x p (b.2.sessions.left x own was) own is_open)
+        → (IsOfferedOn y node new x.view.role x.stream p × Contains new.agent.pool.doubtful p) ⊎ WasSettledOn y node new x.view.role x.stream p
+    gone node new there x p was own is_open = from (g.seats node new there) where
+      from : (seat : Seat) × (seat_at w node ≡ Some seat) × SeatGoesOn seat new → (IsOfferedOn y node new x.view.role x.stream p × Contains new.agent.pool.doubtful p) ⊎ WasSettledOn y node new x.view.role x.stream p
+      from b = by_case (k.known.gone node b.0 b.1 x p (b.2.sessions.left x own was) own is_open) where
+        by_case : (IsOfferedOn w node b.0 x.view.role x.stream p × Contains b.0.agent.pool.doubtful p) ⊎ WasSettledOn w node b.0 x.view.role x.stream p
+            → (IsOfferedOn y node new x.view.role x.stream p × Contains new.agent.pool.doubtful p) ⊎ WasSettledOn y node new x.view.role x.stream p
+        by_case (inl o) = inl (
+          among_still w.offers y.offers g.offers node b.0 new b.2 x.view.role x.view.role refl x.stream x.stream p refl o.0,
+          subst (λ (q : Holding). Contains q.doubtful p) (sym b.2.pool) o.1,
+        )
+        by_case (inr o) = inr (among_still w.settled y.settled g.settled node b.0 new b.2 x.view.role x.view.role refl x.stream x.stream p refl o)
+
+    -- in a life that has ended nothing was said since in any session
+    ended : (node : ℕ) (new : Seat) → seat_at y node ≡ Some new → is_present y node ≡ false → (place : ℕ) (x : SessionState) (p : Prefix) → IsAt new.core.sessions place x → x.owner ≡ 1
+        → IsOpenOffer x.view p → IsOfferedOn y node new x.view.role x.stream p ⊎ WasSettledOn y node new x.view.role x.stream p
+    ended node new there past place x p at own is_open = from (g.seats node new there) where
+      from : (seat : Seat) × (seat_at w node ≡ Some seat) × SeatGoesOn seat new → IsOfferedOn y node new x.view.role x.stream p ⊎ WasSettledOn y node new x.view.role x.stream p
+      from b = by_session (b.2.sessions.were place x at own) where
+        by_session : (z : SessionState) × IsAt b.0.core.sessions place z × OnlyHeard z x → IsOfferedOn y node new x.view.role x.stream p ⊎ WasSettledOn y node new x.view.role x.stream p
+        by_session z = by_case (k.known.ended node b.0 b.1 (sym (same_is_present w y node g.lives) ∙ past) place z.0 p z.1 (sym z.2.owner ∙ own) (open_back z.0.view x.view p z.2.view is_open)) where
+          role : x.view.role ≡ z.0.view.role
+          role = (heard_alike z.0.view x.view z.2.view).role
+
+          by_case : IsOfferedOn w node b.0 z.0.view.role z.0.stream p ⊎ WasSettledOn w node b.0 z.0.view.role z.0.stream p
+              → IsOfferedOn y node new x.view.role x.stream p ⊎ WasSettledOn y node new x.view.role x.stream p
+          by_case (inl o) = inl (among_still w.offers y.offers g.offers node b.0 new b.2 z.0.view.role x.view.role role z.0.stream x.stream p (sym z.2.stream) o)
+          by_case (inr o) = inr (among_still w.settled y.settled g.settled node b.0 new b.2 z.0.view.role x.view.role role z.0.stream x.stream p (sym z.2.stream) o)
+
+    settled : (o : Offered) → Contains y.settled o → StaysUnaccepted y o
+    settled o h = by_said said where
+      was : StaysUnaccepted w o
+      was = k.known.settled o (subst (λ (os : List Offered). Contains os o) g.settled h)
+
+      by_said : IsReached s y ⊎ NothingHappens w y → StaysUnaccepted y o
+      by_said (inl q) = quiet_unaccepted l s w r y g.streams o was q g
+      by_said (inr none) = still_unaccepted l s w r y g.streams o was none
 
     pub quiet_keeps : PrefixesStand y
     quiet_keeps = record {
       known = record {
-        once = λ o p h j. k.known.once o p (listed_before o h) (listed_before p j);
-        placed = λ o h. placed_still y.streams g.streams o (k.known.placed o (listed_before o h));
+        once = once;
+        placed = λ o h. placed_still l s w r y said g.streams o (k.known.placed o (listed_before o h));
+        kept = λ o h. kept_still o.node o.prefix (k.known.kept o (listed_before o h));
+        carried = carried;
         unsent = unsent;
         offered = offered;
         gone = gone;
+        ended = ended;
+        settled = settled;
       };
       held = held;
       authorities = authorities;

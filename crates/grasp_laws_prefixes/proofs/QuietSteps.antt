@@ -1,33 +1,34 @@
 -- A step that isn't an agent's own and a drain leave what every agent offers.
-use Rattle.std.proofs.Common.{◌≡◌, refl, sym, ap, ◌∙◌, subst, ℕ, ◌-◌, ◌≤◌, inl, inr, List, [], ◌∷◌, fold, take, slice_set, Option, Some, None}
+use Rattle.std.proofs.Common.{◌≡◌, refl, sym, ap, ◌∙◌, subst, ℕ, ◌-◌, ◌≤◌, inl, inr, List, length, take, slice_set, Option, Some, None}
+use Rattle.std.proofs.lemmas.List.{length-set}
 use Rattle.grasp_model_node.specs.Begin.{begin}
 use Rattle.grasp_model_node.specs.Draining.{closes, after_drain}
 use Rattle.grasp_model_node.specs.Draining as core
 use Rattle.grasp_model_node.specs.Node.{NodeState}
-use Rattle.grasp_model_node.specs.Queue.{Queued, datagram, dial, send, encoding}
+use Rattle.grasp_model_node.specs.Queue.{encoding}
 use Rattle.grasp_session.specs.Messages.{other}
-use Rattle.grasp_types.specs.declared.message.Message.{Message}
 use Rattle.grasp_types.specs.declared.reply.Reply.{Reply}
 use Rattle.grasp_types.specs.declared.reply.Reply.TheVariants as reply
 use Rattle.grasp_types.specs.declared.traffic.Input.{Input}
 use Rattle.grasp_types.specs.declared.traffic.Input.TheVariants as input
 use Rattle.grasp_laws_network.proofs.EachNode.{drain_steps}
 use Rattle.grasp_laws_network.proofs.Here.{visits_are_here}
+use Rattle.grasp_laws_network.proofs.Offers.{KeepsOffers, offers_still, handed_offers}
 use Rattle.grasp_laws_network.proofs.Others.{arrived_keeps, delivered_keeps, told_keeps}
+use Rattle.grasp_laws_network.proofs.SameLives.{visit_lives, handed_lives}
 use Rattle.grasp_laws_network.proofs.Sent.{sending_keeps_nodes}
 use Rattle.grasp_model_network.specs.EventSteps.{after_agent_call, after_arrival, after_clock, after_cut, datagram_visit, after_delivery, after_piece}
 use Rattle.grasp_model_network.specs.StreamChanges.{arrived, told, Reached, reached_side, side_named, delivered}
 use Rattle.grasp_model_network.specs.Events.{visit_of, after_visit, IsFit, Occurs}
 use Rattle.grasp_laws_network.specs.Keeping.{IsHere}
 use Rattle.grasp_model_network.specs.Notes.{noted}
-use Rattle.grasp_model_network.specs.Routes.{Route, route_of}
 use Rattle.grasp_model_network.specs.Runs.{IsReached}
 use Rattle.grasp_model_network.specs.Sending as network
-use Rattle.grasp_model_network.specs.Sending.{seat_with, stepped, posted, having_sent, having_closed, handed_over, drained_from, drained_at}
+use Rattle.grasp_model_network.specs.Sending.{seat_with, stepped, drained_from, drained_at}
 use Rattle.grasp_model_network.specs.Setting.{Setting, numbered}
 use Rattle.grasp_model_network.specs.Streams.{StreamState, stream_numbered, next_bytes}
 use Rattle.grasp_model_network.specs.Visits.{Visit, Choice, MayCome, VisitStep, no_choice}
-use Rattle.grasp_model_network.specs.World.{Seat, WorldState, seat_at, with_seat}
+use Rattle.grasp_model_network.specs.World.{Seat, WorldState, present_life, seat_at, with_seat}
 use Rattle.grasp_model_network.specs.declared.event.Event.{Event}
 use Rattle.grasp_model_network.specs.declared.event.Event.TheVariants as event
 use Rattle.grasp_laws_agents.specs.Staying.{IsOthers}
@@ -61,14 +62,14 @@ as_others v i e o = subst IsOthers (sym e) o
 
 step_others : (s : Setting) (w : WorldState) (e : Event) (v : Visit) → IsOthersStep e → IsFit s w e → visit_of s w e ≡ Some v → IsOthers v.input
 unfolding datagram_visit
-step_others s w (event.Clock node millis) v o fit is = as_others v (input.Drain 0) (clock_visit_is node millis v (seat_at w node) is).input_is tt
-step_others s w (event.Api node asa call hold) v o fit is = as_others v (input.Api asa call) (at_visit w node (input.Api asa call) v is).input_is fit.1
+step_others s w (event.Clock node millis) v o fit is = as_others v (input.Drain 0) (clock_visit_is (present_life w node) millis v (seat_at w (present_life w node)) is).input_is tt
+step_others s w (event.Api node asa call hold) v o fit is = as_others v (input.Api asa call) (at_visit w (present_life w node) (input.Api asa call) v is).input_is fit.1
 step_others s w (event.Datagram index hold) v o fit is =
     let d = datagram_visit_is w v (numbered w.datagrams index) is in
     as_others v (input.Datagram d.0.route.link d.0.route.from (encoding d.0.message)) d.1.input_is tt
 step_others s w (event.Arrive stream hold) v o fit is =
     let p = opening_is s w stream v is in
-    as_others v (input.Opened (s.arrives_as v.node stream) (s.arrives_from stream p.near.plan.address)) p.is.input_is tt
+    as_others v (input.Opened (s.arrives_as v.node stream) (s.arrives_from stream p.near.core.plan.address)) p.is.input_is tt
 step_others s w (event.Bytes stream far count hold) v o fit is =
     let p = piece_is w stream (side_named far) count v is in
     as_others v (input.Bytes p.reached.at.number (next_bytes p.reached.talk (other (side_named far)) count)) p.is.input_is tt
@@ -100,37 +101,51 @@ step_seats s w (event.Cut stream far hold) v c o =
     (told_keeps w (reached_side w stream (side_named far))) refl
 step_seats s w _ v c o = absurd o
 
-arrived_offers : (w : WorldState) (v : Visit) (number : ℕ) (r : Reply) (o : Option StreamState) → (arrived w v number r o).offers ≡ w.offers
-arrived_offers w v number r None = refl
-arrived_offers w v number r (Some t) = refl
+arrived_offers : (w : WorldState) (v : Visit) (number : ℕ) (r : Reply) (o : Option StreamState) → KeepsOffers w (arrived w v number r o)
+arrived_offers w v number r None = offers_still w
+arrived_offers w v number r (Some t) = record { offers = refl; settled = refl }
 
-delivered_offers : (w : WorldState) (count : ℕ) (o : Option Reached) → (delivered w count o).offers ≡ w.offers
-delivered_offers w count None = refl
-delivered_offers w count (Some x) = refl
+delivered_offers : (w : WorldState) (count : ℕ) (o : Option Reached) → KeepsOffers w (delivered w count o)
+delivered_offers w count None = offers_still w
+delivered_offers w count (Some x) = record { offers = refl; settled = refl }
 
-told_offers : (w : WorldState) (o : Option Reached) → (told w o).offers ≡ w.offers
-told_offers w None = refl
-told_offers w (Some x) = refl
+told_offers : (w : WorldState) (o : Option Reached) → KeepsOffers w (told w o)
+told_offers w None = offers_still w
+told_offers w (Some x) = record { offers = refl; settled = refl }
 
-step_offers : (s : Setting) (w : WorldState) (e : Event) (v : Visit) (c : Choice) → IsOthersStep e → (after_visit s w e v c).offers ≡ w.offers
+same_offers : (w x y : WorldState) → KeepsOffers w x → y.offers ≡ x.offers → y.settled ≡ x.settled → KeepsOffers w y
+same_offers w x y k e f = record { offers = e ∙ k.offers; settled = f ∙ k.settled }
+
+step_offers : (s : Setting) (w : WorldState) (e : Event) (v : Visit) (c : Choice) → IsOthersStep e → KeepsOffers w (after_visit s w e v c)
 unfolding after_clock after_agent_call after_delivery after_arrival after_piece after_cut noted stepped
-step_offers s w (event.Want node length longest peer) v c o = absurd o
-step_offers s w (event.Return node prefix peer) v c o = absurd o
-step_offers s w (event.Agent node hold) v c o = absurd o
-step_offers s w (event.Arrive stream hold) v c o = arrived_offers w v (s.arrives_as v.node stream) c.reply (stream_numbered w.streams stream)
-step_offers s w (event.Bytes stream far count hold) v c o = delivered_offers w count (reached_side w stream (side_named far))
-step_offers s w (event.Cut stream far hold) v c o = told_offers w (reached_side w stream (side_named far))
-step_offers s w (event.Drain node max) v c o = absurd o
-step_offers s w _ v c o = refl
+step_offers s w (event.Clock node millis) v c o = same_offers w w (after_clock w v c) (offers_still w) refl refl
+step_offers s w (event.Api node asa call hold) v c o = same_offers w w (after_agent_call w v asa call c) (offers_still w) refl refl
+step_offers s w (event.Datagram index hold) v c o = same_offers w w (after_delivery w v index c) (offers_still w) refl refl
+step_offers s w (event.Arrive stream hold) v c o =
+    same_offers w (arrived w v (s.arrives_as v.node stream) c.reply (stream_numbered w.streams stream)) (after_arrival s w v stream c)
+    (arrived_offers w v (s.arrives_as v.node stream) c.reply (stream_numbered w.streams stream)) refl refl
+step_offers s w (event.Bytes stream far count hold) v c o =
+    same_offers w (delivered w count (reached_side w stream (side_named far))) (after_piece w v stream (side_named far) count c)
+    (delivered_offers w count (reached_side w stream (side_named far))) refl refl
+step_offers s w (event.Cut stream far hold) v c o =
+    same_offers w (told w (reached_side w stream (side_named far))) (after_cut w v stream (side_named far) c) (told_offers w (reached_side w stream (side_named far))) refl refl
+step_offers s w _ v c o = absurd o
 
 -- ---- one node goes on, and the others are the same
 
 pub seat_still : (seat : Seat) → SeatGoesOn seat seat
 seat_still seat = record { life = refl; pool = refl; giving = refl; back = refl; sessions = same_sessions seat.core.sessions }
 
-pub goes_on_from : (w y : WorldState) (node : ℕ) (seat new : Seat) → 1 ≤ node → seat_at w node ≡ Some seat → y.seats ≡ slice_set w.seats (node - 1) new → y.offers ≡ w.offers → AllStay w.streams y.streams → SeatGoesOn seat new
-    → WorldGoesOn w y
-goes_on_from w y node seat new least here seats offers talks goes = record { offers = offers; seats = each; streams = talks } where
+pub goes_on_from : (w y : WorldState) (node : ℕ) (seat new : Seat) → 1 ≤ node → seat_at w node ≡ Some seat → y.seats ≡ slice_set w.seats (node - 1) new → KeepsOffers w y → y.lives ≡ w.lives
+    → AllStay w.streams y.streams → SeatGoesOn seat new → WorldGoesOn w y
+goes_on_from w y node seat new least here seats offers lives talks goes = record {
+  offers = offers.offers;
+  settled = offers.settled;
+  lives = lives;
+  count = ap (λ (xs : List Seat). length xs) seats ∙ length-set w.seats (node - 1) new;
+  seats = each;
+  streams = talks;
+} where
   each : (n : ℕ) (other : Seat) → seat_at y n ≡ Some other → (before : Seat) × (seat_at w n ≡ Some before) × SeatGoesOn before other
   each n other found = by_node (put_or w.seats node new n other least (subst (λ xs. numbered xs n ≡ Some other) seats found)) where
     by_node : IsPutOr w.seats node new n other → (before : Seat) × (seat_at w n ≡ Some before) × SeatGoesOn before other
@@ -138,7 +153,14 @@ goes_on_from w y node seat new least here seats offers talks goes = record { off
     by_node (inr t) = (other, t.1, seat_still other)
 
 pub world_still : (w : WorldState) → WorldGoesOn w w
-world_still w = record { offers = refl; seats = λ node new found. (new, found, seat_still new); streams = same_stay w.streams w.streams refl }
+world_still w = record {
+  offers = refl;
+  settled = refl;
+  lives = refl;
+  count = refl;
+  seats = λ node new found. (new, found, seat_still new);
+  streams = same_stay w.streams w.streams refl;
+}
 
 -- ---- each of them
 
@@ -147,7 +169,7 @@ module _ (l : Grounds) (s : Setting) where
   others_go_on w e c v r o is others =
       let here : IsHere w v = visits_are_here s w e v is in
       let step : VisitStep v c = subst (λ (x : Option Visit). MayCome x c) is o.comes in
-      goes_on_from w (after_visit s w e v c) v.node v.seat (seat_with v.seat c.after v.seat.agent) here.member.least here.stands (step_seats s w e v c others) (step_offers s w e v c others)
+      goes_on_from w (after_visit s w e v c) v.node v.seat (seat_with v.seat c.after v.seat.agent) here.member.least here.stands (step_seats s w e v c others) (step_offers s w e v c others) (visit_lives s w e v c)
       (step_stays l.ready s w r e v c is (steps_so e others))
       (record {
         life = refl;
@@ -158,27 +180,6 @@ module _ (l : Grounds) (s : Setting) where
       })
 
   -- ---- a drain
-
-  posted_offers : (w : WorldState) (m : Message) (route : Option Route) → (posted w m route).offers ≡ w.offers
-  posted_offers w m None = refl
-  posted_offers w m (Some route) = refl
-
-  sent_offers : (node : ℕ) (seat : Seat) (w : WorldState) (q : Queued) → (having_sent s node seat w q).offers ≡ w.offers
-  sent_offers node seat w (datagram link to m) = posted_offers w m (route_of s node link to)
-  sent_offers node seat w (dial stream to) = refl
-  sent_offers node seat w (send stream m) = refl
-
-  all_sent_offers : (node : ℕ) (seat : Seat) (qs : List Queued) (w : WorldState) → (fold (having_sent s node seat) w qs).offers ≡ w.offers
-  all_sent_offers node seat [] w = refl
-  all_sent_offers node seat (q ∷ qs) w = all_sent_offers node seat qs (having_sent s node seat w q) ∙ sent_offers node seat w q
-
-  all_closed_offers : (node : ℕ) (seat : Seat) (streams : List ℕ) (w : WorldState) → (fold (having_closed node seat) w streams).offers ≡ w.offers
-  all_closed_offers node seat [] w = refl
-  all_closed_offers node seat (stream ∷ streams) w = all_closed_offers node seat streams (having_closed node seat w stream)
-
-  handed_offers : (w : WorldState) (node : ℕ) (seat : Seat) (qs : List Queued) (streams : List ℕ) → (handed_over s w node seat qs streams).offers ≡ w.offers
-  unfolding handed_over
-  handed_offers w node seat qs streams = all_closed_offers node seat streams (fold (having_sent s node seat) w qs) ∙ all_sent_offers node seat qs w
 
   drained_by : (w : WorldState) (node max : ℕ) (o : Option Seat) → IsReached s w → 1 ≤ node → seat_at w node ≡ o → WorldGoesOn w (drained_at s w node max o)
   drained_by w node max None r least here = world_still w
@@ -196,8 +197,9 @@ module _ (l : Grounds) (s : Setting) where
       from : (m : NodeState) → SeatGoesOn seat (seat_with seat (after_drain m max) seat.agent) → WorldGoesOn w (drained_from s w node seat m max)
       from m goes =
           let put = with_seat w node (seat_with seat (after_drain m max) seat.agent) in
+          let offers = handed_offers s put node seat (take max m.queue) (closes m max) in
           goes_on_from w (drained_from s w node seat m max) node seat (seat_with seat (after_drain m max) seat.agent) least here (sending_keeps_nodes s put node seat (take max m.queue) (closes m max))
-          (handed_offers put node seat (take max m.queue) (closes m max)) (handed_stay s put node seat (take max m.queue) (closes m max)) goes
+          (record { offers = offers.offers; settled = offers.settled }) (handed_lives s put node seat (take max m.queue) (closes m max)) (handed_stay s put node seat (take max m.queue) (closes m max)) goes
 
   pub drains_go_on : (w : WorldState) (node max : ℕ) → IsReached s w → 1 ≤ node → WorldGoesOn w (network.drained s w node max)
   unfolding network.drained

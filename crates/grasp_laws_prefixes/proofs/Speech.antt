@@ -12,7 +12,7 @@ use Rattle.grasp_types.specs.Prefix.{AddressBlock as Prefix}
 use Rattle.grasp_types.specs.declared.message.Message.{Message}
 use Rattle.grasp_types.specs.declared.message.Message.TheVariants.{ReqNeg, ReqSyn, Negotiate, Wait, End, Invalid}
 use Rattle.grasp_types.specs.declared.objective.Objective.{Objective}
-use Rattle.grasp_laws_network.specs.Authorities.{has_accepted}
+use Rattle.grasp_model_network.specs.Accepting.{has_accepted}
 use Rattle.grasp_laws_agents.proofs.GoingOn.{trails_offered}
 use Rattle.grasp_laws_agents.specs.Giving.{IsOpenOffer, IsDeciding, offered_by}
 

@@ -5,7 +5,7 @@ use Rattle.std.proofs.lemmas.Option.{same_Some}
 use Rattle.std.specs.List.{list_any}
 use Rattle.grasp_agent.specs.Calls.{objective_name}
 use Rattle.grasp_session.specs.Conversation.{Said, strip, requested, spoken}
-use Rattle.grasp_session.specs.Laws.{IsView, IsSilent, SilentUnseen}
+use Rattle.grasp_session.specs.Laws.{IsView, IsSilent}
 use Rattle.grasp_session.specs.Made.{AreFresh}
 use Rattle.grasp_session.specs.Messages.{Side, other, is_side, is_acceptance}
 use Rattle.grasp_session.specs.Runs.{WasMade}
@@ -15,7 +15,8 @@ use Rattle.grasp_session.specs.Transcript.{request_of}
 use Rattle.grasp_types.specs.declared.message.Message.{Message}
 use Rattle.grasp_types.specs.declared.objective.Objective.{Objective}
 use Rattle.grasp_types.specs.declared.session.Kind.TheVariants.{Negotiation}
-use Rattle.grasp_laws_network.specs.Authorities.{IsOpenTalk, has_accepted, is_accepted, is_return, offering_by, offering_side}
+use Rattle.grasp_laws_network.specs.Authorities.{IsOpenTalk}
+use Rattle.grasp_model_network.specs.Accepting.{has_accepted, is_accepted, is_return, offering_by, offering_side}
 use Rattle.grasp_model_network.specs.Runs.{IsReached}
 use Rattle.grasp_model_network.specs.Setting.{Setting}
 use Rattle.grasp_model_network.specs.Streams.{StreamEnd, StreamState, end_at}
@@ -26,13 +27,13 @@ use Rattle.grasp_laws_agents.specs.Giving.{IsOffering}
 use Rattle.grasp_laws_agents.specs.GoingOn.{OnlyHeard}
 use Rattle.grasp_laws_negotiation.specs.Streams.{HasItsStream}
 use Rattle.grasp_laws_delivery.proofs.Worlds.{reached_in_order}
-use Rattle.grasp_laws_negotiation.specs.Negotiations.{IsNegotiation, IsTalk, NegotiationsAreTalks}
+use Rattle.grasp_laws_negotiation.specs.Negotiations.{IsNegotiation, IsTalk}
 use Rattle.grasp_laws_prefixes.proofs.OwnSessions.{IsSessionAt, session_there, IsTalkOf, talk_of, end_with}
 use Rattle.grasp_laws_prefixes.proofs.Places.{end_stays, same_place}
 use Rattle.grasp_laws_prefixes.proofs.Speech.{same_requested}
-use Rattle.grasp_laws_prefixes.proofs.Standing.{IsEndAt, Stays, AllStay}
+use Rattle.grasp_laws_prefixes.proofs.Standing.{IsEndAt, Stays, AllStay, WorldGoesOn}
 use Rattle.grasp_laws_prefixes.specs.Grounds.{Grounds}
-use Rattle.grasp_laws_prefixes.proofs.Speaking.{HasAccepted, accepts, fresh_accepts}
+use Rattle.grasp_laws_prefixes.proofs.Speaking.{HasAccepted, accepts, accepted_back, fresh_accepts}
 
 -- ---- what a side has said
 
@@ -111,7 +112,20 @@ pub record AcceptedBy (w : WorldState) (side : Side) (t : StreamState) : Type 0 
   pub ends : end_at t side ≡ Some (end_of node seat stream)
   pub accepted : HasAccepted seat.core.sessions side stream
 
-module _ (l : Grounds) (talks : NegotiationsAreTalks) (unseen : SilentUnseen) (s : Setting) (w : WorldState) (r : IsReached s w) (place : ℕ) (t : StreamState) (stands : slice_get w.streams place ≡ Some t)
+-- where no agent did anything, one that has accepted had so before
+pub quiet_accepted : (w y : WorldState) → WorldGoesOn w y → (side : Side) (u : StreamState) → AcceptedBy y side u → AcceptedBy w side u
+quiet_accepted w y g side u a =
+    let b = g.seats a.node a.seat a.here in
+    record {
+      node = a.node;
+      seat = b.0;
+      here = b.1;
+      stream = a.stream;
+      ends = a.ends ∙ ap (λ n. Some (end_with a.node n a.stream)) b.2.life;
+      accepted = accepted_back b.0.core.sessions a.seat.core.sessions b.2.sessions side a.stream a.accepted;
+    }
+
+module _ (l : Grounds) (s : Setting) (w : WorldState) (r : IsReached s w) (place : ℕ) (t : StreamState) (stands : slice_get w.streams place ≡ Some t)
     (negotiation : IsNegotiation t) (name : (requested (strip t.said)).name ≡ objective_name) (side : Side) (accepted : has_accepted side t.said ≡ true) where
   says_it : list_any is_acceptance (spoken side t.said) ≡ true
   says_it = sym (spoken_accepts side t.said) ∙ accepted
@@ -172,25 +186,25 @@ module _ (l : Grounds) (talks : NegotiationsAreTalks) (unseen : SilentUnseen) (s
   by_end None at h = absurd (by_ended (has_ended side t.said) h)
   by_end (Some e) at h = by_found e at (session_of_end w (Some e)) refl h
 
-  accepted_by : AcceptedBy w side t
-  accepted_by = from (talks s w r place t stands negotiation) where
+  pub accepted_by : AcceptedBy w side t
+  accepted_by = from (l.negotiations s w r place t stands negotiation) where
     from : IsTalk w t → AcceptedBy w side t
     from k =
         by_end (end_at t side) refl
-        (subst (λ g. IsSilent side t.said g) (k.stages side) (subst (λ (c : List Said). IsSilent side c (party k.talk side).stage) k.said (unseen k.talk k.reached side)))
+        (subst (λ g. IsSilent side t.said g) (k.stages side) (subst (λ (c : List Said). IsSilent side c (party k.talk side).stage) k.said (l.unseen k.talk k.reached side)))
 
 -- ---- where nobody accepts
 
 -- the offer of a stream may be accepted still, or a session of agent 1 has accepted it
-pub open_or : (l : Grounds) (talks : NegotiationsAreTalks) (unseen : SilentUnseen) (s : Setting) (y : WorldState) → IsReached s y → (place : ℕ) (side : Side) (z : SessionState) → (now : GivesAt y place side z)
+pub open_or : (l : Grounds) (s : Setting) (y : WorldState) → IsReached s y → (place : ℕ) (side : Side) (z : SessionState) → (now : GivesAt y place side z)
     → IsOpenTalk y.streams place ⊎ AcceptedBy y (other side) now.talk
-open_or l talks unseen s y q place side z now = by_test (is_accepted now.talk) refl where
+open_or l s y q place side z now = by_test (is_accepted now.talk) refl where
   by_test : (b : Bool) → is_accepted now.talk ≡ b → IsOpenTalk y.streams place ⊎ AcceptedBy y (other side) now.talk
   by_test false is = inl (record { talk = now.talk; here = now.stands; open_still = is })
   by_test true is =
-      inr (accepted_by l talks unseen s y q place now.talk now.stands now.negotiation now.name (other side) (ap (λ k. has_accepted (other k) now.talk.said) (sym now.offering) ∙ is))
+      inr (accepted_by l s y q place now.talk now.stands now.negotiation now.name (other side) (ap (λ k. has_accepted (other k) now.talk.said) (sym now.offering) ∙ is))
 
-module _ (l : Grounds) (talks : NegotiationsAreTalks) (unseen : SilentUnseen) (s : Setting) (w y : WorldState) (r : IsReached s w) (q : IsReached s y) (stay : AllStay w.streams y.streams) where
+module _ (l : Grounds) (s : Setting) (w y : WorldState) (r : IsReached s w) (q : IsReached s y) (stay : AllStay w.streams y.streams) where
   -- the stream at this place, where a session of agent 1 had accepted at this side of it, was at this place
   pub stream_was : (place : ℕ) (u : StreamState) → slice_get y.streams place ≡ Some u → (side : Side) → (a : AcceptedBy w side u)
       → (k : HasItsStream w a.node a.seat a.accepted.session) × (k.side ≡ side) × (k.place ≡ place)
@@ -205,7 +219,7 @@ module _ (l : Grounds) (talks : NegotiationsAreTalks) (unseen : SilentUnseen) (s
         )
 
   -- and there the side had accepted
-  side_accepted : (place : ℕ) (t u : StreamState) → slice_get w.streams place ≡ Some t → IsNegotiation t → slice_get y.streams place ≡ Some u → (side : Side) → AcceptedBy w side u → has_accepted side t.said ≡ true
+  pub side_accepted : (place : ℕ) (t u : StreamState) → slice_get w.streams place ≡ Some t → IsNegotiation t → slice_get y.streams place ≡ Some u → (side : Side) → AcceptedBy w side u → has_accepted side t.said ≡ true
   side_accepted place t u stands negotiation now side a =
       let k = stream_was place u now side a in
       let same : k.0.talk ≡ t = same_Some k.0.talk t (sym k.0.stands ∙ (ap (λ n. slice_get w.streams n) k.2 ∙ stands)) in
@@ -217,7 +231,7 @@ module _ (l : Grounds) (talks : NegotiationsAreTalks) (unseen : SilentUnseen) (s
   -- a stream on which the taking side hadn't accepted: it hasn't still, where a session that has accepted had so before
   pub open_on : {T : Type 0} (place : ℕ) (side : Side) (x z : SessionState) → GivesAt w place side x → (now : GivesAt y place side z) → IsOpenTalk w.streams place
       → (AcceptedBy y (other side) now.talk → AcceptedBy w (other side) now.talk ⊎ T) → IsOpenTalk y.streams place ⊎ T
-  open_on {T} place side x z before now is_open step = by_case (open_or l talks unseen s y q place side z now) where
+  open_on {T} place side x z before now is_open step = by_case (open_or l s y q place side z now) where
     was_open : has_accepted (other side) before.talk.said ≡ false
     was_open =
         ap (λ k. has_accepted (other k) before.talk.said) (sym before.offering)

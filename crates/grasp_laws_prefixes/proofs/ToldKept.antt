@@ -8,7 +8,6 @@ use Rattle.grasp_agent.specs.States.{AgentState, unsent_of}
 use Rattle.grasp_agent.specs.declared.back.Return.{Return}
 use Rattle.grasp_agent.specs.declared.giving.Giving.{Giving}
 use Rattle.grasp_pool.specs.Holdings.{IsFree}
-use Rattle.grasp_session.specs.Laws.{SilentUnseen}
 use Rattle.grasp_session.specs.Runs.{WasMade}
 use Rattle.grasp_types.specs.Prefix.{AddressBlock as Prefix, span_of}
 use Rattle.grasp_types.specs.declared.session.Handle.{Handle}
@@ -24,18 +23,18 @@ use Rattle.grasp_model_network.specs.Streams.{StreamState}
 use Rattle.grasp_model_network.specs.World.{Seat, Offered, WorldState, seat_at, life_of}
 use Rattle.grasp_model_network.specs.declared.event.Event.{Event}
 use Rattle.grasp_laws_agents.specs.Giving.{OffersIn, in_entry, in_return}
-use Rattle.grasp_laws_negotiation.specs.Negotiations.{NegotiationsAreTalks}
 use Rattle.grasp_laws_prefixes.proofs.AgentPools.{span_tells}
 use Rattle.grasp_laws_prefixes.proofs.EntryOffers.{not_requested}
-use Rattle.grasp_laws_prefixes.proofs.Keeping.{GivesIt, by_offer, in_doubt, IsGivenAt, IsGiven, IsUnsentAt, IsKeptIn, gives_listed, seat_there, same_heard, quiet_kept}
+use Rattle.grasp_laws_prefixes.proofs.Keeping.{GivesIt, by_offer, in_doubt, IsGivenAt, IsGiven, IsUnsentAt, IsKeptIn, gives_listed, same_heard, quiet_kept}
 use Rattle.grasp_laws_prefixes.proofs.Listing.{no_offer_of, put_keeps}
-use Rattle.grasp_laws_prefixes.proofs.Networks.{same_said}
-use Rattle.grasp_laws_prefixes.proofs.OneNode.{each_node}
+use Rattle.grasp_laws_prefixes.proofs.Networks.{told_happens}
+use Rattle.grasp_laws_prefixes.proofs.OneNode.{each_node, seat_there}
 use Rattle.grasp_laws_prefixes.proofs.Places.{same_stay}
 use Rattle.grasp_laws_prefixes.proofs.Returned.{Takes, told_by}
-use Rattle.grasp_laws_prefixes.proofs.Standing.{offer_on, WorldGoesOn}
+use Rattle.grasp_laws_prefixes.proofs.Standing.{WorldGoesOn}
 use Rattle.grasp_laws_prefixes.proofs.Talking.{giver_on}
 use Rattle.grasp_laws_prefixes.specs.Grounds.{Grounds}
+use Rattle.grasp_laws_prefixes.specs.Apart.{offer_on}
 
 -- ---- an agent that has a return keeps it, whatever it is told
 
@@ -134,8 +133,8 @@ module _ (l : Grounds) (s : Setting) (w y : WorldState) (r : IsReached s w) (e :
   taken_kept a (inr (inl h)) = given_taken a h
   taken_kept a (inr (inr u)) = unsent_taken a u
 
-pub told_kept : (l : Grounds) → NegotiationsAreTalks → SilentUnseen → (s : Setting) (w y : WorldState) (e : Event) → IsReached s w → Tells s w e y → (a : ℕ) → IsKeptIn w a → IsKeptIn y a
-told_kept l talks unseen s w y e r t a = by_case (told_by l s w r e y t) where
+pub told_kept : (l : Grounds) (s : Setting) (w y : WorldState) (e : Event) → IsReached s w → Tells s w e y → (a : ℕ) → IsKeptIn w a → IsKeptIn y a
+told_kept l s w y e r t a = by_case (told_by l s w r e y t) where
   by_case : WorldGoesOn w y ⊎ Takes w y → IsKeptIn w a → IsKeptIn y a
-  by_case (inl g) = quiet_kept l talks unseen s w y r g (one_same w y (one_agent s w e y t)) (inr (same_said w y (ap (λ (z : WorldState). z.streams) t.after))) a
+  by_case (inl g) = quiet_kept l s w y r g (inr (told_happens s w y e t)) a
   by_case (inr g) = taken_kept l s w y r e t g a

@@ -1,5 +1,5 @@
 -- In whose hand the addresses of the roots of a network are (RFC 8992, sections 4.1 and 4.2).
-use Rattle.std.specs.Prelude.{◌≡◌, ◌⊎◌, ◌↔◌, ℕ, All, List, Some}
+use Rattle.std.specs.Prelude.{◌≡◌, ◌⊎◌, ◌↔◌, ℕ, All, List, Some, length}
 use Rattle.grasp_laws_network.specs.Authorities.{Holds, IsAuthority}
 use Rattle.grasp_model_network.specs.GoodSetting.{IsGoodSetting}
 use Rattle.grasp_model_network.specs.Runs.{Happening, IsRun, IsReached, first_world, worlds_from}
@@ -36,17 +36,17 @@ FirstHoldings = (s : Setting) → IsGoodSetting s → (node a : ℕ) → Holds (
 abbrev pub AllAreInHand : Setting → WorldState → Type 0
 AllAreInHand s w = (a : ℕ) → IsRoot s a → IsInHand w a
 
--- in every network that events lead to each address of a root is held, or lies in an offer that may still be accepted; and in each
--- network of a run
+-- in every network that turns lead to, and in which no node has begun anew, each address of a root is held, or lies in an offer that may still
+-- be accepted; and so in each network of a run. An image by which a node begins anew may have fewer addresses
 pub record NothingIsLost : Type 0 where
-  pub reached : (s : Setting) (w : WorldState) → IsReached s w → AllAreInHand s w
+  pub reached : (s : Setting) (w : WorldState) → IsReached s w → length w.seats ≡ length s.members → AllAreInHand s w
   pub run : (s : Setting) (hs : List Happening) → IsGoodSetting s → IsRun s (first_world s) hs → All (AllAreInHand s) (worlds_from s (first_world s) hs)
 
 -- what is in hand is an address of a root
 abbrev pub NoneIsNew : Setting → WorldState → Type 0
 NoneIsNew s w = (a : ℕ) → IsInHand w a → IsRoot s a
 
--- in every network that events lead to, and in each network of a run
+-- in every network that turns lead to, and in each network of a run
 pub record NothingAppears : Type 0 where
   pub reached : (s : Setting) (w : WorldState) → IsReached s w → NoneIsNew s w
   pub run : (s : Setting) (hs : List Happening) → IsGoodSetting s → IsRun s (first_world s) hs → All (NoneIsNew s) (worlds_from s (first_world s) hs)

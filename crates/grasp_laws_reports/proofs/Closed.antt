@@ -6,6 +6,8 @@ use Rattle.grasp_agent.specs.Replies.{after_reply}
 use Rattle.grasp_session.specs.Messages.{Side, Near, Far}
 use Rattle.grasp_types.specs.declared.reply.Reply.{Reply}
 use Rattle.grasp_laws_network.proofs.Telling.{none_one}
+use Rattle.grasp_laws_network.proofs.Turning.{settle_one, restart_by}
+use Rattle.grasp_laws_network.specs.Telling.{OneAgent}
 use Rattle.grasp_model_network.specs.EventSteps.{after_agent_call, after_agent, after_arrival, after_clock, after_cut, after_delivery, after_piece}
 use Rattle.grasp_model_network.specs.StreamChanges.{arrived, arrival_by, told, Reached, reached_at, reached_in, reached_side, side_named, delivered}
 use Rattle.grasp_model_network.specs.Events.{visit_of, after_visit, after_by, after_event, drains, drained_behind}
@@ -14,18 +16,21 @@ use Rattle.grasp_model_network.specs.Runs.{IsReached}
 use Rattle.grasp_model_network.specs.Sending.{event_drain}
 use Rattle.grasp_model_network.specs.Setting.{Setting}
 use Rattle.grasp_model_network.specs.Streams.{StreamEnd, Arrival, StreamState, told_closed, is_reached, is_waiting, end_at, side_at, stream_numbered, change_at_end, with_delivered, with_far}
+use Rattle.grasp_model_network.specs.Turns.{after_turn}
 use Rattle.grasp_model_network.specs.Visits.{Visit, Choice}
-use Rattle.grasp_model_network.specs.World.{WorldState, end_of}
+use Rattle.grasp_model_network.specs.World.{WorldState, present_life, end_of}
 use Rattle.grasp_model_network.specs.declared.event.Event.{Event}
 use Rattle.grasp_model_network.specs.declared.event.Event.TheVariants as event
+use Rattle.grasp_model_network.specs.declared.turn.Turn.{Turn}
+use Rattle.grasp_model_network.specs.declared.turn.Turn.TheVariants as turn
 use Rattle.grasp_laws_delivery.proofs.FromReady.{distinct}
 use Rattle.grasp_laws_delivery.proofs.Heard.Steps.{IsReachedSide, reached_is}
 use Rattle.grasp_laws_delivery.proofs.OnePlace.{Placed, has_it, numbered_place, one_talk}
 use Rattle.grasp_laws_delivery.proofs.Sides.{one_side}
 use Rattle.grasp_laws_delivery.proofs.Inputs.{Arrives, arrives}
 use Rattle.grasp_laws_delivery.specs.Ready.{StreamsAreReady}
-use Rattle.grasp_laws_reports.proofs.Closing.{StreamsStay, same_stay, stay_then, change_stays, told_stay, stepped_stay, drained_stay}
-use Rattle.grasp_laws_reports.specs.Laws.{CutsAreFinal}
+use Rattle.grasp_laws_reports.proofs.Closing.{StreamsStay, same_stay, stay_then, change_stays, told_stay, restart_stays, stepped_stay, drained_stay}
+use Rattle.grasp_laws_reports.specs.Laws.{CutsAreFinal, CutsAreFinalOverTurns}
 use Rattle.grasp_laws_reports.specs.Outcomes.{StaysClosed}
 
 -- ---- a side that an event reaches lives
@@ -54,6 +59,10 @@ delivered_elsewhere count t Far Far apart e = absurd (apart refl)
 opened_elsewhere : (far : StreamEnd) (a : Arrival) (t : StreamState) (by side : Side) → side ≢ Far → side_at t side ≡ told_closed → StaysClosed side t (with_far far a t by)
 opened_elsewhere far a t by Near apart e = record { closed = e; end = refl; delivered = refl }
 opened_elsewhere far a t by Far apart e = absurd (apart refl)
+
+-- another agent changes no stream
+one_stays : (w x : WorldState) → OneAgent w x → StreamsStay w.streams x.streams
+one_stays w x o = subst (λ (y : WorldState). StreamsStay w.streams y.streams) (sym o.after) (same_stay w.streams)
 
 module _ (ready : StreamsAreReady) (s : Setting) (w : WorldState) (r : IsReached s w) where
   delivered_stay : (k : ℕ) (to : Side) (count : ℕ) (x : Reached) → reached_side w k to ≡ Some x → StreamsStay w.streams (change_at_end w.streams x.at (with_delivered count))
@@ -130,7 +139,7 @@ module _ (ready : StreamsAreReady) (s : Setting) (w : WorldState) (r : IsReached
   behind_stay false x node = same_stay x.streams
 
   by_stay : (e : Event) (c : Choice) (o : Option Visit) → visit_of s w e ≡ o → StreamsStay w.streams (after_by s w e c o).streams
-  by_stay e c None is = none_one s w e (λ x. StreamsStay w.streams x.streams) (same_stay w.streams) (λ x o. subst (λ (y : WorldState). StreamsStay w.streams y.streams) (sym o.after) (same_stay w.streams))
+  by_stay e c None is = none_one s w e (λ x. StreamsStay w.streams x.streams) (same_stay w.streams) (one_stays w)
   by_stay e c (Some v) is =
       stay_then w.streams (after_visit s w e v c).streams (drained_behind (drains e) s (after_visit s w e v c) v.node).streams (visit_stay e v c is)
       (behind_stay (drains e) (after_visit s w e v c) v.node)
@@ -141,3 +150,14 @@ module _ (ready : StreamsAreReady) (s : Setting) (w : WorldState) (r : IsReached
 
 pub cuts_are_final : StreamsAreReady → CutsAreFinal
 cuts_are_final ready s w r e c place side t found closed = (event_stay ready s w r e c).each place side t found closed
+
+-- ---- the other turns
+
+turn_stays : StreamsAreReady → (s : Setting) (w : WorldState) → IsReached s w → (t : Turn) (c : Choice) → StreamsStay w.streams (after_turn s w t c).streams
+turn_stays ready s w r (turn.Event e) c = event_stay ready s w r e c
+turn_stays ready s w r (turn.Settle node p) c = settle_one w node p (λ x. StreamsStay w.streams x.streams) (same_stay w.streams) (one_stays w)
+turn_stays ready s w r (turn.Restart node image) c =
+    restart_by s w node image (λ x. StreamsStay w.streams x.streams) (same_stay w.streams) (λ seat m here found. restart_stays s node (present_life w node) w.streams)
+
+pub cuts_are_final_over_turns : StreamsAreReady → CutsAreFinalOverTurns
+cuts_are_final_over_turns ready s w r it c place side t found closed = (turn_stays ready s w r it c).each place side t found closed

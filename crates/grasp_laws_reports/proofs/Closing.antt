@@ -1,5 +1,5 @@
 -- Changes of streams that leave each closed side as it is.
-use Rattle.std.proofs.Common.{◌≡◌, refl, ◌∙◌, ℕ, ◌+◌, true, List, [], ◌∷◌, ◌++◌, fold, take, Option, Some, None, slice_get}
+use Rattle.std.proofs.Common.{◌≡◌, refl, ◌∙◌, ℕ, ◌+◌, true, List, [], ◌∷◌, ◌++◌, fold, map, take, Option, Some, None, slice_get}
 use Rattle.grasp_agent.specs.States.{AgentState}
 use Rattle.grasp_model_node.specs.Begin.{begin}
 use Rattle.grasp_model_node.specs.Draining.{closes, after_drain}
@@ -7,13 +7,16 @@ use Rattle.grasp_model_node.specs.Node.{NodeState}
 use Rattle.grasp_model_node.specs.Queue.{Queued, datagram, dial, send}
 use Rattle.grasp_session.specs.Messages.{Side, Near, Far}
 use Rattle.grasp_types.specs.declared.message.Message.{Message}
+use Rattle.grasp_laws_network.proofs.Lists.{slice_map}
+use Rattle.grasp_model_network.specs.Restarting.{told_at}
 use Rattle.grasp_model_network.specs.Routes.{Route, route_of}
 use Rattle.grasp_model_network.specs.Sending.{gained, having_made, streams_made, seat_with, stepped, posted, having_sent, having_closed, handed_over, drained, drained_at, drained_from}
 use Rattle.grasp_model_network.specs.Setting.{Setting}
 use Rattle.grasp_model_network.specs.Streams.{StreamEnd, Direction, StreamState, told_closed, fresh_stream, end_at, side_at, sent_by, with_direction, with_side, with_said, with_sent, with_ended, with_number, at_end, change_at_end}
 use Rattle.grasp_model_network.specs.Visits.{Visit}
-use Rattle.grasp_model_network.specs.World.{Seat, WorldState, seat_at, with_seat, end_of}
+use Rattle.grasp_model_network.specs.World.{Seat, WorldState, member_of, seat_at, with_seat, end_of}
 use Rattle.grasp_laws_delivery.proofs.Sides.{at_end_has, place_changed, place_kept}
+use Rattle.grasp_laws_delivery.proofs.Turned.{told_by}
 use Rattle.grasp_laws_reports.specs.Outcomes.{StaysClosed}
 
 -- ---- one stream
@@ -48,7 +51,7 @@ number_leaves : (k : ℕ) → LeavesClosed (with_number k)
 number_leaves k t by Near e = record { closed = e; end = refl; delivered = refl }
 number_leaves k t by Far e = record { closed = e; end = refl; delivered = refl }
 
-pub told_leaves : LeavesClosed (with_side told_closed)
+told_leaves : LeavesClosed (with_side told_closed)
 told_leaves t Near Near e = record { closed = refl; end = refl; delivered = refl }
 told_leaves t Near Far e = record { closed = e; end = refl; delivered = refl }
 told_leaves t Far Near e = record { closed = e; end = refl; delivered = refl }
@@ -88,6 +91,16 @@ leaving_stays ts e f leaves = change_stays ts e f (λ place t by side is at clos
 pub told_stay : (ts : List StreamState) (e : StreamEnd) → StreamsStay ts (change_at_end ts e (with_side told_closed))
 told_stay ts e = leaving_stays ts e (with_side told_closed) told_leaves
 
+-- the sides of a life that ends are told
+pub restart_stays : (s : Setting) (node life : ℕ) (ts : List StreamState) → StreamsStay ts (map (told_at s node life) ts)
+restart_stays s node life ts = record {
+  each = λ place side t is closed. (
+    told_at s node life t,
+    slice_map (told_at s node life) ts place t is,
+    told_by (λ u. StaysClosed side t u) (λ u by k. closed_then side t u (with_side told_closed u by) k (told_leaves u by side k.closed)) s node life t (same_closed side t closed),
+  );
+}
+
 more_stay : (ts more : List StreamState) → StreamsStay ts (ts ++ more)
 more_stay ts more = record { each = λ place side t is e. (t, place_kept ts more place t is, same_closed side t e) }
 
@@ -116,7 +129,7 @@ posted_stay w m None = same_stay w.streams
 posted_stay w m (Some route) = same_stay w.streams
 
 sent_stay : (s : Setting) (node : ℕ) (seat : Seat) (w : WorldState) (q : Queued) → StreamsStay w.streams (having_sent s node seat w q).streams
-sent_stay s node seat w (datagram link to m) = posted_stay w m (route_of s node link to)
+sent_stay s node seat w (datagram link to m) = posted_stay w m (route_of s (member_of w node) link to)
 sent_stay s node seat w (dial stream to) = leaving_stays w.streams (end_of node seat stream) (with_number (w.dials + 1)) (number_leaves (w.dials + 1))
 sent_stay s node seat w (send stream m) = leaving_stays w.streams (end_of node seat stream) (with_sent m) (sent_leaves m)
 

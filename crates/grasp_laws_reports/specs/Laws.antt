@@ -1,4 +1,4 @@
--- What every network that events lead to holds to: what polls tell, readings, and closed streams; and what the words of an agreement tell.
+-- What every network that turns lead to holds to: what polls tell, readings, and closed streams; and what the words of an agreement tell.
 use Rattle.std.specs.Prelude.{◌≡◌, ◌≤◌, ℕ, List, ◌∷◌, Ok, Some, codes, slice_get}
 use Rattle.grasp_model_node.specs.Begin.{begin}
 use Rattle.grasp_model_node.specs.SessionCalls.{MayPollNode}
@@ -20,10 +20,12 @@ use Rattle.grasp_model_network.specs.Reports.{report_of}
 use Rattle.grasp_model_network.specs.Runs.{Happening, IsReached, IsRun, world_after}
 use Rattle.grasp_model_network.specs.Setting.{Setting}
 use Rattle.grasp_model_network.specs.Streams.{StreamState, told_closed, side_at}
+use Rattle.grasp_model_network.specs.Turns.{TakenTurn, AreTurns, after_turn, world_turned}
 use Rattle.grasp_model_network.specs.Visits.{Visit, Choice}
 use Rattle.grasp_model_network.specs.World.{Seat, WorldState, seat_at}
 use Rattle.grasp_model_network.specs.declared.event.Event.{Event}
 use Rattle.grasp_model_network.specs.declared.report.Report.{Report}
+use Rattle.grasp_model_network.specs.declared.turn.Turn.{Turn}
 use Rattle.grasp_script.specs.Answers.{by_word, reply_words}
 use Rattle.grasp_script.specs.Reports.{report_words}
 use Rattle.grasp_laws_reports.specs.Outcomes.{TellsAgreement, TellsOutcome, IsOver, WasTold, StaysClosed, reply_in}
@@ -44,6 +46,17 @@ abbrev pub OutcomesAreToldOnce : Type 0
 OutcomesAreToldOnce = (s : Setting) (w : WorldState) → IsReached s w → (e : Event) (c : Choice) (v : Visit) (asa : ℕ) (h : Handle) (o : Outcome)
     → TellsOutcome s w e c v asa h o → (told : WasTold v.seat.core c.after v.now asa h o) → StaysTold s (after_event s w e c) v h told.session
 
+-- whatever turns are taken after, it is so too
+pub record StaysToldOverTurns (s : Setting) (w : WorldState) (v : Visit) (h : Handle) (x : SessionState) : Type 0 where
+  pub over : (ts : List TakenTurn) (seat : Seat) → AreTurns s w ts → seat_at (world_turned s w ts) v.node ≡ Some seat → IsOver seat.core.sessions h x
+  pub unanswered : (ts : List TakenTurn) (seat : Seat) (now asa : ℕ) (a : ApiAnswer) → AreTurns s w ts → seat_at (world_turned s w ts) v.node ≡ Some seat
+      → ¬ MayPollNode (begin seat.core now) asa h (Ok a)
+
+-- an outcome that an agent is told is told no more in its life, whatever is settled and whoever begins anew
+abbrev pub OutcomesAreToldOnceOverTurns : Type 0
+OutcomesAreToldOnceOverTurns = (s : Setting) (w : WorldState) → IsReached s w → (e : Event) (c : Choice) (v : Visit) (asa : ℕ) (h : Handle) (o : Outcome)
+    → TellsOutcome s w e c v asa h o → (told : WasTold v.seat.core c.after v.now asa h o) → StaysToldOverTurns s (after_event s w e c) v h told.session
+
 -- no event lowers a node's reading
 abbrev pub ReadingsNeverFall : Type 0
 ReadingsNeverFall = (s : Setting) (w : WorldState) (e : Event) (c : Choice) → Occurs s w e c
@@ -54,6 +67,12 @@ abbrev pub CutsAreFinal : Type 0
 CutsAreFinal = (s : Setting) (w : WorldState) → IsReached s w → (e : Event) (c : Choice) → (place : ℕ) (side : Side) (t : StreamState)
     → slice_get w.streams place ≡ Some t → side_at t side ≡ told_closed
     → (u : StreamState) × (slice_get (after_event s w e c).streams place ≡ Some u) × StaysClosed side t u
+
+-- and so whatever turn is taken
+abbrev pub CutsAreFinalOverTurns : Type 0
+CutsAreFinalOverTurns = (s : Setting) (w : WorldState) → IsReached s w → (turn : Turn) (c : Choice) → (place : ℕ) (side : Side) (t : StreamState)
+    → slice_get w.streams place ≡ Some t → side_at t side ≡ told_closed
+    → (u : StreamState) × (slice_get (after_turn s w turn c).streams place ≡ Some u) × StaysClosed side t u
 
 -- words that begin with `ended agreed` and whose doing it was are those of a session that came to this agreement, whether of a reply or
 -- of a report

@@ -1,6 +1,15 @@
 //! What polls tell, readings, closed streams, and the words of an agreement. They say nothing at run time.
 
-ghost use Rattle.grasp_laws_reports.specs.Laws.{AgreedReportsTell, AgreedWordsTell, CutsAreFinal, OutcomesAreToldOnce, PollsTellOutcomes, ReadingsNeverFall};
+ghost use Rattle.grasp_laws_reports.specs.Laws.{
+  AgreedReportsTell,
+  AgreedWordsTell,
+  CutsAreFinal,
+  CutsAreFinalOverTurns,
+  OutcomesAreToldOnce,
+  OutcomesAreToldOnceOverTurns,
+  PollsTellOutcomes,
+  ReadingsNeverFall,
+};
 
 use grasp_laws_delivery::streams_are_ready;
 use grasp_laws_node::poll_means;
@@ -19,6 +28,13 @@ pub fn outcomes_are_told_once()
     poll_means();
 }
 
+/// Nor is the outcome told again in that life where prefixes are settled and nodes begin anew.
+pub fn outcomes_are_told_once_over_turns()
+    ensures { OutcomesAreToldOnceOverTurns }
+{
+    poll_means();
+}
+
 /// Whatever happens, the reading of a node never falls.
 pub fn readings_never_fall()
     ensures { ReadingsNeverFall }
@@ -27,6 +43,13 @@ pub fn readings_never_fall()
 /// A side that was told that its stream is closed stays so, isn't opened, and is delivered nothing more.
 pub fn cuts_are_final()
     ensures { CutsAreFinal }
+{
+    streams_are_ready();
+}
+
+/// So it is where a prefix is settled, and where a node begins anew.
+pub fn cuts_are_final_over_turns()
+    ensures { CutsAreFinalOverTurns }
 {
     streams_are_ready();
 }

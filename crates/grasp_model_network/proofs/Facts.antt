@@ -4,15 +4,17 @@ use Rattle.std.proofs.lemmas.List.Elements.{All-head, All-tail}
 use Rattle.std.proofs.lemmas.Option.{none-some, same_Some}
 use Rattle.grasp_model_network.specs.EventSteps.{agent_seat, agent_input}
 use Rattle.grasp_model_network.specs.GoodSetting.{IsGoodSetting}
-use Rattle.grasp_model_network.specs.Runs.{IsReached, first_world, IsRun, world_after, first_seat, answered_seat}
+use Rattle.grasp_model_network.specs.Runs.{IsReached, first_world}
+use Rattle.grasp_model_network.specs.Openings.{opened_seat, first_seat, answered_seat}
 use Rattle.grasp_model_network.specs.Setting.{Setting, numbered, Member}
+use Rattle.grasp_model_network.specs.Turns.{AreTurns, world_turned}
 use Rattle.grasp_model_network.specs.Visits.{Visit}
 use Rattle.grasp_model_network.specs.World.{Seat}
 
 -- the first world of a good setting is reached
 pub first_reached : (s : Setting) → IsGoodSetting s → IsReached s (first_world s)
-unfolding IsRun world_after
-first_reached s good = record { good = good; happenings = []; run = tt; last = refl }
+unfolding AreTurns world_turned
+first_reached s good = record { good = good; turns = []; run = tt; last = refl }
 
 -- an agent's visit has the agent's input
 pub agent_given : (node : ℕ) (v : Visit) (o : Option Seat) → agent_seat node o ≡ Some v → v.input ≡ agent_input v.seat.agent
@@ -35,5 +37,5 @@ numbered_all P xs n x all e = by_zero (n == 0) e where
 
 -- a member's first seat has had none before
 pub first_life : (m : Member) → (first_seat m).earlier ≡ []
-unfolding first_seat answered_seat
+unfolding opened_seat answered_seat
 first_life m = refl

@@ -4,9 +4,9 @@ use Rattle.grasp_session.specs.Messages.{Side, other}
 use Rattle.grasp_model_network.specs.Sending.{stepped, gained}
 use Rattle.grasp_model_network.specs.Streams.{StreamState, next_bytes, stream_numbered, is_waiting}
 use Rattle.grasp_model_network.specs.Visits.{Visit, Choice, visit, visit_seat}
-use Rattle.grasp_model_network.specs.World.{WorldState, SentDatagram, DiscoveryAnswer, Seat, seat_at}
+use Rattle.grasp_model_network.specs.World.{WorldState, SentDatagram, DiscoveryAnswer, Seat, present_life, member_of, seat_at}
 use Rattle.grasp_model_network.specs.StreamChanges.{Reached, reached_side, arrived, delivered, told}
-use Rattle.grasp_model_network.specs.Setting.{Member, Setting, numbered, member_at}
+use Rattle.grasp_model_network.specs.Setting.{Setting, numbered, member_at}
 use Rattle.std.specs.List.{list_any}
 use Rattle.grasp_asa.specs.Answers.{flags_registered}
 use Rattle.grasp_model_node.specs.Queue.{Queued, datagram, dial, send, encoding}
@@ -55,17 +55,17 @@ after_cut w v k side c = stepped (told w (reached_side w k side)) v c.after v.se
 
 -- ---- streams that are opened at the node that was dialled (RFC 8990, section 2.5.5)
 
-abbrev pub opened_at : Setting → WorldState → ℕ → Option ℕ → Option Member → Option Visit
+abbrev pub opened_at : Setting → WorldState → ℕ → Option ℕ → Option Seat → Option Visit
 opened_at s w k None near = None
 opened_at s w k (Some node) None = None
-opened_at s w k (Some node) (Some near) = visit w node (input.Opened (s.arrives_as node k) (s.arrives_from k near.plan.address))
+opened_at s w k (Some node) (Some near) = visit w (present_life w node) (input.Opened (s.arrives_as (present_life w node) k) (s.arrives_from k near.core.plan.address))
 
 abbrev pub opened_stream : Setting → WorldState → ℕ → Option StreamState → Option Visit
 opened_stream s w k None = None
-opened_stream s w k (Some t) = if is_waiting t.far_side then opened_at s w k (member_at s t.to) (numbered s.members t.near.node) else None
+opened_stream s w k (Some t) = if is_waiting t.far_side then opened_at s w k (member_at s t.to) (seat_at w t.near.node) else None
 
--- the stream is opened at the member that listens where it was dialled to. There is no step where there is no such stream, where it
--- was opened already, and where no member listens there
+-- the stream is opened at the present life of the member that listens where it was dialled to. There is no step where there is no such stream,
+-- where it was opened already or its far side was told that it is closed, and where no member listens there
 unfoldable pub arrival_visit : Setting → WorldState → ℕ → Option Visit
 arrival_visit s w k = opened_stream s w k (stream_numbered w.streams k)
 
@@ -76,9 +76,9 @@ after_arrival s w v k c = stepped (arrived w v (s.arrives_as v.node k) c.reply (
 
 abbrev pub datagram_at : WorldState → Option SentDatagram → Option Visit
 datagram_at w None = None
-datagram_at w (Some d) = visit w d.route.receiver (input.Datagram d.route.link d.route.from (encoding d.message))
+datagram_at w (Some d) = visit w (present_life w d.route.receiver) (input.Datagram d.route.link d.route.from (encoding d.message))
 
--- the datagram of this number comes in at its receiver; there is no step where there is no such datagram
+-- the datagram of this number comes in at its receiver's present life; there is no step where there is no such datagram
 unfoldable pub datagram_visit : WorldState → ℕ → Option Visit
 datagram_visit w index = datagram_at w (numbered w.datagrams index)
 
@@ -98,17 +98,18 @@ is_own_answer (dial stream to) = false
 is_own_answer (send stream m) = is_own_response m
 
 -- what is looked for, with the flags that the node has registered
-abbrev pub answers_to : Visit → Message → List DiscoveryAnswer
-answers_to v (Discovery session initiator o) = record { node = v.node; objective = o; flags = flags_registered v.seat.core.registrations o.name } ∷ []
-answers_to v _ = []
+abbrev pub answers_to : ℕ → Visit → Message → List DiscoveryAnswer
+answers_to member v (Discovery session initiator o) =
+    record { node = member; objective = o; flags = flags_registered v.seat.core.registrations o.name } ∷ []
+answers_to member v _ = []
 
-abbrev pub answered_with : Visit → Choice → Option SentDatagram → List DiscoveryAnswer
-answered_with v c None = []
-answered_with v c (Some d) = if list_any is_own_answer (gained v.seat.core c.after) then answers_to v d.message else []
+abbrev pub answered_with : ℕ → Visit → Choice → Option SentDatagram → List DiscoveryAnswer
+answered_with member v c None = []
+answered_with member v c (Some d) = if list_any is_own_answer (gained v.seat.core c.after) then answers_to member v d.message else []
 
 -- a discovery is answered where the step has queued a response with the node's own locator
 unfoldable pub answers_in : WorldState → Visit → ℕ → Choice → List DiscoveryAnswer
-answers_in w v index c = answered_with v c (numbered w.datagrams index)
+answers_in w v index c = answered_with (member_of w v.node) v c (numbered w.datagrams index)
 
 unfoldable pub after_delivery : WorldState → Visit → ℕ → Choice → WorldState
 after_delivery w v index c = record (stepped w v c.after v.seat.agent) { answers = w.answers ++ answers_in w v index c }

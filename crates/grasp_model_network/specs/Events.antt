@@ -9,7 +9,7 @@ use Rattle.grasp_model_network.specs.Sending.{drained, event_drain}
 use Rattle.grasp_model_network.specs.Setting.{Setting}
 use Rattle.grasp_model_network.specs.Telling.{telling_of, after_told}
 use Rattle.grasp_model_network.specs.Visits.{Visit, Choice, MayCome}
-use Rattle.grasp_model_network.specs.World.{WorldState, is_too_much}
+use Rattle.grasp_model_network.specs.World.{WorldState, present_life, is_too_much}
 use Rattle.grasp_model_network.specs.declared.event.Event.{Event}
 use Rattle.grasp_model_network.specs.declared.event.Event.TheVariants as event
 use Rattle.grasp_model_network.specs.declared.report.WorldStop.{WorldStop}
@@ -17,8 +17,9 @@ use Rattle.grasp_model_network.specs.declared.report.WorldStop.TheVariants as st
 
 -- ---- which events may be asked for
 
-abbrev pub IsMember : WorldState → ℕ → Type 0
-IsMember w node = IsNode (length w.seats) node
+-- the number is that of a life
+abbrev pub IsLife : WorldState → ℕ → Type 0
+IsLife w node = IsNode (length w.seats) node
 
 -- a prefix of this length, or of one up to the longest, can be wanted
 pub record AreLengths (length longest : ℕ) : Type 0 where
@@ -42,22 +43,22 @@ IsFitAmong nodes peers (event.Cut stream far hold) = Unit {0}
 IsFitAmong nodes peers (event.Drain node max) = IsNode nodes node
 
 abbrev pub IsFit : Setting → WorldState → Event → Type 0
-IsFit s w e = IsFitAmong (length w.seats) (length s.peers) e
+IsFit s w e = IsFitAmong (length s.members) (length s.peers) e
 
 -- ---- the step
 
--- the step of a node that an event makes, where it makes one
+-- the step that an event makes, where it makes one: an event names a member, and its present life makes the step
 abbrev pub visit_of : Setting → WorldState → Event → Option Visit
-visit_of s w (event.Clock node millis) = clock_visit w node millis
+visit_of s w (event.Clock node millis) = clock_visit w (present_life w node) millis
 visit_of s w (event.Want node length longest peer) = None
 visit_of s w (event.Return node prefix peer) = None
-visit_of s w (event.Agent node hold) = agent_visit w node
-visit_of s w (event.Api node asa call hold) = call_visit w node asa call
+visit_of s w (event.Agent node hold) = agent_visit w (present_life w node)
+visit_of s w (event.Api node asa call hold) = call_visit w (present_life w node) asa call
 visit_of s w (event.Datagram index hold) = datagram_visit w index
 visit_of s w (event.Arrive stream hold) = arrival_visit s w stream
 visit_of s w (event.Bytes stream far count hold) = piece_visit w stream (side_named far) count
 visit_of s w (event.Cut stream far hold) = cut_visit w stream (side_named far)
-visit_of s w (event.Drain node max) = drain_visit w node max
+visit_of s w (event.Drain node max) = drain_visit w (present_life w node) max
 
 -- the network after the step and what comes of it
 abbrev pub after_visit : Setting → WorldState → Event → Visit → Choice → WorldState
@@ -95,7 +96,7 @@ drained_behind false s w node = w
 
 -- an event without a step changes the network by what it tells an agent alone
 abbrev pub after_none : Setting → WorldState → Event → WorldState
-after_none s w e = after_told w (telling_of s e)
+after_none s w e = after_told w (telling_of s w e)
 
 abbrev pub after_by : Setting → WorldState → Event → Choice → Option Visit → WorldState
 after_by s w e c None = after_none s w e

@@ -1,5 +1,5 @@
 -- What a network remembers of the replies to agents: handles, floods and searches that were begun, and floods that were read.
-use Rattle.std.specs.Prelude.{◌≢◌, ℕ, AllPairs, Bool, true, false, List, [], ◌∷◌, ◌++◌, Option, None, Some, if◌then◌else◌}
+use Rattle.std.specs.Prelude.{◌≡◌, ℕ, AllPairs, Bool, true, false, List, [], ◌∷◌, ◌++◌, Option, None, Some, if◌then◌else◌}
 use Rattle.grasp_agent.specs.Announcing.{reads_in}
 use Rattle.grasp_agent.specs.Replies.{answer_in, is_done, started_in, incoming_in}
 use Rattle.grasp_model_node.specs.Begin.{begin}
@@ -52,13 +52,17 @@ abbrev pub is_searching : Option ApiAnswer → Bool
 is_searching (Some answer.Searching) = true
 is_searching _ = false
 
--- a search begins where its call is answered so, under the number that the node draws
+-- a search begins where its call is answered so, under the number that the node draws, which it tells with its address
 unfoldable pub searches_in : Visit → Reply → List SearchCall
-searches_in v r = if is_searching (answer_in r) then record { node = v.node; life = life_of v.seat; session = next_session (begin v.seat.core v.now) } ∷ [] else []
+searches_in v r =
+    if is_searching (answer_in r)
+    then record { node = v.node; address = v.seat.core.plan.address; life = life_of v.seat; session = next_session (begin v.seat.core v.now) } ∷ []
+    else []
 
--- no node began two searches under one session number in one life
+-- no two searches were begun under one session number at one address: a node that begins anew draws its numbers again, and a discovery tells
+-- the number and the address, and no life
 abbrev pub SearchesDiffer : WorldState → Type 0
-SearchesDiffer w = AllPairs (λ a b. a ≢ b) w.searches
+SearchesDiffer w = AllPairs (λ a b. ¬ ((a.address ≡ b.address) × (a.session ≡ b.session))) w.searches
 
 -- ---- all of it
 

@@ -5,7 +5,7 @@ use Rattle.grasp_model_network.specs.EventSteps.{wanting_reply, returning_reply,
 use Rattle.grasp_model_network.specs.Events.{visit_of}
 use Rattle.grasp_model_network.specs.Setting.{Setting}
 use Rattle.grasp_model_network.specs.Visits.{Visit, Choice}
-use Rattle.grasp_model_network.specs.World.{WorldState}
+use Rattle.grasp_model_network.specs.World.{WorldState, present_life}
 use Rattle.grasp_model_network.specs.declared.event.Event.{Event}
 use Rattle.grasp_model_network.specs.declared.event.Event.TheVariants as event
 use Rattle.grasp_model_network.specs.declared.report.Report.{Report}
@@ -26,8 +26,8 @@ report_visit (event.Drain node max) v c = report.Sent (sent_count v max)
 
 -- whether a want or a return was taken; and nothing where what the event names isn't there
 abbrev pub report_none : WorldState → Event → Report
-report_none w (event.Want node length longest peer) = report.Want (wanting_reply w node)
-report_none w (event.Return node prefix peer) = report.Return (returning_reply w node prefix)
+report_none w (event.Want node length longest peer) = report.Want (wanting_reply w (present_life w node))
+report_none w (event.Return node prefix peer) = report.Return (returning_reply w (present_life w node) prefix)
 report_none w _ = report.Nothing
 
 abbrev pub report_by : WorldState → Event → Choice → Option Visit → Report

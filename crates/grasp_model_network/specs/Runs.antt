@@ -1,48 +1,24 @@
--- The first world of a plan, and runs of events from a world on.
-use Rattle.std.specs.Prelude.{◌≡◌, List, [], ◌∷◌, Ok, fold, map}
-use Rattle.grasp_agent.specs.Calls.{next_call}
-use Rattle.grasp_agent.specs.Replies.{after_reply}
-use Rattle.grasp_agent.specs.States.{first_agent}
-use Rattle.grasp_model_node.specs.Begin.{begin}
-use Rattle.grasp_model_node.specs.Node.{first_node}
-use Rattle.grasp_model_node.specs.Step.{after_call}
-use Rattle.grasp_pool.specs.Functions.{pool_of}
-use Rattle.grasp_types.specs.declared.reply.ApiAnswer.{ApiAnswer}
-use Rattle.grasp_types.specs.declared.reply.ApiAnswer.TheVariants as answer
-use Rattle.grasp_types.specs.declared.reply.Reply.TheVariants as reply
+-- The first world of a plan, runs of events from a world on, and the worlds that turns lead to.
+use Rattle.std.specs.Prelude.{◌≡◌, List, [], ◌∷◌, length, map}
 use Rattle.grasp_model_network.specs.Events.{Occurs, after_event}
 use Rattle.grasp_model_network.specs.GoodSetting.{IsGoodSetting}
+use Rattle.grasp_model_network.specs.Openings.{first_seat}
 use Rattle.grasp_model_network.specs.Reports.{report_of}
-use Rattle.grasp_model_network.specs.Sending.{seat_with}
-use Rattle.grasp_model_network.specs.Setting.{Member, Setting, script_setting}
+use Rattle.grasp_model_network.specs.Setting.{Setting, numbers_from, script_setting}
+use Rattle.grasp_model_network.specs.Turns.{TakenTurn, AreTurns, world_turned}
 use Rattle.grasp_model_network.specs.Visits.{Choice}
-use Rattle.grasp_model_network.specs.World.{Seat, WorldState}
+use Rattle.grasp_model_network.specs.World.{WorldState}
 use Rattle.grasp_model_network.specs.declared.event.Event.{Event}
 use Rattle.grasp_model_network.specs.declared.plan.WorldPlan.{WorldPlan}
 use Rattle.grasp_model_network.specs.declared.report.Report.{Report}
 
 -- ---- the first world
 
--- a node in which nothing has happened, and an agent that has made no call and holds its roots
-abbrev pub fresh_seat : Member → Seat
-fresh_seat m = record { core = first_node m.plan; earlier = []; agent = first_agent (pool_of m.roots) }
-
--- the agent has made its next call, at reading 0, and this was answered
-unfoldable pub answered_seat : Seat → ApiAnswer → Seat
-answered_seat seat a = seat_with seat (after_call (begin seat.core 0) seat.agent.asa (next_call seat.agent) (Ok a)) (after_reply seat.agent (reply.Api a))
-
--- what the opening calls of an agent are answered: it is agent 1, its objective is registered, and nothing has come yet
-abbrev pub opening_answers : List ApiAnswer
-opening_answers = answer.Asa 1 ∷ answer.Done ∷ answer.NotYet ∷ []
-
--- a node whose agent has made its opening calls
-unfoldable pub first_seat : Member → Seat
-first_seat m = fold answered_seat (fresh_seat m) opening_answers
-
 -- the nodes have their agents, and nothing was sent
 unfoldable pub first_world : Setting → WorldState
 first_world s = record {
   seats = map first_seat s.members;
+  lives = numbers_from 1 (length s.members);
   datagrams = [];
   streams = [];
   dials = 0;
@@ -91,9 +67,9 @@ reports_from s w (h ∷ hs) = report_of s w h.event h.choice ∷ reports_from s 
 abbrev pub events_of : List Happening → List Event
 events_of hs = map (λ h. h.event) hs
 
--- the world is one that events lead to from the first world of a good setting
+-- the world is one that turns lead to from the first world of a good setting
 pub record IsReached (s : Setting) (w : WorldState) : Type 0 where
   pub good : IsGoodSetting s
-  pub happenings : List Happening
-  pub run : IsRun s (first_world s) happenings
-  pub last : w ≡ world_after s (first_world s) happenings
+  pub turns : List TakenTurn
+  pub run : AreTurns s (first_world s) turns
+  pub last : w ≡ world_turned s (first_world s) turns

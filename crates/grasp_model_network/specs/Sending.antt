@@ -10,7 +10,7 @@ use Rattle.grasp_model_network.specs.Routes.{Route, route_of}
 use Rattle.grasp_model_network.specs.Setting.{Setting}
 use Rattle.grasp_model_network.specs.Streams.{StreamState, StreamEnd, fresh_stream, change_at_end, count_at_end, with_said, with_sent, with_ended, with_number}
 use Rattle.grasp_model_network.specs.Visits.{Visit}
-use Rattle.grasp_model_network.specs.World.{Seat, WorldState, seat_at, with_seat, end_of}
+use Rattle.grasp_model_network.specs.World.{Seat, WorldState, seat_at, with_seat, end_of, member_of}
 
 -- ---- what a step makes
 
@@ -56,9 +56,9 @@ sent_at w e m = record w {
   byte_count = w.byte_count + count_at_end w.streams e * length (encoding m);
 }
 
--- what is sent of the queue
+-- what is sent of the queue: a datagram goes the way of the life's member
 abbrev pub having_sent : Setting → ℕ → Seat → WorldState → Queued → WorldState
-having_sent s node seat w (datagram link to m) = posted w m (route_of s node link to)
+having_sent s node seat w (datagram link to m) = posted w m (route_of s (member_of w node) link to)
 having_sent s node seat w (dial stream to) = dialled w (end_of node seat stream)
 having_sent s node seat w (send stream m) = sent_at w (end_of node seat stream) m
 

@@ -8,11 +8,11 @@ use Rattle.grasp_types.specs.declared.address.Locator.{Locator}
 use Rattle.grasp_model_network.specs.Offers.{put_offer}
 use Rattle.grasp_model_network.specs.Sending.{seat_with}
 use Rattle.grasp_model_network.specs.Setting.{Setting, numbered}
-use Rattle.grasp_model_network.specs.World.{Offered, Seat, WorldState, seat_at, with_seat}
+use Rattle.grasp_model_network.specs.World.{Offered, Seat, WorldState, present_life, seat_at, with_seat}
 use Rattle.grasp_model_network.specs.declared.event.Event.{Event}
 use Rattle.grasp_model_network.specs.declared.event.Event.TheVariants as event
 
--- what an event without a step tells the agent of a node
+-- what an event without a step tells the agent of a node in this life
 pub record Telling : Type 0 where
   pub node : ℕ
   pub what : AgentEvent
@@ -25,11 +25,11 @@ abbrev pub return_told : ℕ → Prefix → Option Locator → Option Telling
 return_told node p None = None
 return_told node p (Some peer) = Some (record { node = node; what = returned p peer })
 
--- a want and a return tell an agent something, where there is a peer of that number
-abbrev pub telling_of : Setting → Event → Option Telling
-telling_of s (event.Want node length longest peer) = want_told node length longest (numbered s.peers peer)
-telling_of s (event.Return node prefix peer) = return_told node prefix (numbered s.peers peer)
-telling_of s _ = None
+-- a want and a return tell the agent of a member's present life something, where there is a peer of that number
+abbrev pub telling_of : Setting → WorldState → Event → Option Telling
+telling_of s w (event.Want node length longest peer) = want_told (present_life w node) length longest (numbered s.peers peer)
+telling_of s w (event.Return node prefix peer) = return_told (present_life w node) prefix (numbered s.peers peer)
+telling_of s w _ = None
 
 -- a return that the agent took is an offer without a stream until it is requested
 abbrev pub with_return : List Offered → ℕ → Prefix → Result (Unit {0}) ReturnFault → List Offered

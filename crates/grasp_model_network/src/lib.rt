@@ -8,7 +8,9 @@ mod copies;
 mod event;
 mod plan;
 mod report;
+mod turn;
 
 pub use event::Event;
 pub use plan::{MemberLists, Members, RootAt, RootList, WorldPlan};
 pub use report::{Report, WorldStop};
+pub use turn::Turn;

@@ -1,11 +1,13 @@
 -- Laws on the runs of scripts.
-use Rattle.std.proofs.Common.{◌≡◌, refl, ◌∙◌, List, [], ◌∷◌, ◌++◌, All}
+use Rattle.std.proofs.Common.{◌≡◌, refl, ap, ◌∙◌, List, [], ◌∷◌, ◌++◌, All}
 use Rattle.std.proofs.lemmas.List.Elements.{All-nil, All-cons}
 use Rattle.grasp_laws_network.proofs.Going.{reached_more}
-use Rattle.grasp_laws_network.proofs.GoodPlans.{scripts_are_good}
+use Rattle.grasp_laws_network.proofs.GoodPlans.{member_count, scripts_are_good}
+use Rattle.grasp_laws_network.specs.Lives.{EventsKeepLives}
+use Rattle.grasp_model_network.proofs.Facts.{first_reached as setting_reached}
 use Rattle.grasp_model_network.specs.Plans.{IsGoodPlan}
 use Rattle.grasp_model_network.specs.Runs.{Happening, IsRun, IsReached, world_after, world_of, first_world}
-use Rattle.grasp_model_network.specs.Setting.{Setting, script_setting}
+use Rattle.grasp_model_network.specs.Setting.{Setting, numbers_from, script_setting}
 use Rattle.grasp_model_network.specs.Visits.{Choice}
 use Rattle.grasp_model_network.specs.World.{WorldState}
 use Rattle.grasp_model_network.specs.declared.plan.WorldPlan.{WorldPlan}
@@ -14,7 +16,7 @@ use Rattle.grasp_script.specs.declared.line.LineAct.{LineAct}
 use Rattle.grasp_script.specs.declared.line.LineAct.TheVariants as act
 use Rattle.grasp_laws_prefixes.specs.Apart.{PrefixesStayApart}
 use Rattle.grasp_laws_negotiation.specs.Safe.{TalksAreSafe}
-use Rattle.grasp_model_script.specs.Laws.{RunsOfLinesAreRuns, EachRunIsSafe}
+use Rattle.grasp_model_script.specs.Laws.{RunsOfLinesAreRuns, EachRunIsSafe, EachNetworkIsSafe, ScriptsRestartNobody}
 use Rattle.grasp_model_script.specs.LineRuns.{LineRun, placed_event, MayComeOut, after_act, after_line}
 use Rattle.grasp_model_script.specs.Safe.{IsSafe}
 use Rattle.grasp_model_script.specs.ScriptRuns.{MayRunAll, networks_from, network_after, happening_of, happenings_from, RunsSafely}
@@ -48,10 +50,9 @@ act_reached s w (act.Event e) c r h = reached_more s w (placed_event w e) c r h
 act_reached s w (act.State node) c r h = r
 
 pub first_reached : (plan : WorldPlan) → IsGoodPlan plan → IsReached (script_setting plan) (world_of plan)
-unfolding IsRun world_after
-first_reached plan good = record { good = scripts_are_good plan good; happenings = []; run = tt; last = refl }
+first_reached plan good = setting_reached (script_setting plan) (scripts_are_good plan good)
 
--- what is so of every network that events lead to
+-- what is so of every network that turns lead to
 pub record Grounds : Type 0 where
   pub negotiations : TalksAreSafe
   pub floods : ReadFloodsAreReal
@@ -59,6 +60,9 @@ pub record Grounds : Type 0 where
 
 is_safe : (s : Setting) (w : WorldState) → Grounds → IsReached s w → IsSafe s w
 is_safe s w k r = record { reached = r; negotiations = k.negotiations.reached s w r; floods = k.floods.reached s w r; prefixes = k.prefixes.reached s w r }
+
+pub each_network_is_safe : Grounds → EachNetworkIsSafe
+each_network_is_safe k s w r = is_safe s w k r
 
 all_safe : Grounds → (s : Setting) (w : WorldState) (xs : List LineRun) → IsReached s w → MayRunAll s w xs → All (IsSafe s) (networks_from s w xs)
 unfolding MayRunAll networks_from
@@ -71,3 +75,38 @@ run_safely k plan xs good h = record { may_run = h; safe = all_safe k (script_se
 
 pub each_run_is_safe : Grounds → EachRunIsSafe
 each_run_is_safe k plan xs good h = run_safely k plan xs good h
+
+-- ---- lives
+
+act_lives : EventsKeepLives → (s : Setting) (w : WorldState) (a : LineAct) (c : Choice) → (after_act s w a c).lives ≡ w.lives
+act_lives k s w (act.Event e) c = k.lives s w (placed_event w e) c
+act_lives k s w (act.State node) c = refl
+
+act_settled : EventsKeepLives → (s : Setting) (w : WorldState) (a : LineAct) (c : Choice) → (after_act s w a c).settled ≡ w.settled
+act_settled k s w (act.Event e) c = k.settled s w (placed_event w e) c
+act_settled k s w (act.State node) c = refl
+
+lines_lives : EventsKeepLives → (s : Setting) (w : WorldState) (xs : List LineRun) → (network_after s w xs).lives ≡ w.lives
+unfolding network_after
+lines_lives k s w [] = refl
+lines_lives k s w (x ∷ xs) = lines_lives k s (after_line s w x) xs ∙ act_lives k s w x.line.act x.choice
+
+lines_settled : EventsKeepLives → (s : Setting) (w : WorldState) (xs : List LineRun) → (network_after s w xs).settled ≡ w.settled
+unfolding network_after
+lines_settled k s w [] = refl
+lines_settled k s w (x ∷ xs) = lines_settled k s (after_line s w x) xs ∙ act_settled k s w x.line.act x.choice
+
+-- each node of a plan begins with its first life
+first_lives : (plan : WorldPlan) → (world_of plan).lives ≡ numbers_from 1 plan.nodes
+unfolding first_world script_setting
+first_lives plan = ap (numbers_from 1) (member_count plan)
+
+first_settled : (plan : WorldPlan) → (world_of plan).settled ≡ []
+unfolding first_world
+first_settled plan = refl
+
+pub scripts_restart_nobody : EventsKeepLives → ScriptsRestartNobody
+scripts_restart_nobody k = record {
+  lives = λ plan xs. lines_lives k (script_setting plan) (world_of plan) xs ∙ first_lives plan;
+  settled = λ plan xs. lines_settled k (script_setting plan) (world_of plan) xs ∙ first_settled plan;
+}

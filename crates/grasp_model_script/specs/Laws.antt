@@ -1,7 +1,8 @@
 -- Laws on the runs of scripts.
-use Rattle.std.specs.Prelude.{◌≡◌, ℕ, List}
-use Rattle.grasp_model_network.specs.Runs.{IsRun, world_after, world_of}
-use Rattle.grasp_model_network.specs.Setting.{Setting, script_setting}
+use Rattle.std.specs.Prelude.{◌≡◌, ℕ, List, []}
+use Rattle.grasp_model_script.specs.Safe.{IsSafe}
+use Rattle.grasp_model_network.specs.Runs.{IsRun, world_after, world_of, IsReached}
+use Rattle.grasp_model_network.specs.Setting.{Setting, script_setting, numbers_from}
 use Rattle.grasp_model_network.specs.World.{WorldState}
 use Rattle.grasp_model_network.specs.declared.plan.WorldPlan.{WorldPlan}
 use Rattle.grasp_model_network.specs.Plans.{IsGoodPlan}
@@ -22,6 +23,15 @@ RunsOfLinesAreRuns = (s : Setting) (w : WorldState) (xs : List LineRun) → MayR
 -- however lines come out in the network of a good plan, each network that they lead to is safe
 abbrev pub EachRunIsSafe : Type 0
 EachRunIsSafe = (plan : WorldPlan) (xs : List LineRun) → IsGoodPlan plan → MayRunAll (script_setting plan) (world_of plan) xs → RunsSafely plan xs
+
+-- in whatever way turns lead to a network from the first one of a good setting, it is safe
+abbrev pub EachNetworkIsSafe : Type 0
+EachNetworkIsSafe = (s : Setting) (w : WorldState) → IsReached s w → IsSafe s w
+
+-- a script settles nothing and restarts nobody
+pub record ScriptsRestartNobody : Type 0 where
+  pub lives : (plan : WorldPlan) (xs : List LineRun) → (network_after (script_setting plan) (world_of plan) xs).lives ≡ numbers_from 1 plan.nodes
+  pub settled : (plan : WorldPlan) (xs : List LineRun) → (network_after (script_setting plan) (world_of plan) xs).settled ≡ []
 
 -- ---- a script has one run
 

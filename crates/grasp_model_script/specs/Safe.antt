@@ -7,7 +7,7 @@ use Rattle.grasp_laws_prefixes.specs.Apart.{PrefixesAreSafe}
 use Rattle.grasp_laws_negotiation.specs.Safe.{IsSafeTalks}
 
 pub record IsSafe (s : Setting) (w : WorldState) : Type 0 where
-  -- events lead to it from the first network of a good setting: whatever is proved of such networks is so of it
+  -- turns lead to it from the first network of a good setting: whatever is proved of such networks is so of it
   pub reached : IsReached s w
   -- the steps of each negotiation are fewer than its loop count, and none where that is 0, and two sides that agree hold one objective, the
   -- last that the side offered which didn't accept

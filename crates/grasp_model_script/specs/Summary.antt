@@ -63,11 +63,11 @@ count_ends kind reports = count_by (λ r. has_end kind (told_end r)) reports
 
 -- ---- what nodes hold
 
--- how many prefixes all nodes hold
+-- how many prefixes all nodes hold, where no node has begun anew
 abbrev pub count_held : WorldState → ℕ
 count_held w = sum_by (λ seat. length seat.agent.pool.free) w.seats
 
--- how many are in doubt
+-- how many they have in doubt, where no node has begun anew
 abbrev pub count_doubt : WorldState → ℕ
 count_doubt w = sum_by (λ seat. length seat.agent.pool.doubtful) w.seats
 

@@ -1,9 +1,10 @@
 //! Laws on the runs of scripts. They say nothing at run time.
 
-ghost use Rattle.grasp_model_script.specs.Laws.{RunsOfLinesAreRuns, EachRunIsSafe, TextsAgree, RunsOrStops};
+ghost use Rattle.grasp_model_script.specs.Laws.{RunsOfLinesAreRuns, EachNetworkIsSafe, EachRunIsSafe, ScriptsRestartNobody, TextsAgree, RunsOrStops};
 
 use grasp_laws_floods::read_floods_are_real;
 use grasp_laws_negotiation::talks_are_safe;
+use grasp_laws_network::events_keep_lives;
 use grasp_laws_prefixes::prefixes_stay_apart;
 use grasp_laws_reports::{runs_agree, stops_agree};
 use grasp_script::texts_have_one_script;
@@ -12,6 +13,23 @@ use grasp_script::texts_have_one_script;
 pub fn runs_of_lines_are_runs()
     ensures { RunsOfLinesAreRuns }
 {}
+
+/// In every network that events, settlings and restarts lead to, negotiations are safe, floods that were read are real, and prefixes of
+/// different nodes don't overlap.
+pub fn each_network_is_safe()
+    ensures { EachNetworkIsSafe }
+{
+    talks_are_safe();
+    read_floods_are_real();
+    prefixes_stay_apart();
+}
+
+/// The lines of a script settle nothing and restart nobody: each node is in its first life.
+pub fn scripts_restart_nobody()
+    ensures { ScriptsRestartNobody }
+{
+    events_keep_lives();
+}
 
 /// However the lines of a script come out, in each network that they lead to negotiations are safe, floods that were read are real,
 /// and prefixes of different nodes don't overlap.

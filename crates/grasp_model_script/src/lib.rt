@@ -4,4 +4,7 @@
 
 mod laws;
 
-pub use laws::{each_run_is_safe, runs_of_lines_are_runs, runs_or_stops, texts_agree};
+pub use laws::{
+    each_network_is_safe, each_run_is_safe, runs_of_lines_are_runs, runs_or_stops,
+    scripts_restart_nobody, texts_agree,
+};

@@ -6,7 +6,6 @@ use Rattle.grasp_text.proofs.Pushed.{one_pushed, some_pushed}
 use Rattle.grasp_model_network.specs.Runs.{reports_from, world_of}
 use Rattle.grasp_model_network.specs.Setting.{Setting, script_setting}
 use Rattle.grasp_model_network.specs.Visits.{Choice, no_choice}
-use Rattle.grasp_model_network.specs.Plans.{IsNode}
 use Rattle.grasp_model_network.specs.World.{WorldState}
 use Rattle.grasp_model_network.specs.declared.event.Event.{Event}
 use Rattle.grasp_model_network.specs.declared.plan.WorldPlan.{WorldPlan}
@@ -32,7 +31,6 @@ use Rattle.grasp_runner.specs.declared.fault.RunFault.{RunFault}
 use Rattle.grasp_runner.specs.declared.fault.RunFault.TheVariants as fault
 use Rattle.grasp_runner.specs.declared.tally.Tally.{Tally}
 use Rattle.grasp_runner.proofs.Passed.{meets_next, nothing_run, run_next, stops_here, take_next}
-use Rattle.grasp_runner.proofs.Placing.{seats_here}
 
 pub ruleset pushes = (one_pushed, some_pushed)
 
@@ -71,7 +69,7 @@ look_counted : (code : World) (s : Setting) (w : WorldState) (node : ℕ) (t : T
 unfolding reports_from
 look_counted code s w node t met = record {
   choice = no_choice;
-  comes = subst (λ (n : ℕ). IsNode n node) (sym (seats_here code s w met.stands)) met.fit;
+  comes = met.fit;
   stands = met.stands;
   counts = λ rs is. subst (IsTally t) (sym (append-nil rs)) is;
 }

@@ -5,7 +5,7 @@ use Rattle.grasp_types.specs.declared.call.Call.TheVariants.{RegisterAsa, Regist
 use Rattle.grasp_model_network.specs.Events.{IsFit, IsFitAmong}
 use Rattle.grasp_model_network.specs.Ranges as ranges
 use Rattle.grasp_model_network.specs.Setting.{Setting}
-use Rattle.grasp_model_network.specs.World.{WorldState}
+use Rattle.grasp_model_network.specs.World.{WorldState, present_life}
 use Rattle.grasp_model_network.specs.declared.event.Event.{Event}
 use Rattle.grasp_model_network.specs.declared.event.Event.TheVariants as event
 use Rattle.grasp_script.specs.Acts.{IsEvent}
@@ -13,18 +13,18 @@ use Rattle.grasp_script.specs.Calls.{IsCall, may_call}
 use Rattle.grasp_model_script.specs.LineRuns.{placed_call, placed_event}
 
 -- what a call carries stays within its ranges where its session gets a place
-call_fits : (nodes : ℕ) (w : WorldState) (node : ℕ) (c : Call) → IsCall nodes c → ranges.IsCall (placed_call w node c)
-call_fits nodes w node (RegisterObjective name flags) h = h
-call_fits nodes w node (Discover name kind loops timeout) h = (h.0, h.1)
-call_fits nodes w node (RequestNegotiate name value loops timeout dry peer) h = (h.0, h.1, h.2)
-call_fits nodes w node (NegotiateStep handle value) h = h.1
-call_fits nodes w node (NegotiateWait handle millis) h = h.1
-call_fits nodes w node (EndNegotiate handle verdict) h = h.1
-call_fits nodes w node (SendInvalid handle detail) h = h.1
-call_fits nodes w node (Synchronize name loops timeout peer) h = (h.0, h.1)
-call_fits nodes w node (ListenSynchronize name value) h = h.1
-call_fits nodes w node (Flood name value ttl loops) h = h
-call_fits nodes w node _ h = tt
+call_fits : (nodes : ℕ) (w : WorldState) (life : ℕ) (c : Call) → IsCall nodes c → ranges.IsCall (placed_call w life c)
+call_fits nodes w life (RegisterObjective name flags) h = h
+call_fits nodes w life (Discover name kind loops timeout) h = (h.0, h.1)
+call_fits nodes w life (RequestNegotiate name value loops timeout dry peer) h = (h.0, h.1, h.2)
+call_fits nodes w life (NegotiateStep handle value) h = h.1
+call_fits nodes w life (NegotiateWait handle millis) h = h.1
+call_fits nodes w life (EndNegotiate handle verdict) h = h.1
+call_fits nodes w life (SendInvalid handle detail) h = h.1
+call_fits nodes w life (Synchronize name loops timeout peer) h = (h.0, h.1)
+call_fits nodes w life (ListenSynchronize name value) h = h.1
+call_fits nodes w life (Flood name value ttl loops) h = h
+call_fits nodes w life _ h = tt
 
 -- ---- no call is made as agent 1
 
@@ -45,11 +45,9 @@ event_among n w (event.Clock node millis) h = h.0
 event_among n w (event.Want node least longest peer) h = (h.0, h.2, h.1)
 event_among n w (event.Return node prefix peer) h = (h.0, h.2, h.1)
 event_among n w (event.Agent node hold) h = h
-event_among n w (event.Api node asa call hold) h = (h.0, not_own asa call h.3, call_fits n w node call h.2)
+event_among n w (event.Api node asa call hold) h = (h.0, not_own asa call h.3, call_fits n w (present_life w node) call h.2)
 event_among n w (event.Drain node max) h = h.0
 event_among n w _ h = tt
 
-pub event_fits : (s : Setting) (w : WorldState) (e : Event) → length w.seats ≡ length s.members → length s.peers ≡ length s.members → IsEvent (length s.members) e → IsFit s w (placed_event w e)
-event_fits s w e seats peers h =
-    subst (λ (k : ℕ). IsFitAmong k (length s.peers) (placed_event w e)) (sym seats)
-    (subst (λ (k : ℕ). IsFitAmong (length s.members) k (placed_event w e)) (sym peers) (event_among (length s.members) w e h))
+pub event_fits : (s : Setting) (w : WorldState) (e : Event) → length s.peers ≡ length s.members → IsEvent (length s.members) e → IsFit s w (placed_event w e)
+event_fits s w e peers h = subst (λ (k : ℕ). IsFitAmong (length s.members) k (placed_event w e)) (sym peers) (event_among (length s.members) w e h)

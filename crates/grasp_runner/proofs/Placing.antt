@@ -1,12 +1,13 @@
 -- What a network that goes on has, and the events of lines in it.
-use Rattle.std.proofs.Common.{◌≡◌, ◌<◌, ◌≤◌, refl, sym, ap, ◌∙◌, subst, arith, ℕ, zero, suc, ◌-◌, Bool, List, [], ◌∷◌, length, Some, Result, Ok, Err}
-use Rattle.std.specs.List.{slice_get}
+use Rattle.std.proofs.Common.{◌≡◌, sym, ap, ◌∙◌, subst, ℕ, Bool, length, Some, Result, Ok, Err}
 use Rattle.grasp_types.specs.declared.call.Call.{Call}
-use Rattle.grasp_laws_network.proofs.GoodPlans.{member_count, not_zero}
+use Rattle.grasp_laws_network.proofs.GoodPlans.{member_count}
+use Rattle.grasp_laws_network.proofs.Lists.{numbered_there}
+use Rattle.grasp_laws_network.proofs.LivesKept.{lives_are_kept}
 use Rattle.grasp_model_network.specs.Events.{IsFit, MayStop, Overflows}
 use Rattle.grasp_model_network.specs.Plans.{IsNode}
 use Rattle.grasp_model_network.specs.Setting.{Setting, script_setting}
-use Rattle.grasp_model_network.specs.World.{Seat, WorldState, seat_at}
+use Rattle.grasp_model_network.specs.World.{Seat, WorldState, present_life, seat_at}
 use Rattle.grasp_model_network.specs.declared.event.Event.{Event}
 use Rattle.grasp_model_network.specs.declared.event.Event.TheVariants as event
 use Rattle.grasp_model_network.specs.declared.plan.WorldPlan.{WorldPlan}
@@ -15,7 +16,7 @@ use Rattle.grasp_model_network.specs.declared.report.WorldStop.{WorldStop}
 use Rattle.grasp_model_network.specs.declared.report.WorldStop.TheVariants as stop
 use Rattle.grasp_script.specs.declared.line.LineAct.TheVariants as act
 use Rattle.grasp_model_script.specs.LineRuns.{placed_call, placed_event}
-use Rattle.grasp_simulator.proofs.SeatLists.{seats_length, peers_count}
+use Rattle.grasp_simulator.proofs.SeatLists.{peers_count}
 use Rattle.grasp_simulator.specs.Contract.{going, Answers, MeetsEvent}
 use Rattle.grasp_simulator.specs.WorldStands.{WorldStands, HasNode, IsSeat}
 use Rattle.grasp_simulator.specs.WorldSteps.{IsAsked, Stepped}
@@ -29,30 +30,20 @@ pub plan_members : (p : WorldPlan) → length (script_setting p).members ≡ p.n
 unfolding script_setting
 plan_members p = member_count p
 
-pub seats_here : (code : World) (s : Setting) (w : WorldState) → WorldStands code (network_at s w) → length w.seats ≡ length s.members
-seats_here code s w h = sym (seats_length code.seats.items w.seats h.stands.keeps.seats) ∙ h.count
-
 peers_here : (code : World) (s : Setting) (w : WorldState) → WorldStands code (network_at s w) → length s.peers ≡ length s.members
 peers_here code s w h = subst (λ (x : Setting). length x.peers ≡ length x.members) (sym h.stands.keeps.setting) (peers_count code.plan ∙ sym (plan_members code.plan))
 
 -- ---- nodes
 
--- the node of a number, among so many
+-- the present life of the node of a number, among so many
 pub record IsThere (w : WorldState) (node : ℕ) : Type 0 where
   pub seat : Seat
-  pub here : seat_at w node ≡ Some seat
-
-seat_found : (seats : List Seat) (i : ℕ) → i < length seats → (seat : Seat) × (slice_get seats i ≡ Some seat)
-seat_found [] i few = absurd (omega (arith, few))
-seat_found (x ∷ xs) zero few = (x, refl)
-seat_found (x ∷ xs) (suc i) few = seat_found xs i (omega (arith, few))
+  pub here : seat_at w (present_life w node) ≡ Some seat
 
 pub node_there : (code : World) (s : Setting) (w : WorldState) (node : ℕ) → WorldStands code (network_at s w) → IsNode (length s.members) node → IsThere w node
 node_there code s w node h n =
-    let least : 1 ≤ node = n.least in
-    let most : node ≤ length s.members = n.most in
-    let found = seat_found w.seats (node - 1) (omega (arith, least, most, seats_here code s w h)) in
-    record { seat = found.0; here = rw (not_zero node least) found.1 }
+    let found = numbered_there w.seats (present_life w node) ((lives_are_kept s w h.stands.reached).present node n) in
+    record { seat = found.0; here = found.1 }
 
 pub has_node : (code : World) (s : Setting) (w : WorldState) (node : ℕ) → WorldStands code (network_at s w) → IsNode (length s.members) node → HasNode code node
 has_node code s w node h n = record { network = network_at s w; stands = h; is_node = n }
@@ -60,7 +51,7 @@ has_node code s w node h n = record { network = network_at s w; stands = h; is_n
 -- ---- events
 
 pub fit_here : (code : World) (s : Setting) (w : WorldState) (e : Event) → MeetsLine code s w (act.Event e) → IsFit s w (placed_event w e)
-fit_here code s w e h = event_fits s w e (seats_here code s w h.stands) (peers_here code s w h.stands) h.fit
+fit_here code s w e h = event_fits s w e (peers_here code s w h.stands) h.fit
 
 -- the placed event is that of the network
 abbrev pub IsPlaced : World → Event → Event → Type 0
@@ -88,7 +79,7 @@ runs_placed code new e placed r is stepped =
 
 -- a call with the place of its session
 pub placed_api : (code : World) (e : Event) (node asa : ℕ) (call placed : Call) (hold : Bool) → e ≡ event.Api node asa call hold
-    → ((s : Setting) (w : WorldState) (seat : Seat) → IsSeat code node s w seat → placed ≡ placed_call w node call)
+    → ((s : Setting) (w : WorldState) (seat : Seat) → IsSeat code node s w seat → placed ≡ placed_call w (present_life w node) call)
     → (s : Setting) (w : WorldState) → MeetsLine code s w (act.Event e) → event.Api node asa placed hold ≡ placed_event w e
 placed_api code e node asa call placed hold is places s w h =
     let met : MeetsLine code s w (act.Event (event.Api node asa call hold)) = subst (λ (x : Event). MeetsLine code s w (act.Event x)) is h in

@@ -1,17 +1,18 @@
 -- The summary of a run.
 use Rattle.std.proofs.Common.{◌≡◌, sym, ap, ◌∙◌, subst, ℕ, List}
 use Rattle.grasp_model_network.specs.Runs.{world_of}
-use Rattle.grasp_model_network.specs.Setting.{script_setting}
+use Rattle.grasp_model_network.specs.Setting.{numbers_from, script_setting}
 use Rattle.grasp_model_network.specs.World.{WorldState}
 use Rattle.grasp_model_network.specs.declared.plan.WorldPlan.{WorldPlan}
 use Rattle.grasp_model_network.specs.declared.report.Report.{Report}
 use Rattle.grasp_script.specs.declared.script.Script.{Script}
-use Rattle.grasp_model_script.specs.Laws.{EachRunIsSafe}
+use Rattle.grasp_model_script.specs.Laws.{EachRunIsSafe, ScriptsRestartNobody}
+use Rattle.grasp_model_script.specs.LineRuns.{LineRun}
 use Rattle.grasp_model_script.specs.ScriptRuns.{network_after}
 use Rattle.grasp_model_script.specs.Summary.{Counts, counts_of, reports_of}
 use Rattle.grasp_simulator.specs.declared.world.World.{World}
 use Rattle.grasp_runner.specs.Scripts.{IsRead}
-use Rattle.grasp_runner.specs.Tallies.{HasCounted, HasNodes, IsCounted, IsTally, TellsCounts, counted_of}
+use Rattle.grasp_runner.specs.Tallies.{HasCounted, HasFirstLives, HasNodes, IsCounted, IsTally, TellsCounts, counted_of}
 use Rattle.grasp_runner.specs.declared.summary.Counts.{Counts as CountsCode}
 use Rattle.grasp_runner.specs.declared.tally.Tally.{Tally}
 use Rattle.grasp_runner.proofs.Ends.{runs_safely}
@@ -25,6 +26,10 @@ has_nodes script code tally plan h same = record {
   stands = h.has_run.stands;
   count = ap (λ (p : WorldPlan). p.nodes) same ∙ sym (plan_members script.plan);
 }
+
+-- in which no node has begun anew
+first_lives : ScriptsRestartNobody → (plan : WorldPlan) (run : List LineRun) → HasFirstLives (script_setting plan) (network_after (script_setting plan) (world_of plan) run)
+first_lives nobody plan run = nobody.lives plan run ∙ ap (numbers_from 1) (sym (plan_members plan))
 
 made : ℕ → ℕ → ℕ → ℕ → ℕ → ℕ → ℕ → Counts
 made n e a d b h t = record { nodes = n; events = e; agreed = a; declined = d; broken = b; held = h; doubt = t }
@@ -44,14 +49,15 @@ counts_same code tally c plan nodes rs last is tells same held doubt =
     same_made c.nodes k.nodes c.tally.events k.events c.tally.agreed k.agreed c.tally.declined k.declined c.tally.broken k.broken c.held k.held c.doubt k.doubt
     (tells.nodes_are ∙ same) own.events own.agreed own.declined own.broken held doubt
 
-pub is_counted : EachRunIsSafe → (script : Script) (code : World) (tally : Tally) (c : CountsCode) (plan : WorldPlan) → IsRead script → HasCounted script.plan script.lines code tally → TellsCounts code plan.nodes tally c
+pub is_counted : EachRunIsSafe → ScriptsRestartNobody → (script : Script) (code : World) (tally : Tally) (c : CountsCode) (plan : WorldPlan) → IsRead script → HasCounted script.plan script.lines code tally → TellsCounts code plan.nodes tally c
     → plan ≡ script.plan → IsCounted script.plan script.lines c
-is_counted safe script code tally c plan read h tells same =
+is_counted safe nobody script code tally c plan read h tells same =
     let last : WorldState = network_after (script_setting script.plan) (world_of script.plan) h.run in
+    let first : HasFirstLives (script_setting script.plan) last = first_lives nobody script.plan h.run in
     record {
       run = h.run;
       is_run = h.has_run.is_run;
       safely = runs_safely safe script h.run read h.has_run.may_run;
       is = counts_same code tally c script.plan plan.nodes (reports_of script.plan h.run) last h.is tells (ap (λ (p : WorldPlan). p.nodes) same)
-          (tells.held (script_setting script.plan) last h.has_run.stands) (tells.doubt (script_setting script.plan) last h.has_run.stands);
+          (tells.held (script_setting script.plan) last h.has_run.stands first) (tells.doubt (script_setting script.plan) last h.has_run.stands first);
     }

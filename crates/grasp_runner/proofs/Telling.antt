@@ -1,10 +1,9 @@
 -- Lines that are run, and their reports.
-use Rattle.std.proofs.Common.{◌≡◌, sym, ap, ◌∙◌, subst, ℕ, List, length, Some, Result, Ok, Err}
+use Rattle.std.proofs.Common.{◌≡◌, sym, ap, ◌∙◌, subst, ℕ, List, Some, Result, Ok, Err}
 use Rattle.grasp_agent.specs.States.{AgentState}
-use Rattle.grasp_model_network.specs.Plans.{IsNode}
 use Rattle.grasp_model_network.specs.Setting.{Setting}
 use Rattle.grasp_model_network.specs.Visits.{no_choice}
-use Rattle.grasp_model_network.specs.World.{Seat, WorldState, seat_at}
+use Rattle.grasp_model_network.specs.World.{Seat, WorldState, present_life, seat_at}
 use Rattle.grasp_model_network.specs.declared.event.Event.{Event}
 use Rattle.grasp_model_network.specs.declared.report.Report.{Report}
 use Rattle.grasp_model_network.specs.declared.report.WorldStop.{WorldStop}
@@ -16,7 +15,7 @@ use Rattle.grasp_model_script.specs.LineRuns.{event_told, seat_told}
 use Rattle.grasp_simulator.specs.WorldStands.{LendsAgent}
 use Rattle.grasp_simulator.specs.declared.world.World.{World}
 use Rattle.grasp_runner.specs.Lines.{LineMayStop, MeetsLine, RunsAct, RunsEvent, RunsLook, TellsEvent}
-use Rattle.grasp_runner.proofs.Placing.{IsThere, node_there, seats_here}
+use Rattle.grasp_runner.proofs.Placing.{IsThere, node_there}
 
 -- ---- events
 
@@ -50,19 +49,17 @@ tells_report text report told is = is
 pub look_node : (code : World) (s : Setting) (w : WorldState) (node : ℕ) → MeetsLine code s w (act.State node) → IsThere w node
 look_node code s w node h = node_there code s w node h.stands h.fit
 
-seat_is : (text told : List ℕ) (w : WorldState) (node : ℕ) (seat : Seat) (agent : AgentState) → seat_at w node ≡ Some seat → agent ≡ seat.agent → told ≡ told_state text agent.pool → told ≡ seat_told text (seat_at w node)
+seat_is : (text told : List ℕ) (w : WorldState) (life : ℕ) (seat : Seat) (agent : AgentState) → seat_at w life ≡ Some seat → agent ≡ seat.agent → told ≡ told_state text agent.pool → told ≡ seat_told text (seat_at w life)
 unfolding seat_told
-seat_is text told w node seat agent here is e = e ∙ ap (λ (a : AgentState). told_state text a.pool) is ∙ sym (ap (seat_told text) here)
+seat_is text told w life seat agent here is e = e ∙ ap (λ (a : AgentState). told_state text a.pool) is ∙ sym (ap (seat_told text) here)
 
 pub looks : (code : World) (text told : List ℕ) (node : ℕ) (agent : AgentState) → LendsAgent code node agent → told ≡ told_state text agent.pool → RunsLook code text node (Ok told)
 looks code text told node agent lends e = λ s w h.
     let there : IsThere w node = look_node code s w node h in
-    seat_is text told w node there.seat agent there.here (lends s w there.seat (record { stands = h.stands; here = there.here })) e
+    seat_is text told w (present_life w node) there.seat agent there.here (lends s w there.seat (record { stands = h.stands; here = there.here })) e
 
 look_runs : (code : World) (text : List ℕ) (node : ℕ) (r : Result (List ℕ) WorldStop) → RunsLook code text node r → RunsAct code code text (act.State node) r
-look_runs code text node (Ok told) runs = λ s w h. record { choice = no_choice; comes = member s w h; told_is = runs s w h; stands = h.stands } where
-  member : (s : Setting) (w : WorldState) (h : MeetsLine code s w (act.State node)) → IsNode (length w.seats) node
-  member s w h = subst (λ (n : ℕ). IsNode n node) (sym (seats_here code s w h.stands)) h.fit
+look_runs code text node (Ok told) runs = λ s w h. record { choice = no_choice; comes = h.fit; told_is = runs s w h; stands = h.stands }
 look_runs code text node (Err why) runs = λ s w h. stops_so s w (act.State node) why (runs s w h)
 
 -- a node is shown

@@ -2,7 +2,7 @@
 use Rattle.std.specs.Prelude.{◌≡◌, ℕ, List, length, Result, Ok, Err}
 use Rattle.grasp_model_network.specs.Setting.{Setting}
 use Rattle.grasp_model_network.specs.Visits.{Choice}
-use Rattle.grasp_model_network.specs.World.{WorldState, seat_at}
+use Rattle.grasp_model_network.specs.World.{WorldState, present_life, seat_at}
 use Rattle.grasp_model_network.specs.declared.event.Event.{Event}
 use Rattle.grasp_model_network.specs.declared.report.Report.{Report}
 use Rattle.grasp_model_network.specs.declared.report.WorldStop.{WorldStop}
@@ -78,7 +78,7 @@ TellsEvent text report (Err why) = why ≡ stop.OutOfMemory
 
 -- Inside: it tells this of a node that stands so
 abbrev pub LookAnswers : WorldState → List ℕ → ℕ → Result (List ℕ) WorldStop → Type 0
-LookAnswers w text node (Ok told) = told ≡ seat_told text (seat_at w node)
+LookAnswers w text node (Ok told) = told ≡ seat_told text (seat_at w (present_life w node))
 LookAnswers w text node (Err why) = why ≡ stop.OutOfMemory
 
 -- Inside: for each network for which the code goes on

@@ -1,7 +1,7 @@
 -- Inside: what the code counts of a run.
 use Rattle.std.specs.Prelude.{◌≡◌, ℕ, ◌<◌, ◌-◌, ◌^◌, List, [], ◌∷◌, ◌++◌, codes, decimal, length, Result, Ok, Err}
 use Rattle.grasp_model_network.specs.Runs.{reports_from}
-use Rattle.grasp_model_network.specs.Setting.{Setting}
+use Rattle.grasp_model_network.specs.Setting.{Setting, numbers_from}
 use Rattle.grasp_model_network.specs.Visits.{Choice}
 use Rattle.grasp_model_network.specs.World.{WorldState}
 use Rattle.grasp_model_network.specs.declared.plan.WorldPlan.{WorldPlan}
@@ -82,13 +82,17 @@ pub record HasNodes (code : World) (nodes : ℕ) : Type 0 where
   pub stands : WorldStands code (network_at setting network)
   pub count : nodes ≡ length setting.members
 
--- the nodes hold so many prefixes, for each network for which the code goes on
+-- no node has begun anew: the lives are the first ones of the members
+abbrev pub HasFirstLives : Setting → WorldState → Type 0
+HasFirstLives s w = w.lives ≡ numbers_from 1 (length s.members)
+
+-- the nodes hold so many prefixes, for each network of first lives for which the code goes on
 abbrev pub TellsHeld : World → ℕ → Type 0
-TellsHeld code held = (s : Setting) (w : WorldState) → WorldStands code (network_at s w) → held ≡ count_held w
+TellsHeld code held = (s : Setting) (w : WorldState) → WorldStands code (network_at s w) → HasFirstLives s w → held ≡ count_held w
 
 -- so many are in doubt
 abbrev pub TellsDoubt : World → ℕ → Type 0
-TellsDoubt code doubt = (s : Setting) (w : WorldState) → WorldStands code (network_at s w) → doubt ≡ count_doubt w
+TellsDoubt code doubt = (s : Setting) (w : WorldState) → WorldStands code (network_at s w) → HasFirstLives s w → doubt ≡ count_doubt w
 
 -- ---- the summary
 

@@ -2,7 +2,7 @@
 
 ghost use Rattle.std.specs.Prelude.{◌≡◌, IfOk};
 ghost use Rattle.grasp_model_network.specs.Setting.{Setting};
-ghost use Rattle.grasp_model_network.specs.World.{Seat, WorldState};
+ghost use Rattle.grasp_model_network.specs.World.{Seat, WorldState, present_life};
 ghost use Rattle.grasp_script.specs.declared.line.LineAct.TheVariants as act;
 ghost use Rattle.grasp_model_script.specs.LineRuns.{placed_handle, placed_call, placed_event};
 ghost use Rattle.grasp_simulator.specs.WorldStands.{HasNode, IsSeat};
@@ -13,10 +13,10 @@ use grasp_model_network::{Event, Report, WorldStop};
 use grasp_simulator::World;
 use grasp_types::{Call, Handle, Plain};
 
-/// The handle with the place that the node gave with its number.
+/// The handle with the place that was given with its number in the node's present life.
 fn placed_handle(world: &World, node: u8, handle: Handle) -> Handle
     requires { HasNode world.now node }
-    ensures { (s : Setting) (w : WorldState) (seat : Seat) → IsSeat world.now node s w seat → result ≡ placed_handle w node handle }
+    ensures { (s : Setting) (w : WorldState) (seat : Seat) → IsSeat world.now node s w seat → result ≡ placed_handle w (present_life w node) handle }
 {
     Handle {
         place: world.place(node, handle.number),
@@ -28,7 +28,7 @@ fn placed_handle(world: &World, node: u8, handle: Handle) -> Handle
 fn placed_call(world: &World, node: u8, call: &Call) -> Result<Call, OutOfMemory>
     requires { HasNode world.now node }
     ensures { IfOk result (λ placed. (s : Setting) (w : WorldState) (seat : Seat) → IsSeat world.now node s w seat
-        → placed ≡ placed_call w node call.now) }
+        → placed ≡ placed_call w (present_life w node) call.now) }
 {
     match call {
         Call::NegotiateStep { handle, value } => Ok(Call::NegotiateStep {

@@ -18,7 +18,7 @@ use crate::holdings::{count_doubt, count_held};
 use crate::tally::Tally;
 use grasp_cbor::OutOfMemory;
 use grasp_io::{Sink, write_all};
-use grasp_model_script::each_run_is_safe;
+use grasp_model_script::{each_run_is_safe, scripts_restart_nobody};
 use grasp_script::Script;
 use grasp_simulator::World;
 use grasp_text::{push_number, push_word};
@@ -81,6 +81,7 @@ fn count_in(world: &mut World, script: &Script) -> Result<Counts, RunFault>
     ensures no_write { IfErr result (λ fault. fault ≢ RunFault.WriteFault) }
 {
     each_run_is_safe();
+    scripts_restart_nobody();
     match count_lines(world, script) {
         Ok(tally) => Ok(tell_counts(world, script.plan().nodes, tally)),
         Err(RunFault::TooMuch) => Err(RunFault::TooMuch),

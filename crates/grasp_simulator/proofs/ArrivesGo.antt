@@ -3,16 +3,16 @@ use Rattle.std.proofs.Common.{◌≡◌, ◌≤◌, ◌<◌, refl, sym, ap, ◌�
 use Rattle.std.specs.List.{position, position_or_len}
 use Rattle.std.specs.Vec.{with_item}
 use Rattle.std.proofs.lemmas.Option.{none-some, same_Some}
-use Rattle.grasp_cbor.proofs.Facts.Lists.{length_map}
+use Rattle.std.proofs.lemmas.List.Quantifiers.{position-Some}
+use Rattle.grasp_model_node.specs.declared.plan.NodePlan.{NodePlan}
 use Rattle.grasp_types.specs.Same.{same_locator}
 use Rattle.grasp_types.specs.declared.address.Address.{Address}
 use Rattle.grasp_types.specs.declared.address.Locator.{Locator}
 use Rattle.grasp_types.specs.declared.reply.Reply.{Reply}
 use Rattle.grasp_types.specs.declared.reply.Reply.TheVariants as reply
 use Rattle.grasp_types.specs.declared.traffic.Input.TheVariants as input
-use Rattle.grasp_laws_network.proofs.GoodPlans.{count_numbers}
+use Rattle.grasp_laws_network.proofs.EachNode.{nodes_are_sound}
 use Rattle.grasp_laws_network.proofs.Here.{numbered_within}
-use Rattle.grasp_laws_network.proofs.Staying.{seats_stay}
 use Rattle.grasp_model_network.specs.EventSteps.{opened_at, opened_stream, arrival_visit, after_arrival}
 use Rattle.grasp_model_network.specs.StreamChanges.{arrival_by}
 use Rattle.grasp_model_network.specs.Events.{visit_of, after_event}
@@ -22,7 +22,7 @@ use Rattle.grasp_model_network.specs.Sending.{stepped}
 use Rattle.grasp_model_network.specs.Setting.{Member, Setting, numbered, numbers_from, is_at, counted_from_1, member_at, script_locator, script_address, script_member, script_setting}
 use Rattle.grasp_model_network.specs.Streams.{StreamEnd, Arrival, StreamState, is_waiting, stream_numbered, change_at_end, with_far}
 use Rattle.grasp_model_network.specs.Visits.{Visit, MayCome, no_choice, is_starved, visit, visit_seat}
-use Rattle.grasp_model_network.specs.World.{Seat, WorldState, end_of, seat_at}
+use Rattle.grasp_model_network.specs.World.{Seat, WorldState, end_of, member_of, present_life, seat_at}
 use Rattle.grasp_model_network.specs.declared.event.Event.TheVariants as event
 use Rattle.grasp_model_network.specs.declared.plan.WorldPlan.{WorldPlan}
 use Rattle.grasp_model_network.specs.declared.report.Report.TheVariants as report
@@ -41,9 +41,10 @@ use Rattle.grasp_simulator.specs.declared.stream.Stream.{Stream}
 use Rattle.grasp_simulator.specs.declared.streams.Streams.{Streams}
 use Rattle.grasp_simulator.specs.declared.world.World.{World}
 use Rattle.grasp_simulator.specs.declared.world_arrivals.Waiting.{Waiting}
-use Rattle.grasp_simulator.proofs.InputsGo.{own_step, Here, node_is, no_seat, Brings, input_runs}
+use Rattle.grasp_simulator.proofs.FirstLives.{Seated, seated, own_number, member_there, members_count}
+use Rattle.grasp_simulator.proofs.InputsGo.{own_step, Here, life_here, node_is, Brings, input_runs}
 use Rattle.grasp_simulator.proofs.Puts.{with_streams}
-use Rattle.grasp_simulator.proofs.SeatLists.{numbered_from_1}
+use Rattle.grasp_simulator.proofs.SeatLists.{numbered_from_1, seats_length}
 use Rattle.grasp_simulator.proofs.SideEnds.{number_is}
 use Rattle.grasp_simulator.proofs.StreamTalks.{Chosen, found_is, talk_at}
 
@@ -130,7 +131,9 @@ record Found (code : World) (s : Setting) (w : WorldState) (k : ℕ) (x : Waitin
   got : stream_numbered w.streams k ≡ Some talk
   waits : is_waiting talk.far_side ≡ true
   member : member_at s talk.to ≡ Some x.node
-  near : numbered s.members talk.near.node ≡ Some (script_member code.plan x.near)
+  near : Seat
+  near_here : seat_at w talk.near.node ≡ Some near
+  address : near.core.plan.address ≡ (script_member code.plan x.near).plan.address
   least : 1 ≤ k
   most : k ≤ 2 ^ 62
 
@@ -163,14 +166,27 @@ members_are : (p : WorldPlan) → (script_setting p).members ≡ members_of p
 unfolding script_setting
 members_are p = refl
 
-near_is : (law : StreamsAreReady) (code : World) (s : Setting) (w : WorldState) (k near : ℕ) (t : StreamState) → WorldGoes code s w → stream_numbered w.streams k ≡ Some t → t.near.node ≡ near → numbered s.members t.near.node ≡ Some (script_member code.plan near)
+-- the node that dialled, and its address
+record Dialling (p : WorldPlan) (w : WorldState) (node near : ℕ) : Type 0 where
+  seat : Seat
+  here : seat_at w node ≡ Some seat
+  address : seat.core.plan.address ≡ (script_member p near).plan.address
+
+near_is : (law : StreamsAreReady) (code : World) (s : Setting) (w : WorldState) (k near : ℕ) (t : StreamState) → WorldGoes code s w → stream_numbered w.streams k ≡ Some t → t.near.node ≡ near → Dialling code.plan w t.near.node near
 near_is law code s w k near t goes got is =
     let p : WorldPlan = code.plan in
     let members : s.members ≡ members_of p = ap (λ (q : Setting). q.members) goes.keeps.setting ∙ members_are p in
     let c : Chosen (λ (x : StreamState). HasGoodEnds s (length w.seats) w.dials x.near x.number x.far) (numbers k) t = found_is (λ (x : StreamState). HasGoodEnds s (length w.seats) w.dials x.near x.number x.far) (numbers k) w.streams t got (law.ends s w goes.reached) in
-    let count : length w.seats ≡ p.nodes = seats_stay.all s w goes.reached ∙ (ap (λ (ms : List Member). length ms) members ∙ (length_map (script_member p) (numbers_from 1 p.nodes) ∙ count_numbers 1 p.nodes)) in
-    let here : IsNode p.nodes t.near.node = subst (λ (n : ℕ). IsNode n t.near.node) count c.holds.member in
-    ap (λ (ms : List Member). numbered ms t.near.node) members ∙ (numbered_from_1 (script_member p) p.nodes t.near.node here.least here.most ∙ ap (λ (n : ℕ). Some (script_member p n)) is)
+    let there : Here w t.near.node = life_here w t.near.node c.holds.member in
+    let here : IsNode p.nodes t.near.node = subst (λ (n : ℕ). IsNode n t.near.node) (members_count code s w goes.keeps) (member_there code s w t.near.node goes c.holds.member) in
+    let member : numbered s.members (member_of w t.near.node) ≡ Some (script_member p near) =
+    ap (numbered s.members) (own_number w t.near.node goes.keeps.members c.holds.member)
+    ∙ (ap (λ (ms : List Member). numbered ms t.near.node) members ∙ (numbered_from_1 (script_member p) p.nodes t.near.node here.least here.most ∙ ap (λ (n : ℕ). Some (script_member p n)) is)) in
+    record {
+      seat = there.seat;
+      here = there.here;
+      address = ap (λ (q : NodePlan). q.address) (nodes_are_sound.plans s w goes.reached t.near.node there.seat (script_member p near) there.here member);
+    }
 
 found_by : (law : StreamsAreReady) (code : World) (s : Setting) (w : WorldState) (k : ℕ) (x : Waiting) (co : Option Stream) (to : Option StreamState) → WorldGoes code s w → numbered code.streams.list.items k ≡ co → stream_numbered w.streams k ≡ to → IsTalk k co to
     → waiting_in code.plan.nodes co ≡ Some x → Found code s w k x
@@ -182,12 +198,15 @@ found_by law code s w k x (Some c) (Some t) goes is got talk waits =
     let most : k ≤ length code.streams.list.items = in_list.most in
     let count : w.dials ≡ length code.streams.list.items = goes.keeps.streams.dialled in
     let few : w.dials ≤ 2 ^ 62 = goes.keeps.streams.few in
+    let dialling : Dialling code.plan w t.near.node x.near = near_is law code s w k x.near t goes got (ap (λ (e : StreamEnd). e.node) talk.near ∙ h.near) in
     record {
       talk = t;
       got = got;
       waits = sym (ap is_waiting talk.far_side) ∙ (unopened c.far_side ∙ h.side);
       member = ap (member_at s) (sym talk.to) ∙ (ap (λ (q : Setting). member_at q c.to) goes.keeps.setting ∙ (sym (listener_is code.plan c.to) ∙ h.node));
-      near = near_is law code s w k x.near t goes got (ap (λ (e : StreamEnd). e.node) talk.near ∙ h.near);
+      near = dialling.seat;
+      near_here = dialling.here;
+      address = dialling.address;
       least = in_list.least;
       most = omega (arith, most, count, few);
     }
@@ -197,19 +216,33 @@ found law code s w k x goes waits =
     found_by law code s w k x (numbered code.streams.list.items k) (stream_numbered w.streams k) goes refl refl
     (talk_at code.streams.list.items code.streams.near.entries w.streams w.dials goes.keeps.streams k) waits
 
+-- who listens at a locator is one of the members
+listener_member : (s : Setting) (to : Locator) (node : ℕ) (d : Member) → member_at s to ≡ Some node → IsNode (length s.members) node
+listener_member s to node d e = by_place (position (is_at to) s.members) refl e where
+  by_place : (o : Option ℕ) → position (is_at to) s.members ≡ o → counted_from_1 o ≡ Some node → IsNode (length s.members) node
+  by_place None is e = absurd (none-some node e)
+  by_place (Some i) is e =
+      let same : i + 1 ≡ node = same_Some (i + 1) node e in
+      let within : i < length s.members = (position-Some (is_at to) s.members i d is).0 in
+      record { least = omega (arith, same); most = omega (arith, same, within) }
+
+listener_seated : (law : StreamsAreReady) (code : World) (s : Setting) (w : WorldState) (k : ℕ) (x : Waiting) → WorldGoes code s w → Found code s w k x → Seated w x.node
+listener_seated law code s w k x goes f = seated code s w x.node goes (listener_member s f.talk.to x.node (script_member code.plan 0) f.member)
+
 -- ---- the step
 
-open_is : (s : Setting) (w : WorldState) (k node number : ℕ) (from : Address) (t : StreamState) (m : Member) (o : Option Seat) → stream_numbered w.streams k ≡ Some t → is_waiting t.far_side ≡ true → member_at s t.to ≡ Some node → numbered s.members t.near.node ≡ Some m
-    → s.arrives_as node k ≡ number → s.arrives_from k m.plan.address ≡ from → seat_at w node ≡ o → arrival_visit s w k ≡ visit_seat node (input.Opened number from) o
+open_is : (s : Setting) (w : WorldState) (k member node number : ℕ) (from : Address) (t : StreamState) (near : Seat) (o : Option Seat) → stream_numbered w.streams k ≡ Some t → is_waiting t.far_side ≡ true → member_at s t.to ≡ Some member
+    → seat_at w t.near.node ≡ Some near → present_life w member ≡ node → s.arrives_as node k ≡ number → s.arrives_from k near.core.plan.address ≡ from → seat_at w node ≡ o → arrival_visit s w k ≡ visit_seat node (input.Opened number from) o
 unfolding arrival_visit
-open_is s w k node number from t m o got waits member near number_as from_as here =
+open_is s w k member node number from t near o got waits member_is near_here present number_as from_as here =
     ap (opened_stream s w k) got
-    ∙ (ap (λ (b : Bool). cond b (opened_at s w k (member_at s t.to) (numbered s.members t.near.node)) None) waits
-    ∙ (ap (λ (q : Option ℕ). opened_at s w k q (numbered s.members t.near.node)) member
-    ∙ (ap (opened_at s w k (Some node)) near
-    ∙ (ap (λ (n : ℕ). visit w node (input.Opened n (s.arrives_from k m.plan.address))) number_as
+    ∙ (ap (λ (b : Bool). cond b (opened_at s w k (member_at s t.to) (seat_at w t.near.node)) None) waits
+    ∙ (ap (λ (q : Option ℕ). opened_at s w k q (seat_at w t.near.node)) member_is
+    ∙ (ap (opened_at s w k (Some member)) near_here
+    ∙ (ap (λ (n : ℕ). visit w n (input.Opened (s.arrives_as n k) (s.arrives_from k near.core.plan.address))) present
+    ∙ (ap (λ (n : ℕ). visit w node (input.Opened n (s.arrives_from k near.core.plan.address))) number_as
     ∙ (ap (λ (a : Address). visit w node (input.Opened number a)) from_as
-    ∙ ap (visit_seat node (input.Opened number from)) here)))))
+    ∙ ap (visit_seat node (input.Opened number from)) here))))))
 
 script_number_is : (p : WorldPlan) (node k : ℕ) → (script_setting p).arrives_as node k ≡ 2 * k - 1
 unfolding script_setting
@@ -225,9 +258,10 @@ arrives_as code s w node k keeps = ap (λ (q : Setting). q.arrives_as node k) ke
 arrives_from : (code : World) (s : Setting) (w : WorldState) (k near : ℕ) → WorldKeeps code s w → s.arrives_from k (script_member code.plan near).plan.address ≡ script_address near
 arrives_from code s w k near keeps = ap (λ (q : Setting). q.arrives_from k (script_member code.plan near).plan.address) keeps.setting ∙ script_opener_is code.plan k near
 
-visit_is : (code : World) (s : Setting) (w : WorldState) (k : ℕ) (x : Waiting) (o : Option Seat) (f : Found code s w k x) → WorldKeeps code s w → seat_at w x.node ≡ o → arrival_visit s w k ≡ visit_seat x.node (input.Opened (2 * k - 1) (script_address x.near)) o
-visit_is code s w k x o f keeps here =
-    open_is s w k x.node (2 * k - 1) (script_address x.near) f.talk (script_member code.plan x.near) o f.got f.waits f.member f.near (arrives_as code s w x.node k keeps) (arrives_from code s w k x.near keeps) here
+visit_is : (code : World) (s : Setting) (w : WorldState) (k : ℕ) (x : Waiting) (o : Option Seat) (f : Found code s w k x) → WorldKeeps code s w → present_life w x.node ≡ x.node → seat_at w x.node ≡ o → arrival_visit s w k ≡ visit_seat x.node (input.Opened (2 * k - 1) (script_address x.near)) o
+visit_is code s w k x o f keeps present here =
+    open_is s w k x.node x.node (2 * k - 1) (script_address x.near) f.talk f.near o f.got f.waits f.member f.near_here present (arrives_as code s w x.node k keeps)
+    (ap (s.arrives_from k) f.address ∙ arrives_from code s w k x.near keeps) here
 
 -- ---- what comes of it
 
@@ -263,7 +297,7 @@ arrive_runs law old new k hold x number from streams i own after r waits number_
     let v : Visit = own_step x.node there.seat (input.Opened number from) in
     let number_2 : number ≡ 2 * k - 1 = number_of ∙ number_is k f.least f.most in
     let is : arrival_visit s w k ≡ Some v =
-    visit_is old s w k x (Some there.seat) f keeps there.here
+    visit_is old s w k x (Some there.seat) f keeps (listener_seated law old s w k x may.goes f).present there.here
     ∙ (ap (λ (n : ℕ). Some (own_step x.node there.seat (input.Opened n (script_address x.near)))) (sym number_2)
     ∙ ap (λ (a : Address). Some (own_step x.node there.seat (input.Opened number a))) (sym from_of)) in
     let far : end_here x.node (2 * k - 1) ≡ end_of x.node there.seat (s.arrives_as x.node k) =
@@ -282,7 +316,7 @@ pub arrival_starves : (law : StreamsAreReady) (code : World) (k : ℕ) (hold : B
 arrival_starves law code k hold x waits is_node s w may =
     let f : Found code s w k x = found law code s w k x may.goes waits in
     let there : Here w x.node = node_is code s w x.node may.goes.keeps is_node in
-    (refl, ap is_some (visit_is code s w k x (Some there.seat) f may.goes.keeps there.here))
+    (refl, ap is_some (visit_is code s w k x (Some there.seat) f may.goes.keeps (listener_seated law code s w k x may.goes f).present there.here))
 
 -- ---- nothing comes of it
 
@@ -295,9 +329,9 @@ nothing_arrives code s w k hold may is =
     let h = none_arrived s w k hold is in
     record { choice = no_choice; comes = subst (λ o. MayCome o no_choice) (sym is) tt; report_is = sym h.1; keeps = subst (WorldKeeps code s) (sym h.0) may.goes.keeps }
 
-open_none : (s : Setting) (w : WorldState) (k : ℕ) (near : Option Member) → opened_at s w k None near ≡ None
+open_none : (s : Setting) (w : WorldState) (k : ℕ) (near : Option Seat) → opened_at s w k None near ≡ None
 open_none s w k None = refl
-open_none s w k (Some m) = refl
+open_none s w k (Some seat) = refl
 
 unopened_by : (p : WorldPlan) (s : Setting) (w : WorldState) (k : ℕ) (co : Option Stream) (to : Option StreamState) → s ≡ script_setting p → IsTalk k co to → waiting_in p.nodes co ≡ None → opened_stream s w k to ≡ None
 unopened_by p s w k None None setting talk none = refl
@@ -310,14 +344,14 @@ unopened_by p s w k (Some c) (Some t) setting talk none = by_side (is_unopened c
   member : member_at s t.to ≡ listener_from 1 p.nodes c.to
   member = ap (member_at s) (sym talk.to) ∙ (ap (λ (q : Setting). member_at q c.to) setting ∙ sym (listener_is p c.to))
 
-  by_node : (o : Option ℕ) → listener_from 1 p.nodes c.to ≡ o → waiting_by c.near o ≡ None → opened_at s w k (member_at s t.to) (numbered s.members t.near.node) ≡ None
-  by_node None is e = ap (λ (q : Option ℕ). opened_at s w k q (numbered s.members t.near.node)) (member ∙ is) ∙ open_none s w k (numbered s.members t.near.node)
+  by_node : (o : Option ℕ) → listener_from 1 p.nodes c.to ≡ o → waiting_by c.near o ≡ None → opened_at s w k (member_at s t.to) (seat_at w t.near.node) ≡ None
+  by_node None is e = ap (λ (q : Option ℕ). opened_at s w k q (seat_at w t.near.node)) (member ∙ is) ∙ open_none s w k (seat_at w t.near.node)
   by_node (Some node) is e = absurd (none-some (record { near = c.near; node = node }) (sym e))
 
   by_side : (b : Bool) → is_unopened c.far_side ≡ b → cond b (waiting_by c.near (listener_from 1 p.nodes c.to)) None ≡ None → opened_stream s w k (Some t) ≡ None
   by_side true side e =
-      ap (λ (b : Bool). cond b (opened_at s w k (member_at s t.to) (numbered s.members t.near.node)) None) (waits ∙ side) ∙ by_node (listener_from 1 p.nodes c.to) refl e
-  by_side false side e = ap (λ (b : Bool). cond b (opened_at s w k (member_at s t.to) (numbered s.members t.near.node)) None) (waits ∙ side)
+      ap (λ (b : Bool). cond b (opened_at s w k (member_at s t.to) (seat_at w t.near.node)) None) (waits ∙ side) ∙ by_node (listener_from 1 p.nodes c.to) refl e
+  by_side false side e = ap (λ (b : Bool). cond b (opened_at s w k (member_at s t.to) (seat_at w t.near.node)) None) (waits ∙ side)
 
 -- nothing comes of a stream that doesn't wait
 pub no_arrival : (code : World) (k : ℕ) (hold : Bool) → waiting_in code.plan.nodes (numbered code.streams.list.items k) ≡ None → Runs code code (event.Arrive k hold) report.Nothing
@@ -327,8 +361,8 @@ no_arrival code k hold none s w may =
     (unopened_by code.plan s w k (numbered code.streams.list.items k) (stream_numbered w.streams k) may.goes.keeps.setting
     (talk_at code.streams.list.items code.streams.near.entries w.streams w.dials may.goes.keeps.streams k) none)
 
--- nothing comes of a stream that waits to be opened at a node that isn't there
+-- the node where a stream waits to be opened is there
 pub unseated_arrival : (law : StreamsAreReady) (code : World) (k : ℕ) (hold : Bool) (x : Waiting) → waiting_in code.plan.nodes (numbered code.streams.list.items k) ≡ Some x → (IsNode (length code.seats.items) x.node → ⊥) → Runs code code (event.Arrive k hold) report.Nothing
 unseated_arrival law code k hold x waits none s w may =
     let f : Found code s w k x = found law code s w k x may.goes waits in
-    nothing_arrives code s w k hold may (visit_is code s w k x None f may.goes.keeps (no_seat code s w x.node may.goes.keeps none))
+    absurd (none (subst (λ (n : ℕ). IsNode n x.node) (sym (seats_length code.seats.items w.seats may.goes.keeps.seats)) (listener_seated law code s w k x may.goes f).within))

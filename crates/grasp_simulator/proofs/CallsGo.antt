@@ -15,7 +15,7 @@ use Rattle.grasp_model_network.specs.Runs.{IsReached}
 use Rattle.grasp_model_network.specs.Sending.{seat_with, stepped}
 use Rattle.grasp_model_network.specs.Setting.{Setting}
 use Rattle.grasp_model_network.specs.Visits.{Visit, Choice, MayCome, VisitStep, is_starved}
-use Rattle.grasp_model_network.specs.World.{Seat, WorldState, seat_at}
+use Rattle.grasp_model_network.specs.World.{Seat, WorldState, present_life, seat_at}
 use Rattle.grasp_model_network.specs.declared.event.Event.{Event}
 use Rattle.grasp_model_network.specs.declared.event.Event.TheVariants as event
 use Rattle.grasp_model_network.specs.declared.report.Report.TheVariants as report
@@ -28,6 +28,7 @@ use Rattle.grasp_simulator.specs.WorldSteps.{Runs}
 use Rattle.grasp_simulator.specs.declared.places.Places.{Places}
 use Rattle.grasp_simulator.specs.declared.seat.Seat.{Seat as SeatCode}
 use Rattle.grasp_simulator.specs.declared.world.World.{World}
+use Rattle.grasp_simulator.proofs.FirstLives.{Seated, seated}
 use Rattle.grasp_simulator.proofs.InputsGo.{own_step}
 use Rattle.grasp_simulator.proofs.Noting.{noted_keeps, offers_keep}
 use Rattle.grasp_simulator.proofs.SeatSteps.{nothing_comes}
@@ -38,17 +39,19 @@ use Rattle.grasp_simulator.proofs.Turns.{OwnSeat, own_seat, quiet_reached, stepp
 abbrev called : WorldState → ℕ → Seat → ℕ → Call → Choice → WorldState
 called w node seat asa call c = noted (stepped w (own_step node seat (input.Api asa call)) c.after seat.agent) (own_step node seat (input.Api asa call)) asa call c.reply
 
-call_comes : (s : Setting) (w : WorldState) (node asa : ℕ) (call : Call) (hold : Bool) (seat : Seat) (c : Choice) → seat_at w node ≡ Some seat → VisitStep (own_step node seat (input.Api asa call)) c → MayCome (visit_of s w (event.Api node asa call hold)) c
-call_comes s w node asa call hold seat c here steps = rw here steps
+call_comes : (s : Setting) (w : WorldState) (member node asa : ℕ) (call : Call) (hold : Bool) (seat : Seat) (c : Choice) → present_life w member ≡ node → seat_at w node ≡ Some seat → VisitStep (own_step node seat (input.Api asa call)) c
+    → MayCome (visit_of s w (event.Api member asa call hold)) c
+call_comes s w member node asa call hold seat c present here steps = rw present (rw here steps)
 
-call_after : (s : Setting) (w : WorldState) (node asa : ℕ) (call : Call) (hold : Bool) (seat : Seat) (c : Choice) → seat_at w node ≡ Some seat
-    → after_event s w (event.Api node asa call hold) c ≡ drained_behind (not hold) s (called w node seat asa call c) node
+call_after : (s : Setting) (w : WorldState) (member node asa : ℕ) (call : Call) (hold : Bool) (seat : Seat) (c : Choice) → present_life w member ≡ node → seat_at w node ≡ Some seat
+    → after_event s w (event.Api member asa call hold) c ≡ drained_behind (not hold) s (called w node seat asa call c) node
 unfolding after_event after_agent_call
-call_after s w node asa call hold seat c here = rw here refl
+call_after s w member node asa call hold seat c present here = rw present (rw here refl)
 
-call_report : (s : Setting) (w : WorldState) (node asa : ℕ) (call : Call) (hold : Bool) (seat : Seat) (c : Choice) → seat_at w node ≡ Some seat → report_of s w (event.Api node asa call hold) c ≡ report.Reply c.reply
+call_report : (s : Setting) (w : WorldState) (member node asa : ℕ) (call : Call) (hold : Bool) (seat : Seat) (c : Choice) → present_life w member ≡ node → seat_at w node ≡ Some seat
+    → report_of s w (event.Api member asa call hold) c ≡ report.Reply c.reply
 unfolding report_of
-call_report s w node asa call hold seat c here = rw here refl
+call_report s w member node asa call hold seat c present here = rw present (rw here refl)
 
 call_count : (w : WorldState) (node : ℕ) (seat : Seat) (asa : ℕ) (call : Call) (c : Choice) → (called w node seat asa call c).byte_count ≡ w.byte_count
 unfolding noted stepped
@@ -67,7 +70,8 @@ pub call_runs : (law : StreamsAreReady) (old new : World) (node asa : ℕ) (call
     → SendsBehind (record old { seats = with_item old.seats i changed; places = places }) new node hold → Runs old new (event.Api node asa call hold) (report.Reply r)
 call_runs law old new node asa call hold i own changed places r place got steps fed notes sends s w may =
     let keeps : WorldKeeps old s w = may.goes.keeps in
-    let found : OwnSeat w node own = own_seat old s w node i own keeps may.fit.0 place got in
+    let at : Seated w node = seated old s w node may.goes may.fit.0 in
+    let found : OwnSeat w node own = own_seat old s w node i own keeps at.within place got in
     let seat : Seat = found.seat in
     let x : Sitting = record { seat = seat; coming = nothing_comes } in
     let h : SeatStepped changed (input.Api asa call) x r = steps x (record { stands = found.stands; comes = tt }) in
@@ -76,17 +80,17 @@ call_runs law old new node asa call hold i own changed places r place got steps 
     let step : VisitStep v c = record { steps = h.steps; fed = fed } in
     let f : Event = event.Api node asa call true in
     let next : WorldState = called w node seat asa call c in
-    let reached : IsReached s next = subst (IsReached s) (call_after s w node asa call true seat c found.here)
-    (quiet_reached s w f c old (record { goes = may.goes; fit = may.fit }) (call_comes s w node asa call true seat c found.here step) (ap (λ (y : WorldState). y.byte_count) (call_after s w node asa call true seat c found.here) ∙ call_count w node seat asa call c)) in
+    let reached : IsReached s next = subst (IsReached s) (call_after s w node node asa call true seat c at.present found.here)
+    (quiet_reached s w f c old (record { goes = may.goes; fit = may.fit }) (call_comes s w node node asa call true seat c at.present found.here step) (ap (λ (y : WorldState). y.byte_count) (call_after s w node node asa call true seat c at.present found.here) ∙ call_count w node seat asa call c)) in
     let mid : World = record old { seats = with_item old.seats i changed } in
     let kept : WorldKeeps (record mid { places = places }) s next =
     noted_keeps mid places s (stepped w v h.after seat.agent) v asa call r
     (stepped_keeps law old s w next v h.after seat.agent i changed keeps found.first place h.stands reached (call_talks w node seat asa call c)) found.first notes in
     record {
       choice = c;
-      comes = call_comes s w node asa call hold seat c found.here step;
-      report_is = sym (call_report s w node asa call hold seat c found.here);
-      keeps = subst (WorldKeeps new s) (sym (call_after s w node asa call hold seat c found.here))
+      comes = call_comes s w node node asa call hold seat c at.present found.here step;
+      report_is = sym (call_report s w node node asa call hold seat c at.present found.here);
+      keeps = subst (WorldKeeps new s) (sym (call_after s w node node asa call hold seat c at.present found.here))
           (sends s next (seat_with seat h.after seat.agent) (record { reached = reached; keeps = kept }) (call_here w node seat asa call c may.fit.0.least found.here));
     }
 
@@ -101,17 +105,20 @@ answered w node seat c = replied w (own_call node seat) c (after_reply seat.agen
 abbrev own_noted : WorldState → ℕ → Seat → Choice → WorldState
 own_noted w node seat c = noted (stepped w (own_call node seat) c.after (after_reply seat.agent c.reply)) (own_call node seat) seat.agent.asa (next_call seat.agent) c.reply
 
-agent_comes : (s : Setting) (w : WorldState) (node : ℕ) (hold : Bool) (seat : Seat) (c : Choice) → seat_at w node ≡ Some seat → VisitStep (own_call node seat) c → MayCome (visit_of s w (event.Agent node hold)) c
+agent_comes : (s : Setting) (w : WorldState) (member node : ℕ) (hold : Bool) (seat : Seat) (c : Choice) → present_life w member ≡ node → seat_at w node ≡ Some seat → VisitStep (own_call node seat) c
+    → MayCome (visit_of s w (event.Agent member hold)) c
 unfolding agent_visit
-agent_comes s w node hold seat c here steps = rw here steps
+agent_comes s w member node hold seat c present here steps = rw present (rw here steps)
 
-agent_after : (s : Setting) (w : WorldState) (node : ℕ) (hold : Bool) (seat : Seat) (c : Choice) → seat_at w node ≡ Some seat → after_event s w (event.Agent node hold) c ≡ drained_behind (not hold) s (answered w node seat c) node
+agent_after : (s : Setting) (w : WorldState) (member node : ℕ) (hold : Bool) (seat : Seat) (c : Choice) → present_life w member ≡ node → seat_at w node ≡ Some seat
+    → after_event s w (event.Agent member hold) c ≡ drained_behind (not hold) s (answered w node seat c) node
 unfolding after_event agent_visit after_agent
-agent_after s w node hold seat c here = rw here refl
+agent_after s w member node hold seat c present here = rw present (rw here refl)
 
-agent_report : (s : Setting) (w : WorldState) (node : ℕ) (hold : Bool) (seat : Seat) (c : Choice) → seat_at w node ≡ Some seat → report_of s w (event.Agent node hold) c ≡ report.Agent (next_call seat.agent) c.reply
+agent_report : (s : Setting) (w : WorldState) (member node : ℕ) (hold : Bool) (seat : Seat) (c : Choice) → present_life w member ≡ node → seat_at w node ≡ Some seat
+    → report_of s w (event.Agent member hold) c ≡ report.Agent (next_call seat.agent) c.reply
 unfolding report_of agent_visit
-agent_report s w node hold seat c here = rw here refl
+agent_report s w member node hold seat c present here = rw present (rw here refl)
 
 agent_count : (w : WorldState) (node : ℕ) (seat : Seat) (c : Choice) → (answered w node seat c).byte_count ≡ w.byte_count
 unfolding noted stepped
@@ -130,7 +137,8 @@ pub agent_runs : (law : StreamsAreReady) (old new : World) (node : ℕ) (hold : 
     → SendsBehind (record old { seats = with_item old.seats i changed; places = places }) new node hold → Runs old new (event.Agent node hold) (report.Agent call r)
 agent_runs law old new node hold i own changed places call r place got steps notes sends s w may =
     let keeps : WorldKeeps old s w = may.goes.keeps in
-    let found : OwnSeat w node own = own_seat old s w node i own keeps may.fit place got in
+    let at : Seated w node = seated old s w node may.goes may.fit in
+    let found : OwnSeat w node own = own_seat old s w node i own keeps at.within place got in
     let seat : Seat = found.seat in
     let x : Sitting = record { seat = seat; coming = nothing_comes } in
     let h : AgentStepped changed x call r = steps x found.stands in
@@ -139,8 +147,8 @@ agent_runs law old new node hold i own changed places call r place got steps not
     let step : VisitStep v c = record { steps = h.steps; fed = h.fed } in
     let f : Event = event.Agent node true in
     let next : WorldState = answered w node seat c in
-    let reached : IsReached s next = subst (IsReached s) (agent_after s w node true seat c found.here)
-    (quiet_reached s w f c old (record { goes = may.goes; fit = may.fit }) (agent_comes s w node true seat c found.here step) (ap (λ (y : WorldState). y.byte_count) (agent_after s w node true seat c found.here) ∙ agent_count w node seat c)) in
+    let reached : IsReached s next = subst (IsReached s) (agent_after s w node node true seat c at.present found.here)
+    (quiet_reached s w f c old (record { goes = may.goes; fit = may.fit }) (agent_comes s w node node true seat c at.present found.here step) (ap (λ (y : WorldState). y.byte_count) (agent_after s w node node true seat c at.present found.here) ∙ agent_count w node seat c)) in
     let mid : World = record old { seats = with_item old.seats i changed } in
     let kept : WorldKeeps (record mid { places = places }) s next =
     offers_keep (record mid { places = places }) s (own_noted w node seat c) (offers_after (stepped w v h.after (after_reply seat.agent r)).streams w v h.after (after_reply seat.agent r))
@@ -148,8 +156,8 @@ agent_runs law old new node hold i own changed places call r place got steps not
     (stepped_keeps law old s w next v h.after (after_reply seat.agent r) i changed keeps found.first place h.stands reached (agent_talks w node seat c)) found.first notes) in
     record {
       choice = c;
-      comes = agent_comes s w node hold seat c found.here step;
-      report_is = ap (λ (k : Call). report.Agent k r) h.calls ∙ sym (agent_report s w node hold seat c found.here);
-      keeps = subst (WorldKeeps new s) (sym (agent_after s w node hold seat c found.here))
+      comes = agent_comes s w node node hold seat c at.present found.here step;
+      report_is = ap (λ (k : Call). report.Agent k r) h.calls ∙ sym (agent_report s w node node hold seat c at.present found.here);
+      keeps = subst (WorldKeeps new s) (sym (agent_after s w node node hold seat c at.present found.here))
           (sends s next (seat_with seat h.after (after_reply seat.agent r)) (record { reached = reached; keeps = kept }) (agent_here w node seat c may.fit.least found.here));
     }

@@ -1,5 +1,5 @@
 -- A drain of a network's node.
-use Rattle.std.proofs.Common.{◌≡◌, ◌<◌, ◌≤◌, refl, sym, ap, ◌∙◌, subst, arith, ℕ, zero, suc, ◌-◌, List, [], ◌∷◌, length, Some, slice_get}
+use Rattle.std.proofs.Common.{◌≡◌, refl, sym, ap, ◌∙◌, subst, ℕ, length, Some}
 use Rattle.grasp_model_node.specs.Begin.{begin}
 use Rattle.grasp_model_node.specs.Draining.{after_drain}
 use Rattle.grasp_model_node.specs.Draining as core
@@ -11,54 +11,44 @@ use Rattle.grasp_model_network.specs.Reports.{report_of}
 use Rattle.grasp_model_network.specs.Sending.{drained}
 use Rattle.grasp_model_network.specs.Setting.{Setting}
 use Rattle.grasp_model_network.specs.Visits.{Choice, MayCome}
-use Rattle.grasp_model_network.specs.World.{Seat, WorldState, seat_at}
+use Rattle.grasp_model_network.specs.World.{Seat, WorldState, present_life, seat_at}
 use Rattle.grasp_model_network.specs.declared.event.Event.TheVariants as event
 use Rattle.grasp_model_network.specs.declared.report.Report.TheVariants as report
 use Rattle.grasp_simulator.specs.Sends.{Sends}
 use Rattle.grasp_simulator.specs.WorldStands.{WorldKeeps}
 use Rattle.grasp_simulator.specs.WorldSteps.{Runs}
 use Rattle.grasp_simulator.specs.declared.world.World.{World}
+use Rattle.grasp_simulator.proofs.FirstLives.{Seated, seated}
+use Rattle.grasp_simulator.proofs.InputsGo.{Here, life_here}
 use Rattle.grasp_simulator.proofs.SeatSteps.{nothing_comes, drain_steps}
-use Rattle.grasp_simulator.proofs.Turns.{node_here}
-
--- the one within a list
-pub record There (seats : List Seat) (i : ℕ) : Type 0 where
-  pub seat : Seat
-  pub got : slice_get seats i ≡ Some seat
-
-there_is : (seats : List Seat) (i : ℕ) → i < length seats → There seats i
-there_is [] i within = absurd (omega (arith, within))
-there_is (x ∷ xs) zero within = record { seat = x; got = refl }
-there_is (x ∷ xs) (suc i) within = let below : There xs i = there_is xs i (omega (arith, within)) in record { seat = below.seat; got = below.got }
 
 drain_choice : Seat → ℕ → Choice
 drain_choice seat max = record { coming = nothing_comes; reply = reply.Outputs (core.drained (begin seat.core seat.core.reading) max); after = after_drain (begin seat.core seat.core.reading) max }
 
-drain_comes : (s : Setting) (w : WorldState) (node max : ℕ) (seat : Seat) → seat_at w node ≡ Some seat → MayCome (visit_of s w (event.Drain node max)) (drain_choice seat max)
+drain_comes : (s : Setting) (w : WorldState) (member node max : ℕ) (seat : Seat) → present_life w member ≡ node → seat_at w node ≡ Some seat → MayCome (visit_of s w (event.Drain member max)) (drain_choice seat max)
 unfolding drain_choice
-drain_comes s w node max seat here = rw here (record { steps = drain_steps seat.core seat.core.reading max nothing_comes; fed = refl })
+drain_comes s w member node max seat present here = rw present (rw here (record { steps = drain_steps seat.core seat.core.reading max nothing_comes; fed = refl }))
 
-drain_after : (s : Setting) (w : WorldState) (node max : ℕ) (seat : Seat) (c : Choice) → seat_at w node ≡ Some seat → after_event s w (event.Drain node max) c ≡ drained s w node max
+drain_after : (s : Setting) (w : WorldState) (member node max : ℕ) (seat : Seat) (c : Choice) → present_life w member ≡ node → seat_at w node ≡ Some seat → after_event s w (event.Drain member max) c ≡ drained s w node max
 unfolding after_event
-drain_after s w node max seat c here = rw here refl
+drain_after s w member node max seat c present here = rw present (rw here refl)
 
-drain_report : (s : Setting) (w : WorldState) (node max : ℕ) (seat : Seat) (c : Choice) → seat_at w node ≡ Some seat
-    → report_of s w (event.Drain node max) c ≡ report.Sent (length (core.drained (begin seat.core seat.core.reading) max))
+drain_report : (s : Setting) (w : WorldState) (member node max : ℕ) (seat : Seat) (c : Choice) → present_life w member ≡ node → seat_at w node ≡ Some seat
+    → report_of s w (event.Drain member max) c ≡ report.Sent (length (core.drained (begin seat.core seat.core.reading) max))
 unfolding report_of sent_count
-drain_report s w node max seat c here = rw here refl
+drain_report s w member node max seat c present here = rw present (rw here refl)
 
 pub drain_runs : (old new : World) (node max count : ℕ) → Sends old new node max count → Runs old new (event.Drain node max) (report.Sent count)
 drain_runs old new node max count sends s w may =
-    let least : 1 ≤ node = may.fit.least in
-    let most : node ≤ length w.seats = may.fit.most in
-    let found : There w.seats (node - 1) = there_is w.seats (node - 1) (omega (arith, least, most)) in
-    let seat : Seat = found.seat in
-    let here : seat_at w node ≡ Some seat = node_here w.seats node seat least found.got in
+    let at : Seated w node = seated old s w node may.goes may.fit in
+    let there : Here w node = life_here w node at.within in
+    let seat : Seat = there.seat in
+    let here : seat_at w node ≡ Some seat = there.here in
     let c : Choice = drain_choice seat max in
     let sent : WorldKeeps new s (drained s w node max) × (count ≡ length (core.drained (begin seat.core seat.core.reading) max)) = sends s w seat may.goes here in
     record {
       choice = c;
-      comes = drain_comes s w node max seat here;
-      report_is = ap report.Sent sent.1 ∙ sym (drain_report s w node max seat c here);
-      keeps = subst (WorldKeeps new s) (sym (drain_after s w node max seat c here)) sent.0;
+      comes = drain_comes s w node node max seat at.present here;
+      report_is = ap report.Sent sent.1 ∙ sym (drain_report s w node node max seat c at.present here);
+      keeps = subst (WorldKeeps new s) (sym (drain_after s w node node max seat c at.present here)) sent.0;
     }

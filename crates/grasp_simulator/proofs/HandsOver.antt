@@ -1,13 +1,13 @@
 -- Outputs of a node that are sent in order.
-use Rattle.std.proofs.Common.{◌≡◌, refl, sym, ap, ◌∙◌, subst, ℕ, zero, suc, ◌+◌, List, [], ◌∷◌, take, Option, Some, None}
+use Rattle.std.proofs.Common.{◌≡◌, refl, sym, ap, ◌∙◌, subst, ℕ, zero, suc, ◌+◌, List, [], ◌∷◌, take, Option, Some, None, unwrap_or}
 use Rattle.grasp_model_node.specs.Queue.{Queued, datagram, dial, send}
 use Rattle.grasp_types.specs.declared.message.Message.{Message}
 use Rattle.grasp_types.specs.declared.traffic.Output.{Output}
 use Rattle.grasp_model_network.specs.Routes.{Route, route_of}
 use Rattle.grasp_model_network.specs.Sending.{posted, having_sent, having_closed, handed_over}
-use Rattle.grasp_model_network.specs.Setting.{Setting}
+use Rattle.grasp_model_network.specs.Setting.{Setting, numbered}
 use Rattle.grasp_model_network.specs.Streams.{StreamState, change_at_end, with_number, with_sent}
-use Rattle.grasp_model_network.specs.World.{Seat, WorldState, end_of}
+use Rattle.grasp_model_network.specs.World.{Seat, WorldState, end_of, member_of}
 use Rattle.grasp_laws_delivery.specs.Ready.{AreReady}
 use Rattle.grasp_simulator.specs.Sends.{CanSend, Puts, outputs_of, MaySend, HandsOver}
 use Rattle.grasp_simulator.specs.WorldStands.{WorldKeeps}
@@ -47,9 +47,18 @@ can_now node seat (dial stream to) qs ts h = h.0
 can_now node seat (send stream m) qs ts h = (h.0, h.1)
 
 ready_then : (s : Setting) (w : WorldState) (node : ℕ) (seat : Seat) (q : Queued) (qs : List Queued) → AreReady node seat (q ∷ qs) w.streams → AreReady node seat qs (having_sent s node seat w q).streams
-ready_then s w node seat (datagram link to m) qs h = subst (AreReady node seat qs) (sym (same_talks w m (route_of s node link to))) h
+ready_then s w node seat (datagram link to m) qs h = subst (AreReady node seat qs) (sym (same_talks w m (route_of s (member_of w node) link to))) h
 ready_then s w node seat (dial stream to) qs h = h.1 (w.dials + 1)
 ready_then s w node seat (send stream m) qs h = h.2
+
+same_lives : (w : WorldState) (m : Message) (r : Option Route) → (posted w m r).lives ≡ w.lives
+same_lives w m None = refl
+same_lives w m (Some route) = refl
+
+lives_then : (s : Setting) (w : WorldState) (node : ℕ) (seat : Seat) (q : Queued) → (having_sent s node seat w q).lives ≡ w.lives
+lives_then s w node seat (datagram link to m) = same_lives w m (route_of s (member_of w node) link to)
+lives_then s w node seat (dial stream to) = refl
+lives_then s w node seat (send stream m) = refl
 
 hands_queued : (mid new : World) (node : ℕ) (output : Output) (rest : List Output) (s : Setting) (w world : WorldState) (seat : Seat) (queued : List Queued) (streams closing : List ℕ) (q : Queued) (qs : List Queued) → Puts mid new node output
     → MaySend mid s world node seat (q ∷ qs) → output ∷ rest ≡ outputs_of (q ∷ qs) closing → handed_over s w node seat queued streams ≡ handed_over s world node seat (q ∷ qs) closing → Handing new s w node seat queued streams rest
@@ -59,8 +68,9 @@ hands_queued mid new node output rest s w world seat queued streams closing q qs
   queue = qs;
   closing = closing;
   may = record {
-    keeps = puts.queued s world seat q may.keeps may.first (can_now node seat q qs world.streams may.ready) (ap (head_in output) left);
+    keeps = puts.queued s world seat q may.keeps may.first may.own (can_now node seat q qs world.streams may.ready) (ap (head_in output) left);
     first = may.first;
+    own = ap (λ (ks : List ℕ). unwrap_or (numbered ks node) 0) (lives_then s world node seat q) ∙ may.own;
     ready = ready_then s world node seat q qs may.ready;
   };
   left = ap tail_in left;
@@ -77,6 +87,7 @@ hands_closing mid new node output rest s w world seat queued streams k ks puts m
   may = record {
     keeps = puts.closed s world seat k may.keeps may.first (ap (head_in output) left);
     first = may.first;
+    own = may.own;
     ready = tt;
   };
   left = ap tail_in left;

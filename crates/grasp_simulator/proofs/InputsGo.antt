@@ -10,7 +10,8 @@ use Rattle.grasp_types.specs.declared.traffic.Input.{Input}
 use Rattle.grasp_simulator.proofs.Comings.{something_comes_to_cores}
 use Rattle.grasp_laws_network.proofs.EachNode.{nodes_are_sound}
 use Rattle.grasp_laws_network.proofs.Here.{numbered_within}
-use Rattle.grasp_laws_network.proofs.Staying.{seats_stay}
+use Rattle.grasp_laws_network.proofs.LivesKept.{life_member, lives_are_kept}
+use Rattle.grasp_laws_network.specs.Lives.{LivesStand}
 use Rattle.grasp_model_network.specs.Events.{drained_behind, visit_of, after_event}
 use Rattle.grasp_model_network.specs.GoodSetting.{IsGoodMember}
 use Rattle.grasp_model_network.specs.Plans.{IsNode}
@@ -19,7 +20,7 @@ use Rattle.grasp_model_network.specs.Runs.{IsReached}
 use Rattle.grasp_model_network.specs.Sending.{seat_with, stepped}
 use Rattle.grasp_model_network.specs.Setting.{Member, Setting, numbered}
 use Rattle.grasp_model_network.specs.Visits.{Visit, Choice, MayCome, VisitStep, is_starved}
-use Rattle.grasp_model_network.specs.World.{Seat, DiscoveryAnswer, WorldState, seat_at}
+use Rattle.grasp_model_network.specs.World.{Seat, DiscoveryAnswer, WorldState, member_of, seat_at}
 use Rattle.grasp_model_network.specs.declared.event.Event.{Event}
 use Rattle.grasp_model_network.specs.declared.report.Report.TheVariants as report
 use Rattle.grasp_laws_delivery.specs.Ready.{StreamsAreReady}
@@ -56,13 +57,15 @@ member_here ms node m least got = rw (not_zero node least) got where
 limit_of : (s : Setting) (w : WorldState) (node : ℕ) (seat : Seat) → IsReached s w → seat_at w node ≡ Some seat → (0 < seat.core.plan.limit) × (seat.core.plan.limit < 2 ^ 64)
 limit_of s w node seat reached here =
     let is_node : IsNode (length w.seats) node = numbered_within w.seats node seat here in
-    let least : 1 ≤ node = is_node.least in
-    let most : node ≤ length w.seats = is_node.most in
-    let same : length w.seats ≡ length s.members = seats_stay.all s w reached in
-    let found : At s.members (node - 1) = at_is s.members (node - 1) (omega (arith, least, most, same)) in
-    let plan : seat.core.plan ≡ found.it.plan = nodes_are_sound.plans s w reached node seat here found.it (member_here s.members node found.it least found.got) in
+    let lives : LivesStand s w = lives_are_kept s w reached in
+    let k : ℕ = member_of w node in
+    let member : IsNode (length s.members) k = lives.members node k (life_member s w node lives is_node) in
+    let least : 1 ≤ k = member.least in
+    let most : k ≤ length s.members = member.most in
+    let found : At s.members (k - 1) = at_is s.members (k - 1) (omega (arith, least, most)) in
+    let plan : seat.core.plan ≡ found.it.plan = nodes_are_sound.plans s w reached node seat found.it here (member_here s.members k found.it least found.got) in
     let good = reached.good in
-    let limit : seat.core.plan.limit ≡ good.limit = ap (λ (p : NodePlan). p.limit) plan ∙ limit_by good.limit s.members (node - 1) found.it found.got good.members in
+    let limit : seat.core.plan.limit ≡ good.limit = ap (λ (p : NodePlan). p.limit) plan ∙ limit_by good.limit s.members (k - 1) found.it found.got good.members in
     let some : 2048 ≤ good.limit = good.least_limit in
     let few : good.limit ≤ 65535 = good.most_limit in
     (omega (arith, limit, some), omega (arith, limit, few))
@@ -77,13 +80,16 @@ pub record Here (w : WorldState) (node : ℕ) : Type 0 where
   pub seat : Seat
   pub here : seat_at w node ≡ Some seat
 
-pub node_is : (code : World) (s : Setting) (w : WorldState) (node : ℕ) → WorldKeeps code s w → IsNode (length code.seats.items) node → Here w node
-node_is code s w node keeps is =
-    let same : length code.seats.items ≡ length w.seats = seats_length code.seats.items w.seats keeps.seats in
+-- a life of this number is there
+pub life_here : (w : WorldState) (node : ℕ) → IsNode (length w.seats) node → Here w node
+life_here w node is =
     let least : 1 ≤ node = is.least in
-    let most : node ≤ length code.seats.items = is.most in
-    let found : At w.seats (node - 1) = at_is w.seats (node - 1) (omega (arith, same, least, most)) in
+    let most : node ≤ length w.seats = is.most in
+    let found : At w.seats (node - 1) = at_is w.seats (node - 1) (omega (arith, least, most)) in
     record { seat = found.it; here = node_here w.seats node found.it least found.got }
+
+pub node_is : (code : World) (s : Setting) (w : WorldState) (node : ℕ) → WorldKeeps code s w → IsNode (length code.seats.items) node → Here w node
+node_is code s w node keeps is = life_here w node (subst (λ (n : ℕ). IsNode n node) (seats_length code.seats.items w.seats keeps.seats) is)
 
 -- ---- the event
 
@@ -111,8 +117,10 @@ answers_keep code s w answers keeps = record {
   setting = keeps.setting;
   seats = keeps.seats;
   lives = keeps.lives;
+  members = keeps.members;
   streams = keeps.streams;
   parcels = keeps.parcels;
+  receivers = keeps.receivers;
   places = keeps.places;
   given = keeps.given;
   sent = keeps.sent;

@@ -4,6 +4,7 @@ pub mod ClockGoes
 pub mod Comings
 pub mod DatagramsGo
 pub mod DrainGoes
+pub mod FirstLives
 pub mod FirstWorlds
 pub mod HandsOver
 pub mod InputsGo

@@ -30,9 +30,9 @@ unfolding handles_in
 same_places v (reply.Api a) = answer_places v a
 same_places v _ = refl
 
-all_append : (xs ys : List GivenHandle) → All IsFirstGiven xs → All IsFirstGiven ys → All IsFirstGiven (xs ++ ys)
-all_append [] ys h k = k
-all_append (x ∷ xs) ys h k = All-cons IsFirstGiven x (xs ++ ys) (All-head IsFirstGiven x xs h) (all_append xs ys (All-tail IsFirstGiven x xs h) k)
+pub all_append : {A : Type 0} (P : A → Type 0) (xs ys : List A) → All P xs → All P ys → All P (xs ++ ys)
+all_append P [] ys h k = k
+all_append P (x ∷ xs) ys h k = All-cons P x (xs ++ ys) (All-head P x xs h) (all_append P xs ys (All-tail P x xs h) k)
 
 first_given : (v : Visit) (o : Option Handle) → IsFirstLife v.seat → All IsFirstGiven (given_by v o)
 first_given v None first = All-nil IsFirstGiven
@@ -46,10 +46,12 @@ noted_keeps code places s w v asa call r keeps first notes = record {
   setting = keeps.setting;
   seats = keeps.seats;
   lives = keeps.lives;
+  members = keeps.members;
   streams = keeps.streams;
   parcels = keeps.parcels;
+  receivers = keeps.receivers;
   places = notes ∙ (ap (λ (l : List GivenPlace). l ++ places_in v.node r) keeps.places ∙ (ap (λ (l : List GivenPlace). map given_place w.handles ++ l) (sym (same_places v r)) ∙ sym (map-append given_place w.handles (handles_in v r))));
-  given = all_append w.handles (handles_in v r) keeps.given (all_append (given_by v (started_in (answer_in r))) (given_by v (incoming_in (answer_in r))) (first_given v (started_in (answer_in r)) first) (first_given v (incoming_in (answer_in r)) first));
+  given = all_append IsFirstGiven w.handles (handles_in v r) keeps.given (all_append IsFirstGiven (given_by v (started_in (answer_in r))) (given_by v (incoming_in (answer_in r))) (first_given v (started_in (answer_in r)) first) (first_given v (incoming_in (answer_in r)) first));
   sent = keeps.sent;
   goes = keeps.goes;
 }
@@ -61,8 +63,10 @@ offers_keep code s w offers keeps = record {
   setting = keeps.setting;
   seats = keeps.seats;
   lives = keeps.lives;
+  members = keeps.members;
   streams = keeps.streams;
   parcels = keeps.parcels;
+  receivers = keeps.receivers;
   places = keeps.places;
   given = keeps.given;
   sent = keeps.sent;

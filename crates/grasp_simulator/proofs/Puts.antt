@@ -9,7 +9,7 @@ use Rattle.grasp_model_network.specs.Routes.{route_of}
 use Rattle.grasp_model_network.specs.Sending.{posted, having_sent}
 use Rattle.grasp_model_network.specs.Setting.{Setting}
 use Rattle.grasp_model_network.specs.Streams.{StreamEnd, StreamState, count_at_end, change_at_end, with_number, with_sent, with_ended}
-use Rattle.grasp_model_network.specs.World.{Seat, WorldState, end_of}
+use Rattle.grasp_model_network.specs.World.{Seat, WorldState, end_of, member_of}
 use Rattle.grasp_laws_delivery.specs.Ready.{IsDialOf, AreSent}
 use Rattle.grasp_simulator.specs.Sends.{CanSend, Posts, Puts}
 use Rattle.grasp_simulator.specs.StreamsStand.{end_here, StreamsStand}
@@ -43,17 +43,18 @@ end_is node seat stream first = ap (λ (l : ℕ). record { node = node; life = l
 
 pub puts_datagram : (before after : World) (node link to : ℕ) (bytes : List ℕ) (o : Output) → o ≡ output.Datagram link to bytes → Posts before after node link to bytes → Puts before after node o
 puts_datagram before after node link to bytes o is posts = record {
-  queued = λ s w seat q keeps first can e. by_queued s w seat q keeps (sym is ∙ e);
+  queued = λ s w seat q keeps first own can e. by_queued s w seat q keeps own (sym is ∙ e);
   closed = λ s w seat stream keeps first e. absurd (let other : output.Datagram link to bytes ≡ output.Close stream = sym is ∙ e in cc);
 } where
-  by_queued : (s : Setting) (w : WorldState) (seat : Seat) (q : Queued) → WorldKeeps before s w → output.Datagram link to bytes ≡ output_of q → WorldKeeps after s (having_sent s node seat w q)
-  by_queued s w seat (datagram l t m) keeps e =
+  by_queued : (s : Setting) (w : WorldState) (seat : Seat) (q : Queued) → WorldKeeps before s w → member_of w node ≡ node → output.Datagram link to bytes ≡ output_of q → WorldKeeps after s (having_sent s node seat w q)
+  by_queued s w seat (datagram l t m) keeps own e =
       let link_is : link ≡ l = ap (λ (x : Output). (numbers_in x).0) e in
       let to_is : to ≡ t = ap (λ (x : Output). (numbers_in x).1) e in
-      subst (λ (k : ℕ). WorldKeeps after s (posted w m (route_of s node k t))) link_is
-      (subst (λ (k : ℕ). WorldKeeps after s (posted w m (route_of s node link k))) to_is (posts s w m keeps (ap bytes_in e)))
-  by_queued s w seat (dial stream t) keeps e = absurd (cc)
-  by_queued s w seat (send stream m) keeps e = absurd (cc)
+      subst (λ (k : ℕ). WorldKeeps after s (posted w m (route_of s k l t))) (sym own)
+      (subst (λ (k : ℕ). WorldKeeps after s (posted w m (route_of s node k t))) link_is
+      (subst (λ (k : ℕ). WorldKeeps after s (posted w m (route_of s node link k))) to_is (posts s w m keeps (ap bytes_in e))))
+  by_queued s w seat (dial stream t) keeps own e = absurd (cc)
+  by_queued s w seat (send stream m) keeps own e = absurd (cc)
 
 -- ---- streams
 
@@ -65,8 +66,10 @@ with_streams code s w streams ts dials keeps stands = record {
   setting = keeps.setting;
   seats = keeps.seats;
   lives = keeps.lives;
+  members = keeps.members;
   streams = stands;
   parcels = keeps.parcels;
+  receivers = keeps.receivers;
   places = keeps.places;
   given = keeps.given;
   sent = keeps.sent;
@@ -77,7 +80,7 @@ pub puts_dial : (before : World) (streams : Streams) (node stream : ℕ) (to : L
     → ((ts : List StreamState) (dials : ℕ) → IsDialOf ts (end_here node stream) to → StreamsStand before.streams ts dials → StreamsStand streams (change_at_end ts (end_here node stream) (with_number (dials + 1))) (dials + 1))
     → Puts before (record before { streams = streams }) node o
 puts_dial before streams node stream to o is dials = record {
-  queued = λ s w seat q keeps first can e. by_queued s w seat q keeps first can (sym is ∙ e);
+  queued = λ s w seat q keeps first own can e. by_queued s w seat q keeps first can (sym is ∙ e);
   closed = λ s w seat k keeps first e. absurd (let other : output.Dial stream to ≡ output.Close k = sym is ∙ e in cc);
 } where
   by_queued : (s : Setting) (w : WorldState) (seat : Seat) (q : Queued) → WorldKeeps before s w → IsFirstLife seat → CanSend node seat q w.streams → output.Dial stream to ≡ output_of q
@@ -100,7 +103,7 @@ pub puts_send : (before : World) (streams : Streams) (node stream sent : ℕ) (b
     → ((ts : List StreamState) (dials : ℕ) (m : Message) → bytes ≡ encoding m → AreSent ts (end_here node stream) → StreamsStand before.streams ts dials → StreamsStand streams (change_at_end ts (end_here node stream) (with_sent m)) dials)
     → Puts before (record before { streams = streams; sent = sent }) node o
 puts_send before streams node stream sent bytes o is more sends = record {
-  queued = λ s w seat q keeps first can e. by_queued s w seat q keeps first can (sym is ∙ e);
+  queued = λ s w seat q keeps first own can e. by_queued s w seat q keeps first can (sym is ∙ e);
   closed = λ s w seat k keeps first e. absurd (let other : output.Send stream bytes ≡ output.Close k = sym is ∙ e in cc);
 } where
   by_queued : (s : Setting) (w : WorldState) (seat : Seat) (q : Queued) → WorldKeeps before s w → IsFirstLife seat → CanSend node seat q w.streams → output.Send stream bytes ≡ output_of q
@@ -120,8 +123,10 @@ puts_send before streams node stream sent bytes o is more sends = record {
         setting = keeps.setting;
         seats = keeps.seats;
         lives = keeps.lives;
+        members = keeps.members;
         streams = subst (λ (x : StreamEnd). StreamsStand streams (change_at_end w.streams x (with_sent m)) w.dials) (sym same) now;
         parcels = keeps.parcels;
+        receivers = keeps.receivers;
         places = keeps.places;
         given = keeps.given;
         sent = count;
@@ -132,7 +137,7 @@ pub puts_close : (before : World) (streams : Streams) (node stream : ℕ) (o : O
     → ((ts : List StreamState) (dials : ℕ) → StreamsStand before.streams ts dials → StreamsStand streams (change_at_end ts (end_here node stream) with_ended) dials)
     → Puts before (record before { streams = streams }) node o
 puts_close before streams node stream o is closes = record {
-  queued = λ s w seat q keeps first can e. absurd (no_output q (sym is ∙ e));
+  queued = λ s w seat q keeps first own can e. absurd (no_output q (sym is ∙ e));
   closed = λ s w seat k keeps first e.
       let k_is : stream ≡ k = ap (λ (x : Output). (numbers_in x).0) (sym is ∙ e) in
       let same : end_of node seat k ≡ end_here node stream = end_is node seat k first ∙ ap (end_here node) (sym k_is) in

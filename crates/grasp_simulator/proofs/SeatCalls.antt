@@ -9,6 +9,8 @@ use Rattle.grasp_model_node.specs.Draining.{drained}
 use Rattle.grasp_model_node.specs.Node.{NodeState}
 use Rattle.grasp_core.specs.Stands.{NodeStands}
 use Rattle.grasp_model_node.specs.Step.{IsComing, NodeStep}
+use Rattle.grasp_model_node.specs.declared.plan.NodePlan.{NodePlan}
+use Rattle.grasp_pool.specs.Holdings.{Holding}
 use Rattle.grasp_core.specs.declared.node_core.NodeCore.{NodeCore}
 use Rattle.grasp_types.specs.declared.call.Call.{Call}
 use Rattle.grasp_types.specs.declared.reply.Reply.{Reply}
@@ -17,9 +19,8 @@ use Rattle.grasp_types.specs.declared.traffic.Output.{Output}
 use Rattle.grasp_types.specs.declared.traffic.Input.{Input}
 use Rattle.grasp_types.specs.declared.traffic.Input.TheVariants as input
 use Rattle.grasp_model_network.specs.EventSteps.{agent_input}
-use Rattle.grasp_model_network.specs.Runs.{fresh_seat, first_seat}
+use Rattle.grasp_model_network.specs.Openings.{fresh_seat, opened_seat}
 use Rattle.grasp_simulator.specs.Seats.{SeatStands, Sitting, SeatMeets, SeatStepped, AgentStepped, clocked, drained_seat}
-use Rattle.grasp_model_network.specs.Setting.{Member}
 use Rattle.grasp_model_network.specs.Visits.{is_starved}
 use Rattle.grasp_model_network.specs.World.{Seat}
 use Rattle.grasp_simulator.specs.declared.seat.Seat.{Seat as SeatCode}
@@ -78,13 +79,13 @@ drain_seat old new max outputs steps s stands =
     (done.steps.acts.0, subst (λ (n : NodeState). SeatStands new (record s { core = n })) done.steps.acts.1 done.stands)
 
 -- what three steps of its agent make of a node to which nothing has happened
-pub opens : (m : Member) (start one two three : SeatCode) (a b c : Call) (q r s : Reply) → SeatStands start (fresh_seat m) → ((x : Sitting) → SeatStands start x.seat → AgentStepped one x a q) → ((x : Sitting) → SeatStands one x.seat → AgentStepped two x b r)
-    → ((x : Sitting) → SeatStands two x.seat → AgentStepped three x c s) → SeatStands three (first_seat m)
-opens m start one two three a b c q r s begins first second third =
+pub opens : (plan : NodePlan) (pool : Holding) (start one two three : SeatCode) (a b c : Call) (q r s : Reply) → SeatStands start (fresh_seat plan pool) → ((x : Sitting) → SeatStands start x.seat → AgentStepped one x a q) → ((x : Sitting) → SeatStands one x.seat → AgentStepped two x b r)
+    → ((x : Sitting) → SeatStands two x.seat → AgentStepped three x c s) → SeatStands three (opened_seat plan pool)
+opens plan pool start one two three a b c q r s begins first second third =
     let at : Seat → Sitting = λ seat. record { seat = seat; coming = nothing_comes } in
-    let h : AgentStepped one (at (fresh_seat m)) a q = first (at (fresh_seat m)) begins in
-    let knows : SeatStands one (registered m) = subst (SeatStands one) (registers m nothing_comes q h.after h.steps h.fed) h.stands in
-    let i : AgentStepped two (at (registered m)) b r = second (at (registered m)) knows in
-    let names : SeatStands two (declared m) = subst (SeatStands two) (declares m nothing_comes r i.after i.steps i.fed) i.stands in
-    let j : AgentStepped three (at (declared m)) c s = third (at (declared m)) names in
-    subst (SeatStands three) (listens m nothing_comes s j.after j.steps j.fed) j.stands
+    let h : AgentStepped one (at (fresh_seat plan pool)) a q = first (at (fresh_seat plan pool)) begins in
+    let knows : SeatStands one (registered plan pool) = subst (SeatStands one) (registers plan pool nothing_comes q h.after h.steps h.fed) h.stands in
+    let i : AgentStepped two (at (registered plan pool)) b r = second (at (registered plan pool)) knows in
+    let names : SeatStands two (declared plan pool) = subst (SeatStands two) (declares plan pool nothing_comes r i.after i.steps i.fed) i.stands in
+    let j : AgentStepped three (at (declared plan pool)) c s = third (at (declared plan pool)) names in
+    subst (SeatStands three) (listens plan pool nothing_comes s j.after j.steps j.fed) j.stands

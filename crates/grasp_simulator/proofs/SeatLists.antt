@@ -3,7 +3,7 @@ use Rattle.std.proofs.Common.{◌≡◌, ◌+◌, ◌-◌, ◌<◌, ◌≤◌, �
 use Rattle.std.proofs.lemmas.List.{map-append}
 use Rattle.std.proofs.lemmas.Option.{slice_get-map}
 use Rattle.grasp_cbor.proofs.Facts.Lists.{length_map}
-use Rattle.grasp_model_network.specs.Runs.{first_seat}
+use Rattle.grasp_model_network.specs.Openings.{first_seat}
 use Rattle.grasp_simulator.specs.Seats.{SeatStands, SeatsStand}
 use Rattle.grasp_model_network.specs.Setting.{numbered, numbers_from, script_locator, script_member, script_setting}
 use Rattle.grasp_laws_network.proofs.GoodPlans.{not_zero as is_positive, count_numbers}
@@ -52,6 +52,13 @@ unfolding numbers_from
 number_at n zero i h = absurd (omega arith)
 number_at n (suc k) zero h = let e : n ≡ n + 0 = omega arith in ap Some e
 number_at n (suc k) (suc i) h = let e : (n + 1) + i ≡ n + suc i = omega arith in number_at (n + 1) k i (omega arith) ∙ ap Some e
+
+-- of the numbers from 1 on each stands at its own place
+pub number_of : (n k : ℕ) → 1 ≤ k → k ≤ n → numbered (numbers_from 1 n) k ≡ Some k
+number_of n k least most =
+    let not_zero : (k == 0) ≡ false = is_positive k least in
+    let same : 1 + (k - 1) ≡ k = omega arith in
+    rw not_zero (number_at 1 n (k - 1) (omega arith) ∙ ap Some same)
 
 -- what is made of each number from 1 on, by its number
 pub numbered_from_1 : {A : Type 0} (f : ℕ → A) (n k : ℕ) → 1 ≤ k → k ≤ n → numbered (map f (numbers_from 1 n)) k ≡ Some (f k)

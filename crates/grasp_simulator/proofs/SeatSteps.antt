@@ -10,7 +10,9 @@ use Rattle.grasp_model_node.specs.Node.{NodeState}
 use Rattle.grasp_model_node.specs.Refusals.{MayAnswer, early, nothing_sent}
 use Rattle.grasp_model_node.specs.Step.{Coming, NodeStep, MayCall, after_call, Calls}
 use Rattle.grasp_model_node.specs.Tests.{register_asa_tests, register_objective_tests, negotiation_tests}
+use Rattle.grasp_model_node.specs.declared.plan.NodePlan.{NodePlan}
 use Rattle.grasp_laws_node.proofs.Beginning.{drains_nothing}
+use Rattle.grasp_pool.specs.Holdings.{Holding}
 use Rattle.grasp_types.specs.declared.refusal.ApiRefused.{ApiRefused}
 use Rattle.grasp_types.specs.declared.refusal.ApiRefused.TheVariants as refusal
 use Rattle.grasp_types.specs.declared.reply.ApiAnswer.{ApiAnswer}
@@ -20,8 +22,7 @@ use Rattle.grasp_types.specs.declared.reply.Reply.TheVariants as reply
 use Rattle.grasp_types.specs.declared.traffic.Input.TheVariants.{Drain}
 use Rattle.grasp_wire.specs.Stream.{waiting}
 use Rattle.grasp_model_network.specs.EventSteps.{agent_input}
-use Rattle.grasp_model_network.specs.Runs.{fresh_seat, answered_seat, first_seat}
-use Rattle.grasp_model_network.specs.Setting.{Member}
+use Rattle.grasp_model_network.specs.Openings.{fresh_seat, answered_seat, opened_seat}
 use Rattle.grasp_model_network.specs.Visits.{is_starved}
 use Rattle.grasp_model_network.specs.World.{Seat}
 
@@ -60,23 +61,23 @@ Makes s x r after = NodeStep s.core s.core.reading (agent_input s.agent) x r aft
 abbrev pub taken : Seat → Reply → NodeState → Seat
 taken s r after = record s { core = after; agent = after_reply s.agent r }
 
-abbrev pub registered : Member → Seat
-registered m = answered_seat (fresh_seat m) (answer.Asa 1)
+abbrev pub registered : NodePlan → Holding → Seat
+registered p h = answered_seat (fresh_seat p h) (answer.Asa 1)
 
-abbrev pub declared : Member → Seat
-declared m = answered_seat (registered m) answer.Done
+abbrev pub declared : NodePlan → Holding → Seat
+declared p h = answered_seat (registered p h) answer.Done
 
-pub registers : (m : Member) (x : Coming) (r : Reply) (after : NodeState) → Makes (fresh_seat m) x r after → is_starved r ≡ false → taken (fresh_seat m) r after ≡ registered m
+pub registers : (p : NodePlan) (h : Holding) (x : Coming) (r : Reply) (after : NodeState) → Makes (fresh_seat p h) x r after → is_starved r ≡ false → taken (fresh_seat p h) r after ≡ registered p h
 unfolding next_call agent_name begin expired with_reading with_registrations with_sessions with_discoveries with_floods begin_closing
-registers m x r after steps fed = answered (fresh_seat m) (answer.Asa 1) x r after (λ a h. h.2) (λ e h. only_starved (register_asa_tests (begin (fresh_seat m).core 0) agent_name) ⊥ (Is (answer.Asa 1)) e refl h) steps.acts fed
+registers p h x r after steps fed = answered (fresh_seat p h) (answer.Asa 1) x r after (λ a k. k.2) (λ e k. only_starved (register_asa_tests (begin (fresh_seat p h).core 0) agent_name) ⊥ (Is (answer.Asa 1)) e refl k) steps.acts fed
 
-pub declares : (m : Member) (x : Coming) (r : Reply) (after : NodeState) → Makes (registered m) x r after → is_starved r ≡ false → taken (registered m) r after ≡ declared m
+pub declares : (p : NodePlan) (h : Holding) (x : Coming) (r : Reply) (after : NodeState) → Makes (registered p h) x r after → is_starved r ≡ false → taken (registered p h) r after ≡ declared p h
 unfolding answered_seat next_call agent_name objective_name after_reply begin expired with_reading with_registrations with_sessions with_discoveries with_floods begin_closing
-declares m x r after steps fed = answered (registered m) answer.Done x r after (λ a h. h.2) (λ e h. only_starved (register_objective_tests (begin (registered m).core 0) 1 objective_name 3) ⊥ IsDone e refl h) steps.acts fed
+declares p h x r after steps fed = answered (registered p h) answer.Done x r after (λ a k. k.2) (λ e k. only_starved (register_objective_tests (begin (registered p h).core 0) 1 objective_name 3) ⊥ IsDone e refl k) steps.acts fed
 
-pub listens : (m : Member) (x : Coming) (r : Reply) (after : NodeState) → Makes (declared m) x r after → is_starved r ≡ false → taken (declared m) r after ≡ first_seat m
-unfolding first_seat answered_seat next_call agent_name objective_name after_reply begin expired with_reading with_registrations with_sessions with_discoveries with_floods begin_closing
-listens m x r after steps fed = answered (declared m) answer.NotYet x r after (λ a h. h.2) (λ e h. only_starved (negotiation_tests (begin (declared m).core 0) 1 objective_name) (Unit {0}) (Is answer.NotYet) e refl h) steps.acts fed
+pub listens : (p : NodePlan) (h : Holding) (x : Coming) (r : Reply) (after : NodeState) → Makes (declared p h) x r after → is_starved r ≡ false → taken (declared p h) r after ≡ opened_seat p h
+unfolding opened_seat answered_seat next_call agent_name objective_name after_reply begin expired with_reading with_registrations with_sessions with_discoveries with_floods begin_closing
+listens p h x r after steps fed = answered (declared p h) answer.NotYet x r after (λ a k. k.2) (λ e k. only_starved (negotiation_tests (begin (declared p h).core 0) 1 objective_name) (Unit {0}) (Is answer.NotYet) e refl k) steps.acts fed
 
 -- ---- drains
 

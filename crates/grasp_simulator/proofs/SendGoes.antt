@@ -1,5 +1,6 @@
 -- Outputs of a node of a network that are sent.
 use Rattle.std.proofs.Common.{◌≡◌, refl, sym, ap, ◌∙◌, subst, ℕ, ◌-◌, Bool, true, false, List, [], length, take, Some, slice_index_or, slice_set}
+use Rattle.std.proofs.lemmas.List.{length-set}
 use Rattle.std.proofs.lemmas.Option.{same_Some}
 use Rattle.std.specs.Vec.{with_item}
 use Rattle.grasp_laws_node.proofs.Beginning.{beginnings_end}
@@ -11,7 +12,7 @@ use Rattle.grasp_model_node.specs.Queue.{Queued}
 use Rattle.grasp_types.specs.declared.traffic.Output.{Output}
 use Rattle.grasp_laws_network.proofs.Here.{numbered_within}
 use Rattle.grasp_model_network.specs.Sending.{seat_with, handed_over, drained}
-use Rattle.grasp_model_network.specs.Setting.{Setting}
+use Rattle.grasp_model_network.specs.Setting.{Setting, numbers_from}
 use Rattle.grasp_model_network.specs.World.{Seat, WorldState, seat_at, with_seat}
 use Rattle.grasp_laws_delivery.specs.Ready.{AreReady, StreamsAreReady}
 use Rattle.grasp_simulator.specs.Seats.{SeatStands, SeatsStand, drained_seat}
@@ -19,6 +20,7 @@ use Rattle.grasp_simulator.specs.Sends.{MaySend, HandsOver, Sends, SendsBehind}
 use Rattle.grasp_simulator.specs.WorldStands.{WorldKeeps}
 use Rattle.grasp_simulator.specs.declared.seat.Seat.{Seat as SeatCode}
 use Rattle.grasp_simulator.specs.declared.world.World.{World}
+use Rattle.grasp_simulator.proofs.FirstLives.{own_number}
 use Rattle.grasp_simulator.proofs.HandsOver.{ready_front}
 use Rattle.grasp_simulator.proofs.SeatLists.{seats_set}
 use Rattle.grasp_simulator.proofs.Turns.{OwnSeat, own_seat, set_lives}
@@ -48,8 +50,10 @@ send_goes law before after node max i count own changed outputs place got gives 
       setting = keeps.setting;
       seats = subst (λ (k : ℕ). SeatsStand (slice_set before.seats.items i changed) (slice_set w.seats k next)) place (seats_set before.seats.items w.seats keeps.seats i changed next (turns seat stands));
       lives = set_lives w.seats (node - 1) next (subst (λ (x : Seat). x.earlier ≡ []) same found.first) keeps.lives;
+      members = keeps.members ∙ ap (numbers_from 1) (sym (length-set w.seats (node - 1) next));
       streams = keeps.streams;
       parcels = keeps.parcels;
+      receivers = keeps.receivers;
       places = keeps.places;
       given = keeps.given;
       sent = keeps.sent;
@@ -58,7 +62,7 @@ send_goes law before after node max i count own changed outputs place got gives 
     let queue : n.queue ≡ seat.core.queue = (beginnings_end seat.core seat.core.reading).0.queue in
     let ready : AreReady node seat n.queue w.streams = subst (λ (qs : List Queued). AreReady node seat qs w.streams) (sym queue) (law.ready s w goes.reached node seat here) in
     let may : MaySend mid s (taken_from w node seat max) node seat (take max n.queue) =
-    record { keeps = kept; first = subst (λ (x : Seat). x.earlier ≡ []) same found.first; ready = ready_front node seat max n.queue w.streams ready } in (
+    record { keeps = kept; first = subst (λ (x : Seat). x.earlier ≡ []) same found.first; own = own_number w node keeps.members (numbered_within w.seats node seat here); ready = ready_front node seat max n.queue w.streams ready } in (
       subst (WorldKeeps after s) (sym (drained_is s w node max seat here)) (hands s (taken_from w node seat max) seat (take max n.queue) (closes n max) may (gives seat stands)),
       counts ∙ ap (λ (l : List Output). length l) (gives seat stands),
     )

@@ -14,7 +14,6 @@ use Rattle.grasp_simulator.specs.Contract.{Standing, going, stopped, IsFitFor, A
 use Rattle.grasp_simulator.specs.WorldStands.{WorldStands, most_count}
 use Rattle.grasp_simulator.specs.WorldSteps.{IsAsked, MayRun, HasRun, Runs, MayStarve, Ends, Stepped}
 use Rattle.grasp_simulator.specs.declared.world.World.{World}
-use Rattle.grasp_simulator.proofs.SeatLists.{seats_length}
 
 -- ---- what was stopped
 
@@ -91,11 +90,11 @@ asked_at code e P goes s (going w) h fit then = then w h fit
 asked_at code e P goes s (stopped why) h fit then = absurd (none-some why (sym goes ∙ h.stands))
 
 -- an event that is asked for names nodes that are there
-pub asked_node : (code : World) (e : Event) (node : ℕ) → IsAsked code e → code.stopped ≡ None → ((s : Setting) (w : WorldState) → IsFit s w e → IsNode (length w.seats) node) → IsNode (length code.seats.items) node
+pub asked_node : (code : World) (e : Event) (node : ℕ) → IsAsked code e → code.stopped ≡ None → ((s : Setting) (w : WorldState) → IsFit s w e → IsNode (length s.members) node) → IsNode (length code.seats.items) node
 asked_node code e node asked goes names =
     let s : Setting = asked.network.setting in
     asked_at code e (IsNode (length code.seats.items) node) goes s asked.network.standing asked.meets.stands asked.meets.fit
-    (λ w h fit. subst (λ (n : ℕ). IsNode n node) (sym (seats_length code.seats.items w.seats h.stands.keeps.seats)) (names s w fit))
+    (λ w h fit. subst (λ (n : ℕ). IsNode n node) (sym h.count) (names s w fit))
 
 -- what follows wherever an event fits a network follows for an event that is asked for
 pub asked_of : (code : World) (e : Event) (P : Type 0) → IsAsked code e → code.stopped ≡ None → ((s : Setting) (w : WorldState) → IsFit s w e → P) → P

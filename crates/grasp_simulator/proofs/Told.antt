@@ -1,8 +1,9 @@
 -- The network that the simulator keeps where the agent of a node is told something.
 use Rattle.std.proofs.Common.{◌≡◌, ◌≤◌, sym, ap, ◌∙◌, subst, ℕ, ◌-◌, List, Some, length, slice_set}
+use Rattle.std.proofs.lemmas.List.{length-set}
 use Rattle.std.specs.Vec.{with_item}
 use Rattle.grasp_types.specs.declared.address.Locator.{Locator}
-use Rattle.grasp_model_network.specs.Setting.{Setting, numbered, script_locator, script_setting}
+use Rattle.grasp_model_network.specs.Setting.{Setting, numbered, numbers_from, script_locator, script_setting}
 use Rattle.grasp_model_network.specs.World.{Offered, Seat, WorldState, with_seat}
 use Rattle.grasp_model_network.specs.declared.plan.WorldPlan.{WorldPlan}
 use Rattle.grasp_model_network.specs.Plans.{IsNode}
@@ -30,8 +31,10 @@ told_keeps old s w node i changed next offers keeps place stands first = record 
   setting = keeps.setting;
   seats = subst (λ (k : ℕ). SeatsStand (slice_set old.seats.items i changed) (slice_set w.seats k next)) place (seats_set old.seats.items w.seats keeps.seats i changed next stands);
   lives = set_lives w.seats (node - 1) next first keeps.lives;
+  members = keeps.members ∙ ap (numbers_from 1) (sym (length-set w.seats (node - 1) next));
   streams = keeps.streams;
   parcels = keeps.parcels;
+  receivers = keeps.receivers;
   places = keeps.places;
   given = keeps.given;
   sent = keeps.sent;

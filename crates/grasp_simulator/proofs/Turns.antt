@@ -1,6 +1,7 @@
 -- What the events of a network share: the code's seat of a node, networks in which nothing was sent, and a step with what it makes.
 use Rattle.std.proofs.Common.{◌≡◌, ◌<◌, ◌≤◌, refl, sym, ap, ◌∙◌, subst, arith, ℕ, zero, suc, ◌-◌, ◌==◌, cond, Bool, true, false, nat_lt, Some, None, List, [], ◌∷◌, length, slice_get, slice_index_or, slice_set, All}
 use Rattle.std.specs.Vec.{with_item}
+use Rattle.std.proofs.lemmas.List.{length-set}
 use Rattle.std.proofs.lemmas.List.Elements.{All-head, All-tail, All-cons}
 use Rattle.std.proofs.lemmas.Option.{none-some, get_or_from_slice_get, slice_get_within}
 use Rattle.grasp_model_node.specs.Node.{NodeState}
@@ -9,7 +10,7 @@ use Rattle.grasp_model_network.specs.Events.{visit_of, after_event}
 use Rattle.grasp_model_network.specs.Plans.{IsNode}
 use Rattle.grasp_model_network.specs.Runs.{IsReached}
 use Rattle.grasp_model_network.specs.Sending.{gained, seat_with, stepped}
-use Rattle.grasp_model_network.specs.Setting.{Setting}
+use Rattle.grasp_model_network.specs.Setting.{Setting, numbers_from}
 use Rattle.grasp_model_network.specs.Streams.{StreamState, count_at_end}
 use Rattle.grasp_model_network.specs.Visits.{Visit, Choice, MayCome}
 use Rattle.grasp_model_network.specs.World.{Seat, WorldState, seat_at, most_bytes}
@@ -87,8 +88,10 @@ stepped_keeps law old s w x v core agent i changed keeps first place stands reac
       setting = keeps.setting;
       seats = subst (λ (k : ℕ). SeatsStand (slice_set old.seats.items i changed) (slice_set w.seats k new)) place (seats_set old.seats.items w.seats keeps.seats i changed new stands);
       lives = set_lives w.seats (v.node - 1) new first keeps.lives;
+      members = keeps.members ∙ ap (numbers_from 1) (sym (length-set w.seats (v.node - 1) new));
       streams = made_keeps law old s w x v core agent keeps first reached same;
       parcels = keeps.parcels;
+      receivers = keeps.receivers;
       places = keeps.places;
       given = keeps.given;
       sent = keeps.sent;

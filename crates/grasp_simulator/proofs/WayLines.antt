@@ -74,12 +74,20 @@ place_few node others = by_place (position (λ n. n == node) others) refl where
   by_place None is = omega arith
   by_place (Some i) is = let h : i < length others = (position-Some (λ n. n == node) others i 0 is).0 in omega (arith, h)
 
+-- a line of good links is one
+pub good_line : (nodes : ℕ) (lines : List (List ℕ)) (place : ℕ) (line : List ℕ) → AreGoodLinks nodes lines → slice_get lines place ≡ Some line → IsGoodLink nodes line
+good_line nodes lines place line good got = subst (IsGoodLink nodes) (get_or_from_slice_get lines place line line got) (good.links place line (slice_get_within lines place line got))
+
+-- the others on a good line are nodes
+pub other_node : (nodes : ℕ) (line : List ℕ) (node to receiver : ℕ) → IsGoodLink nodes line → slice_get (others_on node line) to ≡ Some receiver → IsNode nodes receiver
+other_node nodes line node to receiver link there = filter_all (IsNode nodes) (λ n. not (n == node)) line to receiver there link.members
+
 -- the numbers of a way fit
 pub few_links : (nodes : ℕ) (lines : List (List ℕ)) (node to place receiver : ℕ) (line : List ℕ) → AreGoodLinks nodes lines → slice_get lines place ≡ Some line → slice_get (others_on node line) to ≡ Some receiver
     → (link_of receiver lines place ≤ 255) × (place_among node (others_on receiver line) ≤ 255)
 few_links nodes lines node to place receiver line good got there =
-    let link : IsGoodLink nodes line = subst (IsGoodLink nodes) (get_or_from_slice_get lines place line line got) (good.links place line (slice_get_within lines place line got)) in
-    let is_node : IsNode nodes receiver = filter_all (IsNode nodes) (λ n. not (n == node)) line to receiver there link.members in
+    let link : IsGoodLink nodes line = good_line nodes lines place line good got in
+    let is_node : IsNode nodes receiver = other_node nodes line node to receiver link there in
     let all : length (lines_of receiver lines) ≤ 16 = good.few receiver is_node in
     let some : length (lines_of receiver (take place lines)) ≤ length (lines_of receiver lines) = take_filter (is_on receiver) lines place in
     let others : length (others_on receiver line) ≤ length line = length_filter (λ n. not (n == receiver)) line in

@@ -4,11 +4,13 @@ use Rattle.std.proofs.lemmas.List.Elements.{All-head, All-tail}
 use Rattle.std.proofs.lemmas.Option.{none-some, get_or_from_slice_get, slice_get_within, same_Some}
 use Rattle.grasp_simulator.specs.PlacesStand.{given_place, is_place_of, place_found}
 use Rattle.grasp_simulator.specs.Seats.{SeatStands}
+use Rattle.grasp_model_network.specs.Plans.{IsNode}
 use Rattle.grasp_model_network.specs.Setting.{Setting}
-use Rattle.grasp_model_network.specs.World.{Seat, GivenHandle, WorldState, is_given, place_in, place_at, handle_place}
-use Rattle.grasp_simulator.specs.WorldStands.{IsFirstGiven, IsFirstLife, IsSeat}
+use Rattle.grasp_model_network.specs.World.{Seat, GivenHandle, WorldState, is_given, place_in, place_at, handle_place, present_life, seat_at}
+use Rattle.grasp_simulator.specs.WorldStands.{HasNode, IsFirstGiven, IsFirstLife, IsSeat}
 use Rattle.grasp_simulator.specs.declared.seat.Seat.{Seat as SeatCode}
 use Rattle.grasp_simulator.specs.declared.world.World.{World}
+use Rattle.grasp_simulator.proofs.FirstLives.{Seated, seated}
 use Rattle.grasp_simulator.proofs.SeatLists.{StandsAt, seats_at}
 
 -- ---- nodes
@@ -18,19 +20,26 @@ at_place : (seats : List Seat) (node : ℕ) (seat : Seat) (b : Bool) → cond b 
 at_place seats node seat true e = absurd (none-some seat e)
 at_place seats node seat false e = e
 
-pub here_at : (code : World) (node : ℕ) (s : Setting) (w : WorldState) (seat : Seat) → IsSeat code node s w seat → slice_get w.seats (node - 1) ≡ Some seat
-here_at code node s w seat h = at_place w.seats node seat (node == 0) h.here
+-- the node that a network lends is one of this network
+lent_node : (code : World) (node : ℕ) (s : Setting) (w : WorldState) (seat : Seat) → HasNode code node → IsSeat code node s w seat → Seated w node
+lent_node code node s w seat has h = seated code s w node h.stands.stands (subst (λ (n : ℕ). IsNode n node) (sym has.stands.count ∙ h.stands.count) has.is_node)
+
+pub own_here : (code : World) (node : ℕ) (s : Setting) (w : WorldState) (seat : Seat) → HasNode code node → IsSeat code node s w seat → seat_at w node ≡ Some seat
+own_here code node s w seat has h = ap (seat_at w) (sym (lent_node code node s w seat has h).present) ∙ h.here
+
+pub here_at : (code : World) (node : ℕ) (s : Setting) (w : WorldState) (seat : Seat) → HasNode code node → IsSeat code node s w seat → slice_get w.seats (node - 1) ≡ Some seat
+here_at code node s w seat has h = at_place w.seats node seat (node == 0) (own_here code node s w seat has h)
 
 -- the code's seat of the node's place stands for the node
-pub seat_stands : (code : World) (node : ℕ) (s : Setting) (w : WorldState) (seat : Seat) (own : SeatCode) → Some own ≡ slice_get code.seats.items (node - 1) → IsSeat code node s w seat → SeatStands own seat
-seat_stands code node s w seat own got h =
+pub seat_stands : (code : World) (node : ℕ) (s : Setting) (w : WorldState) (seat : Seat) (own : SeatCode) → HasNode code node → Some own ≡ slice_get code.seats.items (node - 1) → IsSeat code node s w seat → SeatStands own seat
+seat_stands code node s w seat own has got h =
     let found : StandsAt own w.seats (node - 1) = seats_at code.seats.items w.seats h.stands.stands.keeps.seats (node - 1) own (sym got) in
-    subst (SeatStands own) (same_Some found.seat seat (sym found.got ∙ here_at code node s w seat h)) found.stands
+    subst (SeatStands own) (same_Some found.seat seat (sym found.got ∙ here_at code node s w seat has h)) found.stands
 
 -- the node is in its first life
-pub first_life : (code : World) (node : ℕ) (s : Setting) (w : WorldState) (seat : Seat) → IsSeat code node s w seat → IsFirstLife seat
-first_life code node s w seat h =
-    let at : slice_get w.seats (node - 1) ≡ Some seat = here_at code node s w seat h in
+pub first_life : (code : World) (node : ℕ) (s : Setting) (w : WorldState) (seat : Seat) → HasNode code node → IsSeat code node s w seat → IsFirstLife seat
+first_life code node s w seat has h =
+    let at : slice_get w.seats (node - 1) ≡ Some seat = here_at code node s w seat has h in
     subst IsFirstLife (get_or_from_slice_get w.seats (node - 1) seat seat at) (h.stands.stands.keeps.lives (node - 1) seat (slice_get_within w.seats (node - 1) seat at))
 
 -- ---- places
@@ -48,12 +57,13 @@ place_is node number (g ∷ gs) all =
       by_test true e same rest = rw e (rw (same ∙ e) refl)
       by_test false e same rest = rw e (rw (same ∙ e) rest)
 
-pub told_place : (code : World) (node number place : ℕ) (s : Setting) (w : WorldState) (seat : Seat) → place ≡ place_found code.places.given node number → IsSeat code node s w seat
-    → place ≡ handle_place w node number
-told_place code node number place s w seat told h =
+pub told_place : (code : World) (node number place : ℕ) (s : Setting) (w : WorldState) (seat : Seat) → HasNode code node → place ≡ place_found code.places.given node number → IsSeat code node s w seat
+    → place ≡ handle_place w (present_life w node) number
+told_place code node number place s w seat has told h =
     let keeps = h.stands.stands.keeps in
     told
     ∙ ap (λ given. place_found given node number) keeps.places
     ∙ place_is node number w.handles keeps.given
-    ∙ ap (λ earlier. place_in (find (is_given node (length earlier) number) w.handles)) (sym (first_life code node s w seat h))
-    ∙ ap (place_at w node number) (sym h.here)
+    ∙ ap (λ earlier. place_in (find (is_given node (length earlier) number) w.handles)) (sym (first_life code node s w seat has h))
+    ∙ ap (place_at w node number) (sym (own_here code node s w seat has h))
+    ∙ ap (λ (k : ℕ). handle_place w k number) (sym (lent_node code node s w seat has h).present)

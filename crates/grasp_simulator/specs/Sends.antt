@@ -12,7 +12,7 @@ use Rattle.grasp_model_network.specs.Routes.{Route, route_of, route_on}
 use Rattle.grasp_model_network.specs.Sending.{posted, having_sent, having_closed, handed_over, drained}
 use Rattle.grasp_model_network.specs.Setting.{Setting, line_of, lines_of}
 use Rattle.grasp_model_network.specs.Streams.{StreamState, count_at_end}
-use Rattle.grasp_model_network.specs.World.{Seat, WorldState, end_of, seat_at}
+use Rattle.grasp_model_network.specs.World.{Seat, WorldState, end_of, member_of, seat_at}
 use Rattle.grasp_laws_delivery.specs.Ready.{IsDialOf, AreSent, AreReady}
 use Rattle.grasp_simulator.specs.WorldStands.{WorldKeeps, WorldGoes, IsFirstLife}
 use Rattle.grasp_simulator.specs.declared.ways.Way.{Way}
@@ -52,7 +52,7 @@ Posts before after node link to bytes = (s : Setting) (w : WorldState) (m : Mess
 
 -- the output is sent, where it can be
 pub record Puts (before after : World) (node : ℕ) (output : Output) : Type 0 where
-  pub queued : (s : Setting) (w : WorldState) (seat : Seat) (q : Queued) → WorldKeeps before s w → IsFirstLife seat → CanSend node seat q w.streams → output ≡ output_of q → WorldKeeps after s (having_sent s node seat w q)
+  pub queued : (s : Setting) (w : WorldState) (seat : Seat) (q : Queued) → WorldKeeps before s w → IsFirstLife seat → member_of w node ≡ node → CanSend node seat q w.streams → output ≡ output_of q → WorldKeeps after s (having_sent s node seat w q)
   pub closed : (s : Setting) (w : WorldState) (seat : Seat) (stream : ℕ) → WorldKeeps before s w → IsFirstLife seat → output ≡ Close stream → WorldKeeps after s (having_closed node seat w stream)
 
 -- ---- outputs in order
@@ -65,6 +65,7 @@ outputs_of queued streams = map output_of queued ++ map Close streams
 pub record MaySend (code : World) (s : Setting) (w : WorldState) (node : ℕ) (seat : Seat) (queued : List Queued) : Type 0 where
   pub keeps : WorldKeeps code s w
   pub first : IsFirstLife seat
+  pub own : member_of w node ≡ node
   pub ready : AreReady node seat queued w.streams
 
 -- the outputs are sent in order

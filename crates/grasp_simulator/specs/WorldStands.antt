@@ -10,8 +10,8 @@ use Rattle.grasp_model_network.specs.Plans.{IsNode, IsGoodPlan}
 use Rattle.grasp_model_network.specs.Runs.{IsReached}
 use Rattle.grasp_simulator.specs.Seats.{SeatsStand}
 use Rattle.grasp_simulator.specs.StreamsStand.{StreamsStand}
-use Rattle.grasp_model_network.specs.Setting.{Setting, script_setting}
-use Rattle.grasp_model_network.specs.World.{Seat, SentDatagram, GivenHandle, WorldState, seat_at, handle_place}
+use Rattle.grasp_model_network.specs.Setting.{Setting, script_setting, numbers_from}
+use Rattle.grasp_model_network.specs.World.{Seat, SentDatagram, GivenHandle, WorldState, seat_at, handle_place, present_life}
 use Rattle.grasp_simulator.specs.declared.parcel.Parcel.{Parcel}
 use Rattle.grasp_simulator.specs.declared.world.World.{World}
 
@@ -19,7 +19,11 @@ use Rattle.grasp_simulator.specs.declared.world.World.{World}
 abbrev pub parcel_of : SentDatagram → Parcel
 parcel_of d = record { receiver = d.route.receiver; link = d.route.link; from = d.route.from; bytes = encoding d.message }
 
--- a node is in its first life
+-- the datagram goes to one of so many nodes
+abbrev pub GoesToNode : ℕ → SentDatagram → Type 0
+GoesToNode nodes d = IsNode nodes d.route.receiver
+
+-- each life is a seat of its own
 abbrev pub IsFirstLife : Seat → Type 0
 IsFirstLife seat = seat.earlier ≡ []
 
@@ -30,14 +34,16 @@ IsFirstGiven g = g.life ≡ 0
 abbrev pub most_count : ℕ
 most_count = 2 ^ 64 - 1
 
--- the code keeps this network of its good plan, in which no node has begun a life anew
+-- the code keeps this network of its good plan, in which no node has begun anew
 pub record WorldKeeps (code : World) (s : Setting) (w : WorldState) : Type 0 where
   pub good : IsGoodPlan code.plan
   pub setting : s ≡ script_setting code.plan
   pub seats : SeatsStand code.seats.items w.seats
   pub lives : All IsFirstLife w.seats
+  pub members : w.lives ≡ numbers_from 1 (length w.seats)
   pub streams : StreamsStand code.streams w.streams w.dials
   pub parcels : code.parcels ≡ map parcel_of w.datagrams
+  pub receivers : All (GoesToNode code.plan.nodes) w.datagrams
   pub places : PlacesStand code.places w.handles
   pub given : All IsFirstGiven w.handles
   pub sent : code.sent ≡ min w.byte_count most_count
@@ -66,10 +72,10 @@ pub record HasNode (code : World) (node : ℕ) : Type 0 where
   pub stands : WorldStands code network
   pub is_node : IsNode (length network.setting.members) node
 
--- the code goes on for a network in which this node stands so
+-- the code goes on for a network in which this node's present life stands so
 pub record IsSeat (code : World) (node : ℕ) (s : Setting) (w : WorldState) (seat : Seat) : Type 0 where
   pub stands : WorldStands code (record { setting = s; standing = going w })
-  pub here : seat_at w node ≡ Some seat
+  pub here : seat_at w (present_life w node) ≡ Some seat
 
 -- a core that stands for the node
 abbrev pub LendsCore : World → ℕ → NodeCore → Type 0
@@ -79,6 +85,6 @@ LendsCore code node core = (s : Setting) (w : WorldState) (seat : Seat) → IsSe
 abbrev pub LendsAgent : World → ℕ → AgentState → Type 0
 LendsAgent code node agent = (s : Setting) (w : WorldState) (seat : Seat) → IsSeat code node s w seat → agent ≡ seat.agent
 
--- the place of the handle with this number that the node gave in its present life, and 0 where it gave none
+-- the place of the handle with this number that was given in the node's present life, and 0 where none was
 abbrev pub TellsPlace : World → ℕ → ℕ → ℕ → Type 0
-TellsPlace code node number place = (s : Setting) (w : WorldState) (seat : Seat) → IsSeat code node s w seat → place ≡ handle_place w node number
+TellsPlace code node number place = (s : Setting) (w : WorldState) (seat : Seat) → IsSeat code node s w seat → place ≡ handle_place w (present_life w node) number

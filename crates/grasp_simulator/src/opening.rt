@@ -7,7 +7,8 @@ ghost use Rattle.grasp_model_node.specs.Plan.{is_bad_plan};
 ghost use Rattle.grasp_core.specs.Stands.{NodeStands};
 ghost use Rattle.grasp_pool.specs.Functions.{pool_of};
 ghost use Rattle.grasp_model_network.specs.Plans.{IsNode, IsGoodPlan};
-ghost use Rattle.grasp_model_network.specs.Runs.{fresh_seat, first_seat, world_of};
+ghost use Rattle.grasp_model_network.specs.Openings.{fresh_seat, first_seat};
+ghost use Rattle.grasp_model_network.specs.Runs.{world_of};
 ghost use Rattle.grasp_simulator.specs.Seats.{SeatStands, SeatsStand};
 ghost use Rattle.grasp_model_network.specs.Setting.{others_on, script_number, script_address, script_locator, script_seed, script_neighbour, script_links, script_node, script_roots, script_member, is_on};
 
@@ -162,7 +163,7 @@ fn open_agent(alloc: Global, plan: &WorldPlan, node: u8) -> Result<PrefixAgent, 
 fn fresh_seat(alloc: Global, plan: &WorldPlan, node: u8) -> Result<Seat, OutOfMemory>
     requires good { IsGoodPlan plan.now }
     requires node { IsNode plan.now.nodes node }
-    ensures { IfOk result (λ seat. SeatStands seat (fresh_seat (script_member plan.now node))) }
+    ensures { IfOk result (λ seat. SeatStands seat (fresh_seat (script_node plan.now node) (pool_of (script_roots plan.now.roots node)))) }
 {
     let opened = node_plan(alloc, plan, node)?;
     let core = open_core(alloc, opened)?;

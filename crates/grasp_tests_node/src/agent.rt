@@ -3,9 +3,10 @@ use crate::answer::{push_floods, push_numbered, push_refused};
 use crate::calls::read_peer;
 use crate::fault::LineFault;
 use crate::plan::locator_of;
-use crate::pool::{push_pool, push_pool_fault, read_prefix, read_roots};
+use crate::pool::{push_pool, push_pool_fault, read_image, read_prefix, read_roots};
 use grasp_agent::{Agent, Beacon, PrefixAgent, Reader, ReturnFault, WantEnd, WantFault};
 use grasp_cbor::OutOfMemory;
+use grasp_pool::PoolFault;
 use grasp_text::{Words, push_number, push_prefix, push_word};
 use grasp_types::{Call, Prefix, Reply};
 use std::alloc::Global;
@@ -27,6 +28,7 @@ pub fn open_agent(
     let (kind, _) = words.next()?;
     match kind {
         b"prefix" => open_prefix_agent(alloc, out, words),
+        b"reopen" => reopen_prefix_agent(alloc, out, words),
         b"beacon" => {
             push_word(out, "open")?;
             Ok(Some(NodeAgent::Beacon(read_beacon(alloc, words)?)))
@@ -63,7 +65,25 @@ fn open_prefix_agent(
     words: &mut Words<'_>,
 ) -> Result<Option<NodeAgent>, LineFault> {
     let roots = read_roots(alloc, words)?;
-    match PrefixAgent::open(alloc, roots.as_slice()) {
+    push_opened(out, PrefixAgent::open(alloc, roots.as_slice()))
+}
+
+/// Opens an agent that manages prefixes with an image of a pool.
+fn reopen_prefix_agent(
+    alloc: Global,
+    out: &mut String,
+    words: &mut Words<'_>,
+) -> Result<Option<NodeAgent>, LineFault> {
+    let image = read_image(alloc, words)?;
+    push_opened(out, PrefixAgent::reopen(alloc, &image))
+}
+
+/// Appends whether an agent was opened, and gives it.
+fn push_opened(
+    out: &mut String,
+    opened: Result<PrefixAgent, PoolFault>,
+) -> Result<Option<NodeAgent>, LineFault> {
+    match opened {
         Ok(agent) => {
             push_word(out, "open")?;
             Ok(Some(NodeAgent::Prefix(agent)))

@@ -35,13 +35,14 @@
 //! locators are written as in the line of a message.
 //!
 //! A node may have an agent that decides for itself. `NODE agent prefix ADDRESS LENGTH .. = open` opens one with these roots,
-//! `NODE agent beacon NUMBER TTL LOOPS TEXT VALUE = open` and `NODE agent reader NUMBER TEXT = open` open the others; what is
-//! answered for bad roots stands at the pools. `NODE NOW next CALL = ANSWER` makes the agent's next call, which must be this
-//! one, and tells the agent the answer; where it is another, the answer is `makes` and that call. `NODE want LENGTH LONGEST PEER`
-//! is answered `ok`, `busy LENGTH LONGEST` or `full`; `NODE return PREFIX PEER` is answered `ok`, `busy PREFIX`, `notfree` or
-//! `full`; and `NODE settle PREFIX` is answered `done` or `undoubted`. `NODE undone` is answered `accepting`, `offering` and
-//! `unsent`, each with its prefix where there is one. `NODE tells` is answered `wanting` or `content`, how the last want ended, and
-//! the pool; of a reader what it has read; and of a beacon nothing but the word.
+//! `NODE agent reopen PREFIX .. doubt PREFIX .. = open` one with an image of a pool, and `NODE agent beacon NUMBER TTL LOOPS
+//! TEXT VALUE = open` and `NODE agent reader NUMBER TEXT = open` open the others; what is answered for bad roots stands at
+//! the pools. `NODE NOW next CALL = ANSWER` makes the agent's next call, which must be this one, and tells the agent the
+//! answer; where it is another, the answer is `makes` and that call. `NODE want LENGTH LONGEST PEER` is answered `ok`, `busy
+//! LENGTH LONGEST` or `full`; `NODE return PREFIX PEER` is answered `ok`, `busy PREFIX`, `notfree` or `full`; and `NODE
+//! settle PREFIX` is answered `done` or `undoubted`. `NODE undone` is answered `accepting`, `offering` and `unsent`, each
+//! with its prefix where there is one. `NODE tells` is answered `wanting` or `content`, how the last want ended, and the
+//! pool; of a reader what it has read; and of a beacon nothing but the word.
 //!
 //! A row may have a pool. `pool open ADDRESS LENGTH .. = open` opens it with these roots, or the answer is `toomany`, `badroot
 //! PLACE` or `overlap FIRST SECOND`. `pool reopen PREFIX .. doubt PREFIX .. = open` opens it with these prefixes free and these

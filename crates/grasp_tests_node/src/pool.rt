@@ -58,7 +58,7 @@ fn read_prefixes(alloc: Global, words: &mut Words<'_>) -> Result<PrefixList, Lin
 }
 
 /// Takes an image: the free prefixes, the word `doubt`, and the doubtful ones.
-fn read_image(alloc: Global, words: &mut Words<'_>) -> Result<PoolImage, LineFault> {
+pub fn read_image(alloc: Global, words: &mut Words<'_>) -> Result<PoolImage, LineFault> {
     let free = read_prefixes(alloc, words)?;
     words.exactly(b"doubt")?;
     let doubtful = read_prefixes(alloc, words)?;

@@ -9,10 +9,10 @@ use Rattle.grasp_model_network.specs.EventSteps.{agent_visit, agent_seat, agent_
 use Rattle.grasp_model_network.specs.Events.{visit_of}
 use Rattle.grasp_laws_network.specs.Keeping.{TakesNothing}
 use Rattle.grasp_model_network.specs.StreamChanges.{Reached, reached_side, side_named}
-use Rattle.grasp_model_network.specs.Setting.{Member, Setting, numbered, member_at}
+use Rattle.grasp_model_network.specs.Setting.{Setting, numbered, member_at}
 use Rattle.grasp_model_network.specs.Streams.{StreamState, is_waiting, next_bytes, stream_numbered}
 use Rattle.grasp_model_network.specs.Visits.{Visit, visit, visit_seat}
-use Rattle.grasp_model_network.specs.World.{Seat, SentDatagram, WorldState, seat_at}
+use Rattle.grasp_model_network.specs.World.{Seat, SentDatagram, WorldState, present_life, seat_at}
 use Rattle.grasp_model_network.specs.declared.event.Event.{Event}
 use Rattle.grasp_model_network.specs.declared.event.Event.TheVariants as event
 use Rattle.grasp_laws_delivery.proofs.Holding.{IsStep}
@@ -38,42 +38,54 @@ clock_visit_is node millis v (Some seat) is = at_seat (same_Some (record { node 
   at_seat : record { node = node; seat = seat; now = millis; input = input.Drain 0 } ≡ v → IsVisit v node (input.Drain 0)
   at_seat same = record { node_is = ap (λ (x : Visit). x.node) (sym same); input_is = ap (λ (x : Visit). x.input) (sym same) }
 
-agent_visit_is : (node : ℕ) (v : Visit) (o : Option Seat) → agent_seat node o ≡ Some v → (seat : Seat) × IsVisit v node (agent_input seat.agent)
+pub agent_visit_is : (node : ℕ) (v : Visit) (o : Option Seat) → agent_seat node o ≡ Some v → (seat : Seat) × IsVisit v node (agent_input seat.agent)
 agent_visit_is node v None is = absurd (none-some v is)
 agent_visit_is node v (Some seat) is = (seat, seat_visit node (agent_input seat.agent) v (Some seat) is)
 
-pub datagram_visit_is : (w : WorldState) (v : Visit) (o : Option SentDatagram) → datagram_at w o ≡ Some v → (d : SentDatagram) × IsVisit v d.route.receiver (input.Datagram d.route.link d.route.from (encoding d.message))
+pub datagram_visit_is : (w : WorldState) (v : Visit) (o : Option SentDatagram) → datagram_at w o ≡ Some v
+    → (d : SentDatagram) × IsVisit v (present_life w d.route.receiver) (input.Datagram d.route.link d.route.from (encoding d.message))
 datagram_visit_is w v None is = absurd (none-some v is)
-datagram_visit_is w v (Some d) is = (d, at_visit w d.route.receiver (input.Datagram d.route.link d.route.from (encoding d.message)) v is)
+datagram_visit_is w v (Some d) is = (d, at_visit w (present_life w d.route.receiver) (input.Datagram d.route.link d.route.from (encoding d.message)) v is)
 
 -- ---- a stream that is opened
 
--- the stream of this number waits for its opening, and is opened at this node under its number there
+-- the stream of this number waits for its opening, and is opened at the present life of the member where it was dialled to, under its number
+-- there; who dialled it stands so
 pub record IsOpening (s : Setting) (w : WorldState) (k : ℕ) (v : Visit) : Type 0 where
   pub talk : StreamState
-  pub near : Member
+  pub near : Seat
+  pub member : ℕ
   pub found : stream_numbered w.streams k ≡ Some talk
   pub waiting : is_waiting talk.far_side ≡ true
-  pub is : IsVisit v v.node (input.Opened (s.arrives_as v.node k) (s.arrives_from k near.plan.address))
+  pub dialled : seat_at w talk.near.node ≡ Some near
+  pub listens : member_at s talk.to ≡ Some member
+  pub node_is : v.node ≡ present_life w member
+  pub is : IsVisit v v.node (input.Opened (s.arrives_as v.node k) (s.arrives_from k near.core.plan.address))
 
 pub opening_is : (s : Setting) (w : WorldState) (k : ℕ) (v : Visit) → arrival_visit s w k ≡ Some v → IsOpening s w k v
 unfolding arrival_visit
 opening_is s w k v is = by_talk (stream_numbered w.streams k) refl is where
-  by_node : (t : StreamState) → stream_numbered w.streams k ≡ Some t → is_waiting t.far_side ≡ true → (to : Option ℕ) (near : Option Member) → opened_at s w k to near ≡ Some v → IsOpening s w k v
-  by_node t found waits None near e = absurd (none-some v e)
-  by_node t found waits (Some node) None e = absurd (none-some v e)
-  by_node t found waits (Some node) (Some near) e = at_node (at_visit w node (input.Opened (s.arrives_as node k) (s.arrives_from k near.plan.address)) v e) where
-    at_node : IsVisit v node (input.Opened (s.arrives_as node k) (s.arrives_from k near.plan.address)) → IsOpening s w k v
-    at_node x = record {
-      talk = t;
-      near = near;
-      found = found;
-      waiting = waits;
-      is = record { node_is = refl; input_is = x.input_is ∙ ap (λ n. input.Opened (s.arrives_as n k) (s.arrives_from k near.plan.address)) (sym x.node_is) };
-    }
+  by_node : (t : StreamState) → stream_numbered w.streams k ≡ Some t → is_waiting t.far_side ≡ true → (to : Option ℕ) (near : Option Seat) → member_at s t.to ≡ to → seat_at w t.near.node ≡ near
+      → opened_at s w k to near ≡ Some v → IsOpening s w k v
+  by_node t found waits None near listens there e = absurd (none-some v e)
+  by_node t found waits (Some node) None listens there e = absurd (none-some v e)
+  by_node t found waits (Some node) (Some near) listens there e =
+      at_node (at_visit w (present_life w node) (input.Opened (s.arrives_as (present_life w node) k) (s.arrives_from k near.core.plan.address)) v e) where
+        at_node : IsVisit v (present_life w node) (input.Opened (s.arrives_as (present_life w node) k) (s.arrives_from k near.core.plan.address)) → IsOpening s w k v
+        at_node x = record {
+          talk = t;
+          near = near;
+          member = node;
+          found = found;
+          waiting = waits;
+          dialled = there;
+          listens = listens;
+          node_is = x.node_is;
+          is = record { node_is = refl; input_is = x.input_is ∙ ap (λ n. input.Opened (s.arrives_as n k) (s.arrives_from k near.core.plan.address)) (sym x.node_is) };
+        }
 
-  by_waiting : (t : StreamState) → stream_numbered w.streams k ≡ Some t → (b : Bool) → is_waiting t.far_side ≡ b → cond b (opened_at s w k (member_at s t.to) (numbered s.members t.near.node)) None ≡ Some v → IsOpening s w k v
-  by_waiting t found true waits e = by_node t found waits (member_at s t.to) (numbered s.members t.near.node) e
+  by_waiting : (t : StreamState) → stream_numbered w.streams k ≡ Some t → (b : Bool) → is_waiting t.far_side ≡ b → cond b (opened_at s w k (member_at s t.to) (seat_at w t.near.node)) None ≡ Some v → IsOpening s w k v
+  by_waiting t found true waits e = by_node t found waits (member_at s t.to) (seat_at w t.near.node) refl refl e
   by_waiting t found false waits e = absurd (none-some v e)
 
   by_talk : (o : Option StreamState) → stream_numbered w.streams k ≡ o → opened_stream s w k o ≡ Some v → IsOpening s w k v
@@ -122,9 +134,9 @@ quiet_as v node i is q = subst IsQuiet (sym is.input_is) q
 
 pub agent_quiet : (s : Setting) (w : WorldState) (node : ℕ) (hold : Bool) (v : Visit) → visit_of s w (event.Agent node hold) ≡ Some v → IsQuiet v.input
 unfolding agent_visit
-agent_quiet s w node hold v is = by_seat (agent_visit_is node v (seat_at w node) is) where
-  by_seat : (seat : Seat) × IsVisit v node (agent_input seat.agent) → IsQuiet v.input
-  by_seat x = quiet_as v node (agent_input x.0.agent) x.1 tt
+agent_quiet s w node hold v is = by_seat (agent_visit_is (present_life w node) v (seat_at w (present_life w node)) is) where
+  by_seat : (seat : Seat) × IsVisit v (present_life w node) (agent_input seat.agent) → IsQuiet v.input
+  by_seat x = quiet_as v (present_life w node) (agent_input x.0.agent) x.1 tt
 
 pub call_quiet : (s : Setting) (w : WorldState) (e : Event) (v : Visit) (node : ℕ) (i : Input) → visit w node i ≡ Some v → IsQuiet i → IsQuiet v.input
 call_quiet s w e v node i is q = quiet_as v node i (at_visit w node i v is) q
@@ -132,11 +144,12 @@ call_quiet s w e v node i is q = quiet_as v node i (at_visit w node i v is) q
 pub datagram_quiet : (s : Setting) (w : WorldState) (index : ℕ) (hold : Bool) (v : Visit) → visit_of s w (event.Datagram index hold) ≡ Some v → IsQuiet v.input
 unfolding datagram_visit
 datagram_quiet s w index hold v is = by_datagram (datagram_visit_is w v (numbered w.datagrams index) is) where
-  by_datagram : (d : SentDatagram) × IsVisit v d.route.receiver (input.Datagram d.route.link d.route.from (encoding d.message)) → IsQuiet v.input
-  by_datagram x = quiet_as v x.0.route.receiver (input.Datagram x.0.route.link x.0.route.from (encoding x.0.message)) x.1 tt
+  by_datagram : (d : SentDatagram) × IsVisit v (present_life w d.route.receiver) (input.Datagram d.route.link d.route.from (encoding d.message)) → IsQuiet v.input
+  by_datagram x = quiet_as v (present_life w x.0.route.receiver) (input.Datagram x.0.route.link x.0.route.from (encoding x.0.message)) x.1 tt
 
 pub clock_quiet : (s : Setting) (w : WorldState) (node millis : ℕ) (v : Visit) → visit_of s w (event.Clock node millis) ≡ Some v → IsQuiet v.input
-clock_quiet s w node millis v is = quiet_as v node (input.Drain 0) (clock_visit_is node millis v (seat_at w node) is) refl
+clock_quiet s w node millis v is =
+    quiet_as v (present_life w node) (input.Drain 0) (clock_visit_is (present_life w node) millis v (seat_at w (present_life w node)) is) refl
 
 -- no step but a drain takes anything from the queue
 pub takes_nothing : (s : Setting) (w : WorldState) (e : Event) (v : Visit) → visit_of s w e ≡ Some v → IsStep e → TakesNothing v.input
@@ -144,7 +157,7 @@ takes_nothing s w (event.Clock node millis) v is step = quiet_takes v.input (clo
 takes_nothing s w (event.Want node length longest peer) v is step = absurd step
 takes_nothing s w (event.Return node prefix peer) v is step = absurd step
 takes_nothing s w (event.Agent node hold) v is step = quiet_takes v.input (agent_quiet s w node hold v is)
-takes_nothing s w (event.Api node asa call hold) v is step = quiet_takes v.input (call_quiet s w (event.Api node asa call hold) v node (input.Api asa call) is tt)
+takes_nothing s w (event.Api node asa call hold) v is step = quiet_takes v.input (call_quiet s w (event.Api node asa call hold) v (present_life w node) (input.Api asa call) is tt)
 takes_nothing s w (event.Datagram index hold) v is step = quiet_takes v.input (datagram_quiet s w index hold v is)
 takes_nothing s w (event.Arrive stream hold) v is step = subst TakesNothing (sym (opening_is s w stream v is).is.input_is) tt
 takes_nothing s w (event.Bytes stream far count hold) v is step = subst TakesNothing (sym (piece_is w stream (side_named far) count v is).is.input_is) tt

@@ -1,5 +1,5 @@
 -- What a session says next is a message, where all that it sent and kept are messages.
-use Rattle.std.proofs.Common.{◌-◌, ◌<◌, ◌≤◌, ◌^◌, Bool, true, false, cond, List, [], ◌∷◌, arith}
+use Rattle.std.proofs.Common.{◌<◌, ◌≤◌, ◌^◌, Bool, true, false, cond, List, [], ◌∷◌, arith}
 use Rattle.std.specs.Prelude.{IfSome}
 use Rattle.std.proofs.lemmas.Str.{IsUtf8-nil}
 use Rattle.grasp_cbor.proofs.Facts.Numbers.{still_below}

@@ -1,22 +1,23 @@
--- In every network that events lead to, what came on an open stream is what was delivered of what the other side sent.
+-- In every network that turns lead to, what came on an open stream is what was delivered of what the other side sent.
 use Rattle.std.proofs.Common.{◌≡◌, ◌≢◌, refl, sym, ap, ◌∙◌, subst, arith, ℕ, ◌+◌, ◌-◌, ◌*◌, ◌<◌, ◌≤◌, ◌==◌, zero, suc, Bool, true, false, cond, List, [], ◌∷◌, fold, take, length, slice_get, map, Option, None, Some, All}
 use Rattle.std.proofs.lemmas.List.Elements.{All-nil}
 use Rattle.std.proofs.lemmas.Option.{none-some}
-use Rattle.grasp_agent.specs.Calls.{next_call, agent_name, objective_name}
-use Rattle.grasp_agent.specs.Replies.{after_reply}
+use Rattle.grasp_agent.specs.Reopening.{retired}
 use Rattle.grasp_agent.specs.States.{AgentState}
 use Rattle.grasp_laws_node.proofs.Beginning.{beginnings_end}
-use Rattle.grasp_model_node.specs.Begin.{begin, expired}
+use Rattle.grasp_model_node.specs.Begin.{begin}
 use Rattle.grasp_model_node.specs.Bytes.{Adds, past_after}
 use Rattle.grasp_model_node.specs.Draining.{closes, drained, after_drain}
-use Rattle.grasp_model_node.specs.Moves.{with_reading, with_registrations, with_sessions, with_discoveries, with_floods, begin_closing}
 use Rattle.grasp_model_node.specs.Node.{NodeState, first_node}
 use Rattle.grasp_model_node.specs.Step.{Coming, NodeStep}
-use Rattle.grasp_model_node.specs.Streams.{StreamRecord, next_stream, past_of}
+use Rattle.grasp_model_node.specs.Streams.{StreamsState, no_streams, next_stream, past_of}
 use Rattle.grasp_model_node.specs.declared.plan.NodePlan.{NodePlan}
 use Rattle.grasp_laws_node.proofs.DialNodes.{dials_counted}
 use Rattle.grasp_laws_node.proofs.Drains.{drains_dial_nothing}
 use Rattle.grasp_laws_node.specs.Dials.{DialsNext, dialled_in, evens_from}
+use Rattle.grasp_pool.specs.Functions.{pool_of, pool_of_image}
+use Rattle.grasp_pool.specs.Holdings.{Holding}
+use Rattle.grasp_pool.specs.declared.image.PoolImage.{PoolImage}
 use Rattle.grasp_session.specs.Messages.{Side, other}
 use Rattle.grasp_types.specs.declared.reply.Reply.{Reply}
 use Rattle.grasp_types.specs.declared.reply.Reply.TheVariants as reply
@@ -26,26 +27,31 @@ use Rattle.grasp_wire.proofs.Joins.{divides_alone}
 use Rattle.grasp_wire.proofs.ReadingOn.{nothing_waits}
 use Rattle.grasp_wire.specs.Cutter.{Past, Waits, no_past}
 use Rattle.grasp_wire.specs.Stream.{waiting}
+use Rattle.grasp_laws_network.proofs.Begun.{begun_streams}
 use Rattle.grasp_laws_network.proofs.EachNode.{IsMade, is_made, drain_steps, reached_each, nodes_are_sound}
 use Rattle.grasp_laws_network.proofs.Here.{visits_are_here}
 use Rattle.grasp_laws_network.proofs.Telling.{one_agent}
+use Rattle.grasp_laws_network.proofs.Restarted.{Restarting, restart_seats}
+use Rattle.grasp_laws_network.specs.Telling.{OneAgent}
 use Rattle.grasp_laws_node.proofs.PlansStay.{step_plan}
 use Rattle.grasp_model_network.proofs.Facts.{numbered_all}
 use Rattle.grasp_model_network.specs.StreamChanges.{arrived, told, Reached, reached_side, side_named, delivered}
 use Rattle.grasp_model_network.specs.Events.{Occurs, visit_of, after_visit}
 use Rattle.grasp_model_network.specs.GoodSetting.{IsGoodMember}
-use Rattle.grasp_model_network.specs.Runs.{IsReached, answered_seat, first_seat, first_world}
+use Rattle.grasp_model_network.specs.Runs.{IsReached, first_world}
+use Rattle.grasp_model_network.specs.Openings.{first_seat, opened_seat}
+use Rattle.grasp_model_network.specs.Restarting.{told_at}
 use Rattle.grasp_model_network.specs.Sending as network
 use Rattle.grasp_model_network.specs.Sending.{gained, having_made, streams_made, seat_with, having_sent, handed_over, drained_at, drained_from}
 use Rattle.grasp_model_network.specs.Setting.{Member, Setting, numbered}
 use Rattle.grasp_model_network.specs.Streams.{StreamEnd, StreamState, end_at, next_bytes, stream_numbered}
 use Rattle.grasp_model_network.specs.Visits.{Visit, Choice, VisitStep, MayCome, no_choice}
-use Rattle.grasp_model_network.specs.World.{Seat, WorldState, seat_at, with_seat, end_of, life_of}
+use Rattle.grasp_model_network.specs.World.{Seat, WorldState, present_life, seat_at, with_seat, end_of, life_of}
 use Rattle.grasp_model_network.specs.declared.event.Event.{Event}
 use Rattle.grasp_model_network.specs.declared.event.Event.TheVariants as event
 use Rattle.grasp_laws_delivery.specs.Ready.{StreamsAreReady}
 use Rattle.grasp_laws_delivery.proofs.AfterSteps.{streams_before, streams_stepped, seats_stepped, each_seat, each_drained, agent_keeps}
-use Rattle.grasp_laws_delivery.proofs.Heard.Steps.{made_heard, dial_heard, all_sent_heard, all_closed_heard, IsReachedSide, reached_is, delivered_heard, piece_heard, told_heard, arrived_heard, opened_heard}
+use Rattle.grasp_laws_delivery.proofs.Heard.Steps.{made_heard, dial_heard, all_sent_heard, all_closed_heard, IsReachedSide, reached_is, delivered_heard, piece_heard, told_heard, restarted_heard, arrived_heard, opened_heard}
 use Rattle.grasp_laws_delivery.proofs.Heard.Talks.{IsHeard}
 use Rattle.grasp_laws_delivery.proofs.Holding.{IsStep, PartsKeep, parts_keep}
 use Rattle.grasp_laws_delivery.proofs.Came.Inputs.{IsQuiet, agent_quiet, call_quiet, datagram_quiet, clock_quiet, IsOpening, opening_is, IsReaching, piece_is, cut_is}
@@ -81,8 +87,8 @@ has_limit s w r = reached_each (λ k n. 0 < n.plan.limit) s w (λ k n after now 
       let least = r.good.least_limit in
       omega (arith, is, least)
 
-  first : (k : ℕ) (m : Member) → numbered s.members k ≡ Some m → 0 < (first_node m.plan).plan.limit
-  first k m is = some_limit m (numbered_all (IsGoodMember r.good.limit) s.members k m r.good.members is)
+  first : (life k : ℕ) (m : Member) → numbered s.members k ≡ Some m → 0 < (first_node m.plan).plan.limit
+  first life k m is = some_limit m (numbered_all (IsGoodMember r.good.limit) s.members k m r.good.members is)
 
 -- before the first byte of a stream
 none_came : (limit : ℕ) → 0 < limit → Waits limit no_past
@@ -227,7 +233,7 @@ module _ (ready : StreamsAreReady) where
             → IsHeard (made v c (told w (Some o.reached)).streams) (end_of v.node v.seat stream) v.seat.core.plan.limit past
         others stream past differs h =
             made_heard v.node v.seat (end_of v.node v.seat stream) v.seat.core.plan.limit past (gained v.seat.core c.after) (told w (Some o.reached)).streams
-            (told_heard w o.reached (end_of v.node v.seat stream) v.seat.core.plan.limit past (λ e. differs (ap (λ (x : StreamEnd). x.number) e)) h)
+            (told_heard w o.reached (end_of v.node v.seat stream) v.seat.core.plan.limit past h)
 
   step_turns : (s : Setting) (w : WorldState) (e : Event) (v : Visit) (c : Choice) → IsReached s w → seat_at w v.node ≡ Some v.seat → 0 < v.seat.core.plan.limit → visit_of s w e ≡ Some v → IsStep e
       → Turns (HeardOn w.streams v.node v.seat v.seat.core.plan.limit) (HeardOn (made v c (streams_before s w e v c)) v.node v.seat v.seat.core.plan.limit) (begin v.seat.core v.now) c.coming c.reply v.input
@@ -235,7 +241,7 @@ module _ (ready : StreamsAreReady) where
   step_turns s w (event.Want node length longest peer) v c r here some is step = absurd step
   step_turns s w (event.Return node prefix peer) v c r here some is step = absurd step
   step_turns s w (event.Agent node hold) v c r here some is step = quiet_step w v c (agent_quiet s w node hold v is)
-  step_turns s w (event.Api node asa call hold) v c r here some is step = quiet_step w v c (call_quiet s w (event.Api node asa call hold) v node (input.Api asa call) is tt)
+  step_turns s w (event.Api node asa call hold) v c r here some is step = quiet_step w v c (call_quiet s w (event.Api node asa call hold) v (present_life w node) (input.Api asa call) is tt)
   step_turns s w (event.Datagram index hold) v c r here some is step = quiet_step w v c (datagram_quiet s w index hold v is)
   step_turns s w (event.Arrive k hold) v c r here some is step = opened_step s w k v c r (opening_is s w k v is) some
   step_turns s w (event.Bytes k far count hold) v c r here some is step = piece_step s w k count (side_named far) v c r here (piece_is w k (side_named far) count v is)
@@ -260,7 +266,7 @@ module _ (ready : StreamsAreReady) where
     reached : IsReaching w k (side_named far) v (λ x. input.Closed x.at.number) → IsHeard (told w (reached_side w k (side_named far))).streams end limit past
     reached o =
         subst (λ (x : Option Reached). IsHeard (told w x).streams end limit past) (sym o.found)
-        (told_heard w o.reached end limit past (λ e. differs (ap (λ (x : StreamEnd). x.node) e ∙ sym o.is.node_is)) h)
+        (told_heard w o.reached end limit past h)
   other_before s w _ v c end limit past r is differs h = h
 
   -- ---- a step, at each node
@@ -349,32 +355,56 @@ module _ (ready : StreamsAreReady) where
 
   -- ---- the first network
 
-  first_records : (m : Member) → (first_seat m).core.streams.records ≡ []
-  unfolding answered_seat first_seat next_call agent_name objective_name after_reply begin expired with_reading with_registrations with_sessions with_discoveries with_floods begin_closing
-  first_records m = refl
+  -- a life that begins has no stream
+  opened_hears : (ts : List StreamState) (node : ℕ) (plan : NodePlan) (h : Holding) → Hears ts node (opened_seat plan h)
+  opened_hears ts node plan h = by_seat (opened_seat plan h) (begun_streams plan h) where
+    by_seat : (seat : Seat) → seat.core.streams ≡ no_streams → Hears ts node seat
+    by_seat seat none = record {
+      each =
+          subst (λ (t : StreamsState). All (OpenHolds (HeardOn ts node seat seat.core.plan.limit)) t.records) (sym none) (All-nil (OpenHolds (HeardOn ts node seat seat.core.plan.limit)));
+    }
 
   first_hears : (s : Setting) → AllHear (first_world s)
   unfolding first_world
   first_hears s node seat here = by_zero (node == 0) refl where
     by_member : IsMade first_seat s.members (node - 1) seat → Hears [] node seat
-    by_member m = record {
-      each =
-          subst (λ (xs : List StreamRecord). All (OpenHolds (HeardOn [] node seat seat.core.plan.limit)) xs) (sym (ap (λ (x : Seat). x.core.streams.records) (sym m.made) ∙ first_records m.of))
-          (All-nil (OpenHolds (HeardOn [] node seat seat.core.plan.limit)));
-    }
+    by_member m = subst (λ (x : Seat). Hears [] node x) m.made (opened_hears [] node m.of.plan (pool_of m.of.roots))
 
     by_zero : (b : Bool) → (node == 0) ≡ b → Hears [] node seat
     by_zero true e = absurd (none-some seat (subst (λ z. cond z None (slice_get (map first_seat s.members) (node - 1)) ≡ Some seat) e here))
     by_zero false e = by_member (is_made first_seat s.members (node - 1) seat (subst (λ z. cond z None (slice_get (map first_seat s.members) (node - 1)) ≡ Some seat) e here))
 
-  -- ---- every event
+  -- ---- another agent, and a restart
+
+  one_hears : (w x : WorldState) → OneAgent w x → AllHear w → AllHear x
+  one_hears w x o all = agent_keeps Hears w x o (λ each. record { each = each.each }) all
+
+  still_hears : (s : Setting) (member life node : ℕ) (ts : List StreamState) (seat : Seat) (agent : AgentState) → Hears ts node seat → Hears (map (told_at s member life) ts) node (seat_with seat seat.core agent)
+  still_hears s member life node ts seat agent each =
+      weaker (HeardOn ts node seat seat.core.plan.limit) (HeardOn (map (told_at s member life) ts) node (seat_with seat seat.core agent) seat.core.plan.limit) seat.core
+      (λ stream past h. restarted_heard s member life ts (end_of node seat stream) seat.core.plan.limit past h) each
+
+  restart_hears : (s : Setting) (w x : WorldState) (node : ℕ) (image : PoolImage) → Restarting s w node image x → AllHear w → AllHear x
+  restart_hears s w x node image t all =
+      subst (λ (ts : List StreamState). (n : ℕ) (other : Seat) → seat_at x n ≡ Some other → Hears ts n other) (sym t.streams)
+      (restart_seats (λ n other. Hears (map (told_at s node life) w.streams) n other) s w node image x t
+      (still_hears s node life life w.streams t.seat (retired t.seat.agent) (all life t.seat t.here))
+      (opened_hears (map (told_at s node life) w.streams) (length w.seats + 1) t.member.plan (pool_of_image image))
+      (λ n other there. still_hears s node life n w.streams other other.agent (all n other there)))
+    where
+      life : ℕ
+      life = present_life w node
+
+  -- ---- every turn
 
   parts_hear : (s : Setting) → PartsKeep s AllHear
   unfolding network.drained
   parts_hear s = record {
     steps = λ w e c v r all o is step reached. step_hears s w e c v r all o is step;
-    told = λ w x e r t all. agent_keeps Hears w x (one_agent s w e x t) (λ each. record { each = each.each }) all;
+    told = λ w x e r t all. one_hears w x (one_agent s w e x t) all;
     drains = λ w node max r all least. drain_hears s w node max (seat_at w node) r least refl all;
+    settles = λ w x node p r t all. one_hears w x t.one all;
+    restarts = λ w x node image r t all. restart_hears s w x node image t all;
   }
 
   pub all_hear : (s : Setting) (w : WorldState) → IsReached s w → AllHear w

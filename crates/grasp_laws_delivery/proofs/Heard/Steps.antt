@@ -1,6 +1,5 @@
 -- What each step and each drain leaves of what came on an open stream.
-use Rattle.std.proofs.Common.{◌≡◌, ◌≢◌, refl, sym, ap, ◌∙◌, subst, ℕ, suc, ◌+◌, Bool, true, false, List, [], ◌∷◌, ◌++◌, fold, take, slice_get, Option, None, Some}
-use Rattle.std.proofs.lemmas.Bool.{true≢false}
+use Rattle.std.proofs.Common.{◌≡◌, ◌≢◌, refl, sym, ap, ◌∙◌, subst, ℕ, suc, ◌+◌, Bool, true, false, List, [], ◌∷◌, ◌++◌, fold, map, take, slice_get, Option, None, Some}
 use Rattle.std.proofs.lemmas.Option.{none-some, same_Some}
 use Rattle.grasp_cbor.proofs.Facts.Lists.{same_first}
 use Rattle.grasp_model_node.specs.Bytes.{Added, Adds, past_after}
@@ -13,19 +12,22 @@ use Rattle.grasp_types.specs.declared.reply.Reply.TheVariants as reply
 use Rattle.grasp_wire.specs.Cutter.{Past, Waits, no_past}
 use Rattle.grasp_wire.specs.Laws.{encoded}
 use Rattle.grasp_wire.specs.Stream.{Divides, RestKind, waiting}
+use Rattle.grasp_laws_network.proofs.Lists.{slice_map}
 use Rattle.grasp_model_network.specs.StreamChanges.{arrival_by, arrived, told, Reached, reached_at, reached_in, reached_side, delivered}
+use Rattle.grasp_model_network.specs.Restarting.{told_at}
 use Rattle.grasp_model_network.specs.Routes.{Route, route_of}
 use Rattle.grasp_model_network.specs.Sending.{having_made, posted, having_sent, having_closed}
 use Rattle.grasp_model_network.specs.Setting.{Setting}
-use Rattle.grasp_model_network.specs.Streams.{StreamEnd, StreamState, Arrival, lives, told_closed, is_reached, is_waiting, fresh_stream, end_at, side_at, next_bytes, with_side, with_said, with_sent, with_ended, with_number, with_delivered, with_far, at_end, stream_numbered}
+use Rattle.grasp_model_network.specs.Streams.{StreamEnd, StreamState, Arrival, not_yet, lives, turned_away, told_closed, is_reached, is_waiting, fresh_stream, end_at, side_at, next_bytes, with_side, with_said, with_sent, with_ended, with_number, with_delivered, with_far, at_end, stream_numbered}
 use Rattle.grasp_model_network.specs.Visits.{Visit}
-use Rattle.grasp_model_network.specs.World.{Seat, WorldState, end_of}
+use Rattle.grasp_model_network.specs.World.{Seat, WorldState, end_of, member_of}
 use Rattle.grasp_laws_delivery.proofs.AfterSteps.{posted_each}
-use Rattle.grasp_laws_delivery.proofs.Heard.Talks.{IsHeard, StillComes, heard_pushed, heard_changed, said_comes, dialled_heard, sent_comes, ended_comes, numbered_comes, delivered_elsewhere, delivered_comes, told_elsewhere, opened_comes}
+use Rattle.grasp_laws_delivery.proofs.Heard.Talks.{IsHeard, StillComes, heard_pushed, heard_changed, said_comes, dialled_heard, sent_comes, ended_comes, numbered_comes, delivered_elsewhere, delivered_comes, closed_comes, told_comes, opened_comes}
 use Rattle.grasp_laws_delivery.proofs.OnePlace.{Placed, numbered_place}
 use Rattle.grasp_laws_delivery.proofs.Sane.{IsSane, sent_sane, numbered_sane}
 use Rattle.grasp_laws_delivery.proofs.SaneNetworks.{AreSane}
 use Rattle.grasp_laws_delivery.proofs.Sides.{IsDistinct, one_side, at_end_has, each_changed, place_changed}
+use Rattle.grasp_laws_delivery.proofs.Turned.{told_by}
 use Rattle.grasp_laws_delivery.specs.Records.{HasCome}
 use Rattle.grasp_laws_delivery.specs.Saying.{OfEachStream}
 
@@ -69,7 +71,8 @@ pub all_sent_heard : (s : Setting) (by : ℕ) (sending : Seat) (e : StreamEnd) (
     → IsHeard (fold (having_sent s by sending) w qs).streams e limit past
 all_sent_heard s by sending e limit past [] w sane h = h
 all_sent_heard s by sending e limit past (datagram link to m ∷ qs) w sane h =
-    all_sent_heard s by sending e limit past qs (having_sent s by sending w (datagram link to m)) (posted_each IsSane w m (route_of s by link to) sane) (posted_heard w m (route_of s by link to) e limit past h)
+    all_sent_heard s by sending e limit past qs (having_sent s by sending w (datagram link to m)) (posted_each IsSane w m (route_of s (member_of w by) link to) sane)
+    (posted_heard w m (route_of s (member_of w by) link to) e limit past h)
 all_sent_heard s by sending e limit past (dial stream to ∷ qs) w sane h =
     all_sent_heard s by sending e limit past qs (having_sent s by sending w (dial stream to))
     (each_changed IsSane IsSane w.streams (end_of by sending stream) (with_number (w.dials + 1)) (numbered_sane (end_of by sending stream) (w.dials + 1)) sane)
@@ -93,19 +96,27 @@ all_closed_heard by closing e limit past (stream ∷ streams) w h =
 pub record IsReachedSide (w : WorldState) (k : ℕ) (side : Side) (x : Reached) : Type 0 where
   pub found : stream_numbered w.streams k ≡ Some x.talk
   pub ends : end_at x.talk side ≡ Some x.at
+  pub alive : side_at x.talk side ≡ lives
+
+is_alive : (a : Arrival) → is_reached a ≡ true → a ≡ lives
+is_alive not_yet is = absurd (cc)
+is_alive lives is = refl
+is_alive turned_away is = absurd (cc)
+is_alive told_closed is = absurd (cc)
 
 pub reached_is : (w : WorldState) (k : ℕ) (side : Side) (x : Reached) → reached_side w k side ≡ Some x → IsReachedSide w k side x
 unfolding reached_side
 reached_is w k side x is = by_talk (stream_numbered w.streams k) refl is where
-  by_side : (t : StreamState) → stream_numbered w.streams k ≡ Some t → (b : Bool) (o : Option StreamEnd) → end_at t side ≡ o → reached_at t b o ≡ Some x → IsReachedSide w k side x
-  by_side t found true None at e = absurd (none-some x e)
-  by_side t found false None at e = absurd (none-some x e)
-  by_side t found false (Some end) at e = absurd (none-some x e)
-  by_side t found true (Some end) at e = subst (λ (y : Reached). IsReachedSide w k side y) (same_Some (record { talk = t; at = end }) x e) (record { found = found; ends = at })
+  by_side : (t : StreamState) → stream_numbered w.streams k ≡ Some t → (b : Bool) (o : Option StreamEnd) → is_reached (side_at t side) ≡ b → end_at t side ≡ o → reached_at t b o ≡ Some x → IsReachedSide w k side x
+  by_side t found true None there at e = absurd (none-some x e)
+  by_side t found false None there at e = absurd (none-some x e)
+  by_side t found false (Some end) there at e = absurd (none-some x e)
+  by_side t found true (Some end) there at e =
+      subst (λ (y : Reached). IsReachedSide w k side y) (same_Some (record { talk = t; at = end }) x e) (record { found = found; ends = at; alive = is_alive (side_at t side) there })
 
   by_talk : (o : Option StreamState) → stream_numbered w.streams k ≡ o → reached_in side o ≡ Some x → IsReachedSide w k side x
   by_talk None found e = absurd (none-some x e)
-  by_talk (Some t) found e = by_side t found (is_reached (side_at t side)) (end_at t side) refl e
+  by_talk (Some t) found e = by_side t found (is_reached (side_at t side)) (end_at t side) refl refl e
 
 -- two streams of the network with one end are the same
 abbrev pub AreOne : List StreamState → Type 0
@@ -155,13 +166,26 @@ piece_heard w k side x count limit past a one distinct reached h adds waits = fr
 
 -- ---- a cut
 
-pub told_heard : (w : WorldState) (x : Reached) (e : StreamEnd) (limit : ℕ) (past : Past) → e ≢ x.at → IsHeard w.streams e limit past → IsHeard (told w (Some x)).streams e limit past
-told_heard w x e limit past n h = heard_changed w.streams x.at (with_side told_closed) e limit past (λ place t side found at c. told_elsewhere x.at e t side past n at c) h
+pub told_heard : (w : WorldState) (x : Reached) (e : StreamEnd) (limit : ℕ) (past : Past) → IsHeard w.streams e limit past → IsHeard (told w (Some x)).streams e limit past
+told_heard w x e limit past h = heard_changed w.streams x.at (with_side told_closed) e limit past (λ place t side found at c. told_comes x.at e t side past at c) h
+
+-- ---- a restart
+
+pub restarted_heard : (s : Setting) (node life : ℕ) (ts : List StreamState) (e : StreamEnd) (limit : ℕ) (past : Past) → IsHeard ts e limit past → IsHeard (map (told_at s node life) ts) e limit past
+restarted_heard s node life ts e limit past h =
+    from (told_by (StillComes e h.side past) (λ u x k. closed_comes e u h.side x past k.ends k.come) s node life h.talk (record { ends = h.ends; come = h.come })) where
+      from : StillComes e h.side past (told_at s node life h.talk) → IsHeard (map (told_at s node life) ts) e limit past
+      from c = record {
+        place = h.place;
+        talk = told_at s node life h.talk;
+        side = h.side;
+        stands = slice_map (told_at s node life) ts h.place h.talk h.stands;
+        ends = c.ends;
+        come = c.come;
+        waits = h.waits;
+      }
 
 -- ---- an opening
-
-not_living : (a : Arrival) → is_waiting a ≡ true → a ≢ lives
-not_living a waits is = true≢false (sym waits ∙ ap is_waiting is)
 
 pub arrived_heard : (w : WorldState) (v : Visit) (number : ℕ) (r : Reply) (t : StreamState) (e : StreamEnd) (limit : ℕ) (past : Past) → Placed w.streams t → is_waiting t.far_side ≡ true → AreOne w.streams
     → IsHeard w.streams e limit past → IsHeard (arrived w v number r (Some t)).streams e limit past
@@ -173,7 +197,7 @@ arrived_heard w v number r t e limit past here waits one h = heard_changed w.str
   turn place u side found at c = at_end_has (StillComes e side past) t.near (with_far far (arrival_by r)) u (λ none. record { ends = at; come = c })
       (λ x x_at.
       opened_comes far e (arrival_by r) u side x past
-      (subst (λ (y : StreamState). ¬ (y.far_side ≡ lives)) (one t.near here.place place t u here.stands found Near x refl x_at) (not_living t.far_side waits)) at c)
+      (subst (λ (y : StreamState). is_waiting y.far_side ≡ true) (one t.near here.place place t u here.stands found Near x refl x_at) waits) at c)
 
 -- nothing came yet on a stream that is opened
 pub opened_heard : (w : WorldState) (v : Visit) (number : ℕ) (r : Reply) (t : StreamState) (limit : ℕ) → Placed w.streams t → is_waiting t.far_side ≡ true → IsSane t → r ≡ reply.Taken → Waits limit no_past
@@ -186,7 +210,7 @@ opened_heard w v number r t limit here waits sane taken w0 = from (at_end_has (S
   nothing = sym (ap (λ d. take d (encoded t.from_near.sent)) (sane.came (sane.waiting waits)))
 
   opened : (x : Side) → end_at t x ≡ Some t.near → StillComes far Far no_past (with_far far (arrival_by r) t x)
-  opened x at = record { ends = refl; come = record { fed = nothing; fault = refl; lives_on = ap arrival_by taken } }
+  opened x at = record { ends = refl; come = record { fed = nothing; fault = refl; there = ap (λ (q : Reply). is_waiting (arrival_by q)) taken } }
 
   from : StillComes far Far no_past (at_end t.near (with_far far (arrival_by r)) t) → IsHeard (arrived w v number r (Some t)).streams far limit no_past
   from c = record {

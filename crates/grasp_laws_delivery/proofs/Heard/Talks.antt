@@ -1,5 +1,6 @@
 -- What each change of the streams leaves of what came on an open one.
 use Rattle.std.proofs.Common.{◌≡◌, ◌≢◌, refl, sym, ap, ◌∙◌, subst, arith, ℕ, ◌+◌, ◌<◌, ◌≤◌, nat_le, true, false, ◌⊎◌, inl, inr, List, [], ◌∷◌, ◌++◌, length, take, drop, Some, slice_get}
+use Rattle.std.proofs.lemmas.Bool.{true≢false}
 use Rattle.std.proofs.lemmas.Bool.Decides.{leb_tells}
 use Rattle.std.proofs.lemmas.List.{take-append-le, take_all, length-take-le}
 use Rattle.std.proofs.Math.Seq.{take-length}
@@ -10,11 +11,11 @@ use Rattle.grasp_types.specs.declared.address.Locator.{Locator}
 use Rattle.grasp_types.specs.declared.message.Message.{Message}
 use Rattle.grasp_wire.specs.Cutter.{Past, Waits, no_past}
 use Rattle.grasp_wire.specs.Laws.{encoded}
-use Rattle.grasp_model_network.specs.Streams.{StreamEnd, StreamState, Arrival, Direction, lives, told_closed, fresh_stream, end_at, side_at, sent_by, next_bytes, with_direction, with_side, with_said, with_sent, with_ended, with_delivered, with_number, with_far, at_end, change_at_end}
+use Rattle.grasp_model_network.specs.Streams.{StreamEnd, StreamState, Arrival, Direction, told_closed, is_waiting, fresh_stream, end_at, side_at, sent_by, next_bytes, with_direction, with_side, with_said, with_sent, with_ended, with_delivered, with_number, with_far, at_end, change_at_end}
 use Rattle.grasp_laws_delivery.proofs.Fronts.{take_more}
 use Rattle.grasp_laws_delivery.proofs.Said.Talks.{said_ends, said_sends, direction_ends, direction_is, direction_beside}
 use Rattle.grasp_laws_delivery.proofs.Sane.{IsSane, encoded_append}
-use Rattle.grasp_laws_delivery.proofs.Sides.{IsDistinct, sides_tell, one_side, at_end_has, place_kept, place_changed}
+use Rattle.grasp_laws_delivery.proofs.Sides.{IsDistinct, sides_tell, one_side, at_end_has, place_kept, place_changed, closed_ends, closed_sends, closed_there}
 use Rattle.grasp_laws_delivery.specs.Records.{HasCome}
 
 -- a stream with this end, on which this came at the end's side, and is divided so
@@ -54,7 +55,7 @@ same_come : (t u : StreamState) (side : Side) (past : Past) → sent_by u (other
 same_come t u side past sent at c = record {
   fed = c.fed ∙ ap (λ (d : Direction). take d.delivered (encoded d.sent)) (sym sent);
   fault = c.fault;
-  lives_on = at ∙ c.lives_on;
+  there = ap is_waiting at ∙ c.there;
 }
 
 said_sides : (t : StreamState) (side by : Side) (m : Message) → side_at (with_said m t by) side ≡ side_at t side
@@ -70,11 +71,11 @@ said_comes by e m t side past at c = at_end_has (StillComes e side past) by (wit
 pub dialled_heard : (ts : List StreamState) (e : StreamEnd) (to : Locator) (limit place : ℕ) → slice_get (ts ++ fresh_stream e to ∷ []) place ≡ Some (fresh_stream e to) → Waits limit no_past
     → IsHeard (ts ++ fresh_stream e to ∷ []) e limit no_past
 dialled_heard ts e to limit place stands w =
-    record { place = place; talk = fresh_stream e to; side = Near; stands = stands; ends = refl; come = record { fed = refl; fault = refl; lives_on = refl }; waits = w }
+    record { place = place; talk = fresh_stream e to; side = Near; stands = stands; ends = refl; come = record { fed = refl; fault = refl; there = refl }; waits = w }
 
 -- ---- what a drain sends
 
-direction_sides : (t : StreamState) (side by : Side) (d : Direction) → side_at (with_direction t by d) side ≡ side_at t side
+pub direction_sides : (t : StreamState) (side by : Side) (d : Direction) → side_at (with_direction t by d) side ≡ side_at t side
 direction_sides t Near Near d = refl
 direction_sides t Near Far d = refl
 direction_sides t Far Near d = refl
@@ -93,7 +94,7 @@ direction_comes : (e : StreamEnd) (t : StreamState) (side by : Side) (d : Direct
     → take d.delivered (encoded d.sent) ≡ take (sent_by t by).delivered (encoded (sent_by t by).sent) → end_at t side ≡ Some e → HasCome t side past → StillComes e side past (with_direction t by d)
 direction_comes e t side by d past same first at c = record {
   ends = direction_ends t side by d ∙ at;
-  come = record { fed = c.fed ∙ by_side (sides_tell (other side) by); fault = c.fault; lives_on = direction_sides t side by d ∙ c.lives_on };
+  come = record { fed = c.fed ∙ by_side (sides_tell (other side) by); fault = c.fault; there = ap is_waiting (direction_sides t side by d) ∙ c.there };
 } where
   by_side : ((other side) ≡ by) ⊎ ((other side) ≢ by)
       → take (sent_by t (other side)).delivered (encoded (sent_by t (other side)).sent)
@@ -114,8 +115,8 @@ ended_comes by e t side past at c = at_end_has (StillComes e side past) by with_
     (λ x x_at. direction_comes e t side x (record (sent_by t x) { ended = true }) past refl refl at c)
 
 number_comes : (e : StreamEnd) (t : StreamState) (side : Side) (n : ℕ) (past : Past) → end_at t side ≡ Some e → HasCome t side past → StillComes e side past (record t { number = Some n })
-number_comes e t Near n past at c = record { ends = at; come = record { fed = c.fed; fault = c.fault; lives_on = c.lives_on } }
-number_comes e t Far n past at c = record { ends = at; come = record { fed = c.fed; fault = c.fault; lives_on = c.lives_on } }
+number_comes e t Near n past at c = record { ends = at; come = record { fed = c.fed; fault = c.fault; there = c.there } }
+number_comes e t Far n past at c = record { ends = at; come = record { fed = c.fed; fault = c.fault; there = c.there } }
 
 pub numbered_comes : (by e : StreamEnd) (n : ℕ) (t : StreamState) (side : Side) (past : Past) → end_at t side ≡ Some e → HasCome t side past → StillComes e side past (at_end by (with_number n) t)
 numbered_comes by e n t side past at c =
@@ -179,25 +180,24 @@ delivered_comes e count limit t side past a d at c adds =
         come = record {
           fed = fed ∙ ap (λ (f : Direction). take f.delivered (encoded f.sent)) (sym (direction_is t (other side) more));
           fault = c.fault;
-          lives_on = direction_sides t side (other side) more ∙ c.lives_on;
+          there = ap is_waiting (direction_sides t side (other side) more) ∙ c.there;
         };
       }
 
--- ---- a cut, and an opening
+-- ---- a cut, a restart and an opening
 
-told_comes : (e : StreamEnd) (t : StreamState) (side x : Side) (past : Past) → side ≢ x → end_at t side ≡ Some e → HasCome t side past → StillComes e side past (with_side told_closed t x)
-told_comes e t Near Near past n at c = absurd (n refl)
-told_comes e t Near Far past n at c = record { ends = at; come = record { fed = c.fed; fault = c.fault; lives_on = c.lives_on } }
-told_comes e t Far Near past n at c = record { ends = at; come = record { fed = c.fed; fault = c.fault; lives_on = c.lives_on } }
-told_comes e t Far Far past n at c = absurd (n refl)
+-- what came at a side stays so where a side is told that the stream is closed
+pub closed_comes : (e : StreamEnd) (t : StreamState) (side x : Side) (past : Past) → end_at t side ≡ Some e → HasCome t side past → StillComes e side past (with_side told_closed t x)
+closed_comes e t side x past at c = record {
+  ends = closed_ends t x side ∙ at;
+  come = record { fed = c.fed ∙ ap (λ (d : Direction). take d.delivered (encoded d.sent)) (sym (closed_sends t x (other side))); fault = c.fault; there = closed_there side t x c.there };
+}
 
-pub told_elsewhere : (by e : StreamEnd) (t : StreamState) (side : Side) (past : Past) → e ≢ by → end_at t side ≡ Some e → HasCome t side past → StillComes e side past (at_end by (with_side told_closed) t)
-told_elsewhere by e t side past n at c = at_end_has (StillComes e side past) by (with_side told_closed) t (λ none. as_it_is e side past t at c)
-    (λ x x_at. told_comes e t side x past (λ same. n (some_end e by (sym at ∙ (ap (end_at t) same ∙ x_at)))) at c) where
-      some_end : (a b : StreamEnd) → Some a ≡ Some b → a ≡ b
-      some_end a b f = cc
+pub told_comes : (by e : StreamEnd) (t : StreamState) (side : Side) (past : Past) → end_at t side ≡ Some e → HasCome t side past → StillComes e side past (at_end by (with_side told_closed) t)
+told_comes by e t side past at c =
+    at_end_has (StillComes e side past) by (with_side told_closed) t (λ none. as_it_is e side past t at c) (λ x x_at. closed_comes e t side x past at c)
 
--- a stream that is opened now has no far side that lives
-pub opened_comes : (far e : StreamEnd) (a : Arrival) (t : StreamState) (side x : Side) (past : Past) → ¬ (side_at t Far ≡ lives) → end_at t side ≡ Some e → HasCome t side past → StillComes e side past (with_far far a t x)
-opened_comes far e a t Near x past n at c = record { ends = at; come = record { fed = c.fed; fault = c.fault; lives_on = c.lives_on } }
-opened_comes far e a t Far x past n at c = absurd (n c.lives_on)
+-- a stream that is opened now has a far side that waits
+pub opened_comes : (far e : StreamEnd) (a : Arrival) (t : StreamState) (side x : Side) (past : Past) → is_waiting t.far_side ≡ true → end_at t side ≡ Some e → HasCome t side past → StillComes e side past (with_far far a t x)
+opened_comes far e a t Near x past waits at c = record { ends = at; come = record { fed = c.fed; fault = c.fault; there = c.there } }
+opened_comes far e a t Far x past waits at c = absurd (true≢false (sym waits ∙ c.there))

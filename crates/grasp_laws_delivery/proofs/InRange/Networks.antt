@@ -1,9 +1,11 @@
--- In every network that events lead to, each node keeps and queues nothing but messages in range.
-use Rattle.std.proofs.Common.{◌≡◌, refl, sym, subst, arith, ℕ, ◌-◌, ◌≤◌, ◌==◌, Bool, true, false, cond, ◌⊎◌, inl, inr, map, slice_get, Option, None, Some, All}
+-- In every network that turns lead to, each node keeps and queues nothing but messages in range.
+use Rattle.std.proofs.Common.{◌≡◌, refl, sym, subst, arith, ℕ, ◌-◌, ◌≤◌, ◌==◌, Bool, true, false, cond, ◌⊎◌, inl, inr, [], map, slice_get, Option, None, Some, All}
 use Rattle.std.specs.Prelude.{replicate}
 use Rattle.std.proofs.lemmas.List.Elements.{All-nil, All-replicate}
 use Rattle.std.proofs.lemmas.Option.{none-some}
 use Rattle.grasp_laws_agent.proofs.LawKept.{kept_reply}
+use Rattle.grasp_agent.proofs.Retiring.{retired_kept}
+use Rattle.grasp_agent.proofs.Returning.{kept_settling}
 use Rattle.grasp_agent.specs.Kept.{IsKept}
 use Rattle.grasp_agent.specs.Replies.{after_reply}
 use Rattle.grasp_agent.specs.States.{AgentState}
@@ -14,6 +16,11 @@ use Rattle.grasp_model_node.specs.Queue.{encoding}
 use Rattle.grasp_model_node.specs.Step.{Coming, NodeStep}
 use Rattle.grasp_model_node.specs.declared.plan.NodePlan.{NodePlan}
 use Rattle.grasp_pool.proofs.Opening.{opened_pool}
+use Rattle.grasp_pool.specs.Functions.{pool_of, pool_of_image}
+use Rattle.grasp_pool.specs.Holdings.{Holding}
+use Rattle.grasp_pool.specs.Pools.{IsPool}
+use Rattle.grasp_pool.specs.declared.image.PoolImage.{PoolImage}
+use Rattle.grasp_types.specs.Prefix.{AddressBlock as Prefix}
 use Rattle.grasp_types.specs.declared.reply.ApiAnswer.{ApiAnswer}
 use Rattle.grasp_types.specs.declared.reply.ApiAnswer.TheVariants as answer
 use Rattle.grasp_types.specs.declared.reply.Reply.{Reply}
@@ -23,24 +30,27 @@ use Rattle.grasp_types.specs.declared.traffic.Input.TheVariants as input
 use Rattle.grasp_laws_network.proofs.EachNode.{IsMade, is_made, drain_steps, reached_each}
 use Rattle.grasp_laws_network.proofs.Here.{visits_are_here}
 use Rattle.grasp_laws_network.proofs.Telling.{one_agent}
+use Rattle.grasp_laws_network.proofs.Restarted.{Restarting, restart_seats}
+use Rattle.grasp_laws_network.proofs.Settled.{Settling, settle_lives}
 use Rattle.grasp_laws_network.proofs.Openings.{worlds_begin}
 use Rattle.grasp_laws_node.proofs.PlansStay.{step_plan}
 use Rattle.grasp_model_network.proofs.Facts.{numbered_all}
 use Rattle.grasp_model_network.specs.EventSteps.{agent_visit, agent_seat, agent_input, datagram_visit}
 use Rattle.grasp_model_network.specs.Events.{IsFit, Occurs, visit_of, after_visit}
-use Rattle.grasp_model_network.specs.GoodSetting.{IsGoodMember}
+use Rattle.grasp_model_network.specs.GoodSetting.{IsGoodMember, IsGoodSetting}
 use Rattle.grasp_laws_network.specs.Laws.{IsAnswered, OpeningsAreSteps}
 use Rattle.grasp_model_network.specs.StreamChanges.{side_named}
-use Rattle.grasp_model_network.specs.Runs.{IsReached, fresh_seat, answered_seat, first_seat, first_world}
+use Rattle.grasp_model_network.specs.Runs.{IsReached, first_world}
+use Rattle.grasp_model_network.specs.Openings.{fresh_seat, answered_seat, first_seat, opened_seat}
 use Rattle.grasp_model_network.specs.Sending as network
 use Rattle.grasp_model_network.specs.Sending.{seat_with, drained_at}
 use Rattle.grasp_model_network.specs.Setting.{Member, Setting, numbered}
 use Rattle.grasp_model_network.specs.Visits.{Visit, Choice, VisitStep, MayCome, no_choice}
-use Rattle.grasp_model_network.specs.World.{Seat, SentDatagram, WorldState, seat_at}
+use Rattle.grasp_model_network.specs.World.{Seat, SentDatagram, WorldState, present_life, seat_at}
 use Rattle.grasp_model_network.specs.declared.event.Event.{Event}
 use Rattle.grasp_model_network.specs.declared.event.Event.TheVariants as event
 use Rattle.grasp_laws_delivery.proofs.AfterSteps.{seats_stepped, each_seat, each_drained, agent_keeps}
-use Rattle.grasp_laws_delivery.proofs.AgentCalls.{agent_call_is, told_kept, first_kept}
+use Rattle.grasp_laws_delivery.proofs.AgentCalls.{agent_call_is, told_kept, fresh_kept, image_pool}
 use Rattle.grasp_laws_delivery.proofs.Fine.Cache.{IsKept as IsKeptEntry}
 use Rattle.grasp_laws_delivery.proofs.Fine.Registry.{IsEntry}
 use Rattle.grasp_laws_delivery.proofs.Fine.Sessions.{IsFine}
@@ -66,8 +76,8 @@ plan_is limit m least good = record { address = good.address; locator = good.loc
 
 pub real_plan : (s : Setting) (w : WorldState) → IsReached s w → (node : ℕ) (seat : Seat) → seat_at w node ≡ Some seat → IsRealPlan seat.core.plan
 real_plan s w r = reached_each (λ k n. IsRealPlan n.plan) s w (λ k n after now i x q p step. subst IsRealPlan (sym (step_plan n after now i x q step)) p) first r where
-  first : (k : ℕ) (m : Member) → numbered s.members k ≡ Some m → IsRealPlan (first_node m.plan).plan
-  first k m is = plan_is r.good.limit m r.good.least_limit (numbered_all (IsGoodMember r.good.limit) s.members k m r.good.members is)
+  first : (life k : ℕ) (m : Member) → numbered s.members k ≡ Some m → IsRealPlan (first_node m.plan).plan
+  first life k m is = plan_is r.good.limit m r.good.least_limit (numbered_all (IsGoodMember r.good.limit) s.members k m r.good.members is)
 
 -- ---- what comes is in range
 
@@ -80,14 +90,14 @@ agent_good w node v (Some seat) here all is = as_input v node (agent_input seat.
 
 pub input_good : (s : Setting) (w : WorldState) (e : Event) (v : Visit) → AllReal w → IsFit s w e → visit_of s w e ≡ Some v → IsStep e → IsGoodInput v.input
 unfolding agent_visit datagram_visit
-input_good s w (event.Clock node millis) v all fit is step = as_input v node (input.Drain 0) (clock_visit_is node millis v (seat_at w node) is) tt
+input_good s w (event.Clock node millis) v all fit is step = as_input v (present_life w node) (input.Drain 0) (clock_visit_is (present_life w node) millis v (seat_at w (present_life w node)) is) tt
 input_good s w (event.Want node length longest peer) v all fit is step = absurd step
 input_good s w (event.Return node prefix peer) v all fit is step = absurd step
-input_good s w (event.Agent node hold) v all fit is step = agent_good w node v (seat_at w node) refl all is
-input_good s w (event.Api node asa call hold) v all fit is step = as_input v node (input.Api asa call) (at_visit w node (input.Api asa call) v is) fit.2
+input_good s w (event.Agent node hold) v all fit is step = agent_good w (present_life w node) v (seat_at w (present_life w node)) refl all is
+input_good s w (event.Api node asa call hold) v all fit is step = as_input v (present_life w node) (input.Api asa call) (at_visit w (present_life w node) (input.Api asa call) v is) fit.2
 input_good s w (event.Datagram index hold) v all fit is step = by_datagram (datagram_visit_is w v (numbered w.datagrams index) is) where
-  by_datagram : (d : SentDatagram) × IsVisit v d.route.receiver (input.Datagram d.route.link d.route.from (encoding d.message)) → IsGoodInput v.input
-  by_datagram x = as_input v x.0.route.receiver (input.Datagram x.0.route.link x.0.route.from (encoding x.0.message)) x.1 tt
+  by_datagram : (d : SentDatagram) × IsVisit v (present_life w d.route.receiver) (input.Datagram d.route.link d.route.from (encoding d.message)) → IsGoodInput v.input
+  by_datagram x = as_input v (present_life w x.0.route.receiver) (input.Datagram x.0.route.link x.0.route.from (encoding x.0.message)) x.1 tt
 input_good s w (event.Arrive stream hold) v all fit is step = subst IsGoodInput (sym (opening_is s w stream v is).is.input_is) tt
 input_good s w (event.Bytes stream far count hold) v all fit is step = subst IsGoodInput (sym (piece_is w stream (side_named far) count v is).is.input_is) tt
 input_good s w (event.Cut stream far hold) v all fit is step = subst IsGoodInput (sym (cut_is w stream (side_named far) v is).is.input_is) tt
@@ -139,13 +149,13 @@ drained_real s w node max (Some seat) r least here all =
 none_fine : (count : ℕ) → All IsFine (replicate count None)
 none_fine count = All-replicate IsFine count None tt
 
-fresh_real : (m : Member) → IsInRange m.plan (first_node m.plan)
-fresh_real m = record {
+fresh_real : (plan : NodePlan) → IsInRange plan (first_node plan)
+fresh_real plan = record {
   plan_is = refl;
   registrations = All-nil IsEntry;
   sessions = none_fine 64;
   cached = All-nil IsKeptEntry;
-  queue = All-nil (CanSend m.plan.limit);
+  queue = All-nil (CanSend plan.limit);
 }
 
 answered_real : (seat : Seat) (x : Coming) (a : ApiAnswer) → IsRealPlan seat.core.plan → IsRealSeat seat → IsAnswered seat x a → IsRealSeat (answered_seat seat a)
@@ -158,25 +168,27 @@ answered_real seat x a ok k step = record {
 answered_plan : (seat : Seat) (x : Coming) (a : ApiAnswer) → IsRealPlan seat.core.plan → IsAnswered seat x a → IsRealPlan (answered_seat seat a).core.plan
 answered_plan seat x a ok step = subst IsRealPlan (sym (step_plan seat.core (answered_seat seat a).core 0 (agent_input seat.agent) x (reply.Api a) step)) ok
 
-first_real : (limit : ℕ) (m : Member) → 2048 ≤ limit → IsGoodMember limit m → IsRealSeat (first_seat m)
-unfolding first_seat
-first_real limit m least good = opened (worlds_begin m no_choice.coming) where
+opened_real : (plan : NodePlan) (h : Holding) → IsRealPlan plan → IsPool h → h.reserved ≡ [] → IsRealSeat (opened_seat plan h)
+unfolding opened_seat
+opened_real plan h good pool none = opened (worlds_begin plan h no_choice.coming) where
   registered : Seat
-  registered = answered_seat (fresh_seat m) (answer.Asa 1)
+  registered = answered_seat (fresh_seat plan h) (answer.Asa 1)
 
   declared : Seat
   declared = answered_seat registered answer.Done
 
-  fresh : IsRealSeat (fresh_seat m)
-  fresh = record { real = fresh_real m; agent = first_kept m.roots (opened_pool m.roots good.pool) }
+  fresh : IsRealSeat (fresh_seat plan h)
+  fresh = record { real = fresh_real plan; agent = fresh_kept h pool none }
 
-  opened : OpeningsAreSteps m no_choice.coming → IsRealSeat (answered_seat declared answer.NotYet)
+  opened : OpeningsAreSteps plan h no_choice.coming → IsRealSeat (answered_seat declared answer.NotYet)
   opened o =
-      let a = plan_is limit m least good in
-      let b = answered_plan (fresh_seat m) no_choice.coming (answer.Asa 1) a o.registers in
+      let b = answered_plan (fresh_seat plan h) no_choice.coming (answer.Asa 1) good o.registers in
       let c = answered_plan registered no_choice.coming answer.Done b o.declares in
       answered_real declared no_choice.coming answer.NotYet c
-      (answered_real registered no_choice.coming answer.Done b (answered_real (fresh_seat m) no_choice.coming (answer.Asa 1) a fresh o.registers) o.declares) o.listens
+      (answered_real registered no_choice.coming answer.Done b (answered_real (fresh_seat plan h) no_choice.coming (answer.Asa 1) good fresh o.registers) o.declares) o.listens
+
+first_real : (limit : ℕ) (m : Member) → 2048 ≤ limit → IsGoodMember limit m → IsRealSeat (first_seat m)
+first_real limit m least good = opened_real m.plan (pool_of m.roots) (plan_is limit m least good) (opened_pool m.roots good.pool) refl
 
 first_all : (s : Setting) (limit : ℕ) → 2048 ≤ limit → All (IsGoodMember limit) s.members → AllReal (first_world s)
 unfolding first_world
@@ -188,18 +200,33 @@ first_all s limit least good node seat here = by_zero (node == 0) refl where
   by_zero true e = absurd (none-some seat (subst (λ z. cond z None (slice_get (map first_seat s.members) (node - 1)) ≡ Some seat) e here))
   by_zero false e = by_member e (is_made first_seat s.members (node - 1) seat (subst (λ z. cond z None (slice_get (map first_seat s.members) (node - 1)) ≡ Some seat) e here))
 
--- ---- every event
+-- ---- every turn
 
-real_parts : (s : Setting) → PartsKeep s AllReal
+-- an agent that settles what it has in doubt
+settled_real : (w x : WorldState) (node : ℕ) (p : Prefix) → Settling w node p x → AllReal w → AllReal x
+settled_real w x node p t all =
+    settle_lives (λ n seat. IsRealSeat seat) w node p x t (record { real = (all (present_life w node) t.seat t.here).real; agent = kept_settling t.seat.agent p t.doubtful (all (present_life w node) t.seat t.here).agent }) all
+
+restarted_real : (s : Setting) → IsGoodSetting s → (w x : WorldState) (node : ℕ) (image : PoolImage) → Restarting s w node image x → AllReal w → AllReal x
+restarted_real s good w x node image t all =
+    restart_seats (λ n seat. IsRealSeat seat) s w node image x t
+    (record { real = (all (present_life w node) t.seat t.here).real; agent = retired_kept t.seat.agent (all (present_life w node) t.seat t.here).agent })
+    (opened_real t.member.plan (pool_of_image image) (plan_is good.limit t.member good.least_limit (numbered_all (IsGoodMember good.limit) s.members node t.member good.members t.found))
+    (image_pool t.seat.agent image t.image_is) refl)
+    all
+
+real_parts : (s : Setting) → IsGoodSetting s → PartsKeep s AllReal
 unfolding network.drained
-real_parts s = record {
+real_parts s good = record {
   steps = λ w e c v r all o is step reached. real_stepped s w e c v r all o is step;
   told = λ w x e r t all. agent_keeps (λ ts node seat. IsRealSeat seat) w x (one_agent s w e x t) (λ k. record { real = k.real; agent = told_kept t.seat.agent t.telling.what t.possible k.agent }) all;
   drains = λ w node max r all least. drained_real s w node max (seat_at w node) r least refl all;
+  settles = λ w x node p r t all. settled_real w x node p t all;
+  restarts = λ w x node image r t all. restarted_real s good w x node image t all;
 }
 
 pub all_real : (s : Setting) (w : WorldState) → IsReached s w → AllReal w
-all_real s w r = parts_keep s AllReal (real_parts s) (first_all s r.good.limit r.good.least_limit r.good.members) w r
+all_real s w r = parts_keep s AllReal (real_parts s r.good) (first_all s r.good.limit r.good.least_limit r.good.members) w r
 
 -- what a step has queued can be sent
 pub step_queues : (s : Setting) (w : WorldState) (e : Event) (c : Choice) (v : Visit) → IsReached s w → Occurs s w e c → visit_of s w e ≡ Some v → IsStep e → IsInRange c.after.plan c.after

@@ -1,25 +1,30 @@
--- In every network that events lead to, what a side said is what it sent, and then what is queued at its node.
-use Rattle.std.proofs.Common.{◌≡◌, ◌≢◌, ◌≤◌, true, refl, sym, ap, ◌∙◌, subst, ℕ, List, [], ◌++◌, fold, take, drop, take-append-drop, slice_get, Option, None, Some}
+-- In every network that turns lead to, what a side said is what it sent, and then what is queued at its node.
+use Rattle.std.proofs.Common.{◌≡◌, ◌≢◌, ◌≤◌, true, refl, sym, ap, ◌∙◌, subst, arith, ℕ, ◌+◌, List, [], ◌++◌, fold, map, length, take, drop, take-append-drop, slice_get, Option, None, Some}
 use Rattle.std.proofs.lemmas.Option.{none-some, same_Some}
+use Rattle.grasp_agent.specs.Reopening.{retired}
 use Rattle.grasp_agent.specs.States.{AgentState}
 use Rattle.grasp_laws_node.proofs.Beginning.{beginnings_end}
 use Rattle.grasp_model_node.specs.Begin.{begin}
 use Rattle.grasp_model_node.specs.Draining.{closes, after_drain}
 use Rattle.grasp_model_node.specs.Node.{NodeState}
 use Rattle.grasp_model_node.specs.Queue.{Queued}
+use Rattle.grasp_pool.specs.declared.image.PoolImage.{PoolImage}
 use Rattle.grasp_session.specs.Messages.{Side, Near, Far}
 use Rattle.grasp_laws_network.proofs.EachNode.{IsMade, is_made}
 use Rattle.grasp_laws_network.proofs.Here.{visits_are_here}
 use Rattle.grasp_laws_network.proofs.Telling.{one_agent}
+use Rattle.grasp_laws_network.proofs.Restarted.{Restarting, restart_seats, retired_seat, begun_seat}
 use Rattle.grasp_laws_network.proofs.Queues.{queues_grow}
+use Rattle.grasp_laws_network.specs.Telling.{OneAgent}
 use Rattle.grasp_model_network.specs.StreamChanges.{arrival_by, arrived, reached_side, side_named}
 use Rattle.grasp_model_network.specs.Events.{Occurs, visit_of, after_visit}
+use Rattle.grasp_model_network.specs.Restarting.{told_at}
 use Rattle.grasp_model_network.specs.Runs.{IsReached, first_world}
 use Rattle.grasp_model_network.specs.Sending.{gained, having_made, streams_made, seat_with, having_sent, handed_over, drained, drained_at, drained_from}
 use Rattle.grasp_model_network.specs.Setting.{Setting}
 use Rattle.grasp_model_network.specs.Streams.{StreamEnd, StreamState, Arrival, is_waiting, end_at, sent_by, with_far, at_end, change_at_end, stream_numbered}
 use Rattle.grasp_model_network.specs.Visits.{Visit, Choice, VisitStep, MayCome}
-use Rattle.grasp_model_network.specs.World.{Seat, WorldState, seat_at, with_seat, end_of}
+use Rattle.grasp_model_network.specs.World.{Seat, WorldState, present_life, seat_at, with_seat, end_of}
 use Rattle.grasp_model_network.specs.declared.event.Event.{Event}
 use Rattle.grasp_model_network.specs.declared.event.Event.TheVariants as event
 use Rattle.grasp_laws_delivery.specs.Ready.{StreamsAreReady}
@@ -29,7 +34,7 @@ use Rattle.grasp_laws_delivery.proofs.Holding.{IsStep, PartsKeep, parts_keep}
 use Rattle.grasp_laws_delivery.proofs.Came.Inputs.{takes_nothing, IsOpening, opening_is}
 use Rattle.grasp_laws_delivery.proofs.FromReady as needs
 use Rattle.grasp_laws_delivery.proofs.OnePlace.{has_it, one_talk, Placed, numbered_place}
-use Rattle.grasp_laws_delivery.proofs.Said.Steps.{all_made, all_elsewhere, all_sent, all_sent_elsewhere, all_closed, delivered_all, told_all}
+use Rattle.grasp_laws_delivery.proofs.Said.Steps.{all_made, all_elsewhere, all_sent, all_sent_elsewhere, all_closed, delivered_all, told_all, restarted_all}
 use Rattle.grasp_laws_delivery.proofs.Said.Talks.{Speaks}
 use Rattle.grasp_laws_delivery.proofs.Sane.{IsSane}
 use Rattle.grasp_laws_delivery.proofs.SaneNetworks.{AreSane, sane}
@@ -172,14 +177,42 @@ module _ (ready : StreamsAreReady) where
   drain_speaks s w node max (Some seat) least here all =
       drained_speak s w node max seat (begin seat.core seat.core.reading) least here (beginnings_end seat.core seat.core.reading).0.queue all
 
-  -- ---- every event
+  -- ---- another agent, and a restart
+
+  one_speaks : (w x : WorldState) → OneAgent w x → AllSpeak w → AllSpeak x
+  one_speaks w x o all = agent_keeps Speak w x o (λ each. seat_speaks o.node o.seat o.seat.core o.agent o.seat.core.queue w.streams each) all
+
+  -- no stream has an end at a life that begins
+  begun_speaks : (s : Setting) (w : WorldState) (seat : Seat) → IsReached s w → Speak w.streams (length w.seats + 1) seat
+  begun_speaks s w seat r place t found = record {
+    distinct = needs.distinct ready s w r place t found;
+    said = λ side stream at. absurd (needs.none_beyond ready s w r (length w.seats + 1) seat stream (omega arith) place t found side at);
+  }
+
+  restart_speaks : (s : Setting) (w x : WorldState) (node : ℕ) (image : PoolImage) → IsReached s w → Restarting s w node image x → AllSpeak w → AllSpeak x
+  restart_speaks s w x node image r t all =
+      subst (λ (ts : List StreamState). (n : ℕ) (other : Seat) → seat_at x n ≡ Some other → Speak ts n other) (sym t.streams)
+      (restart_seats (λ n other. Speak (map (told_at s node life) w.streams) n other) s w node image x t
+      (restarted_all s node life life (retired_seat t.seat) t.seat.core.queue w.streams (seat_speaks life t.seat t.seat.core (retired t.seat.agent) t.seat.core.queue w.streams (all life t.seat t.here)))
+      (restarted_all s node life (length w.seats + 1) begun begun.core.queue w.streams (begun_speaks s w begun r))
+      (λ n other there. restarted_all s node life n other other.core.queue w.streams (all n other there)))
+    where
+      life : ℕ
+      life = present_life w node
+
+      begun : Seat
+      begun = begun_seat t.member image
+
+  -- ---- every turn
 
   parts_speak : (s : Setting) → PartsKeep s AllSpeak
   unfolding drained
   parts_speak s = record {
     steps = λ w e c v r all o is step reached. step_speaks s w e c v r all o is step reached;
-    told = λ w x e r t all. let o = one_agent s w e x t in agent_keeps Speak w x o (λ each. seat_speaks o.node o.seat o.seat.core o.agent o.seat.core.queue w.streams each) all;
+    told = λ w x e r t all. one_speaks w x (one_agent s w e x t) all;
     drains = λ w node max r all least. drain_speaks s w node max (seat_at w node) least refl all;
+    settles = λ w x node p r t all. one_speaks w x t.one all;
+    restarts = λ w x node image r t all. restart_speaks s w x node image r t all;
   }
 
   pub all_speak : (s : Setting) (w : WorldState) → IsReached s w → AllSpeak w

@@ -1,17 +1,20 @@
 -- What each step and each drain leaves of this: what a side said is what it sent, and then what is queued at its node.
-use Rattle.std.proofs.Common.{◌≡◌, ◌≢◌, refl, sym, ap, ◌∙◌, subst, ℕ, ◌+◌, true, length, List, [], ◌∷◌, ◌++◌, append_assoc, append-nil, fold, Option, None, Some}
+use Rattle.std.proofs.Common.{◌≡◌, ◌≢◌, refl, sym, ap, ◌∙◌, subst, ℕ, ◌+◌, true, length, List, [], ◌∷◌, ◌++◌, append_assoc, append-nil, fold, map, reverse, Option, None, Some}
 use Rattle.grasp_model_node.specs.Queue.{Queued, datagram, dial, send}
+use Rattle.grasp_session.specs.Conversation.{Said, spoken}
 use Rattle.grasp_session.specs.Messages.{Side, Near, Far, other}
 use Rattle.grasp_model_network.specs.StreamChanges.{Reached, delivered, told}
+use Rattle.grasp_model_network.specs.Restarting.{told_at}
 use Rattle.grasp_model_network.specs.Routes.{route_of}
 use Rattle.grasp_model_network.specs.Sending.{having_made, having_sent, having_closed}
 use Rattle.grasp_model_network.specs.Setting.{Setting}
-use Rattle.grasp_model_network.specs.Streams.{StreamEnd, StreamState, told_closed, fresh_stream, end_at, sent_by, next_bytes, with_said, with_sent, with_ended, with_number, with_delivered, with_side, at_end}
-use Rattle.grasp_model_network.specs.World.{Seat, WorldState, end_of}
+use Rattle.grasp_model_network.specs.Streams.{StreamEnd, StreamState, Direction, told_closed, fresh_stream, end_at, sent_by, next_bytes, with_said, with_sent, with_ended, with_number, with_delivered, with_side, at_end}
+use Rattle.grasp_model_network.specs.World.{Seat, WorldState, end_of, member_of}
 use Rattle.grasp_laws_delivery.proofs.AfterSteps.{posted_each}
 use Rattle.grasp_laws_delivery.proofs.Fresh.{IsFresh, DialsAreFresh}
 use Rattle.grasp_laws_delivery.proofs.Said.Talks.{Speaks, nothing_more, message_said, dialled_speaks, dialled_elsewhere, said_elsewhere, message_sent, sent_elsewhere, direction_speaks, speaks_same}
-use Rattle.grasp_laws_delivery.proofs.Sides.{at_end_has, each_changed, each_push}
+use Rattle.grasp_laws_delivery.proofs.Sides.{at_end_has, each_mapped, each_changed, each_push, closed_ends, closed_sends, closed_says, closed_near}
+use Rattle.grasp_laws_delivery.proofs.Turned.{told_by}
 use Rattle.grasp_laws_delivery.specs.Saying.{OfEachStream, queued_for, said_by}
 
 -- ---- what a step makes, at its own node
@@ -74,7 +77,7 @@ pub all_sent : (s : Setting) (node : ℕ) (seat : Seat) (qs rest : List Queued) 
 all_sent s node seat [] rest w each = each
 all_sent s node seat (datagram link to m ∷ qs) rest w each =
     all_sent s node seat qs rest (having_sent s node seat w (datagram link to m))
-    (posted_each (Speaks node seat (qs ++ rest)) w m (route_of s node link to) (λ place t found. not_queued node seat (datagram link to m) (qs ++ rest) t (λ stream. refl) (each place t found)))
+    (posted_each (Speaks node seat (qs ++ rest)) w m (route_of s (member_of w node) link to) (λ place t found. not_queued node seat (datagram link to m) (qs ++ rest) t (λ stream. refl) (each place t found)))
 all_sent s node seat (dial stream to ∷ qs) rest w each =
     all_sent s node seat qs rest (having_sent s node seat w (dial stream to))
     (each_changed (Speaks node seat (dial stream to ∷ (qs ++ rest))) (Speaks node seat (qs ++ rest)) w.streams (end_of node seat stream) (with_number (w.dials + 1))
@@ -88,7 +91,7 @@ all_sent s node seat (send stream m ∷ qs) rest w each =
 
 one_sent_elsewhere : (s : Setting) (node by : ℕ) (seat sending : Seat) (queue : List Queued) (q : Queued) (w : WorldState) → node ≢ by → OfEachStream (Speaks node seat queue) w.streams
     → OfEachStream (Speaks node seat queue) (having_sent s by sending w q).streams
-one_sent_elsewhere s node by seat sending queue (datagram link to m) w n each = posted_each (Speaks node seat queue) w m (route_of s by link to) each
+one_sent_elsewhere s node by seat sending queue (datagram link to m) w n each = posted_each (Speaks node seat queue) w m (route_of s (member_of w by) link to) each
 one_sent_elsewhere s node by seat sending queue (dial stream to) w n each =
     each_changed (Speaks node seat queue) (Speaks node seat queue) w.streams (end_of by sending stream) (with_number (w.dials + 1))
     (λ t k. numbered_speaks node seat queue (end_of by sending stream) (w.dials + 1) t k) each
@@ -119,19 +122,13 @@ delivered_speaks node seat queue e count t k = at_end_has (Speaks node seat queu
     (λ side at.
     direction_speaks node seat queue t (other side) (record (sent_by t (other side)) { delivered = (sent_by t (other side)).delivered + length (next_bytes t (other side) count) }) refl k)
 
+closed_speaks : (node : ℕ) (seat : Seat) (queue : List Queued) (t : StreamState) (by : Side) → Speaks node seat queue t → Speaks node seat queue (with_side told_closed t by)
+closed_speaks node seat queue t by k =
+    speaks_same node seat queue t (with_side told_closed t by) (closed_near t by) (closed_ends t by) (λ side. ap (λ (said : List Said). reverse (spoken side said)) (closed_says t by))
+    (λ side. ap (λ (d : Direction). d.sent) (closed_sends t by side)) k
+
 told_speaks : (node : ℕ) (seat : Seat) (queue : List Queued) (e : StreamEnd) (t : StreamState) → Speaks node seat queue t → Speaks node seat queue (at_end e (with_side told_closed) t)
-told_speaks node seat queue e t k = at_end_has (Speaks node seat queue) e (with_side told_closed) t (λ none. k) some where
-  some : (side : Side) → end_at t side ≡ Some e → Speaks node seat queue (with_side told_closed t side)
-  some Near at = record { distinct = k.distinct; said = by_side } where
-    by_side : (x : Side) (stream : ℕ) → end_at (with_side told_closed t Near) x ≡ Some (end_of node seat stream)
-        → said_by (with_side told_closed t Near) x ≡ (sent_by (with_side told_closed t Near) x).sent ++ queued_for stream queue
-    by_side Near stream f = k.said Near stream f
-    by_side Far stream f = k.said Far stream f
-  some Far at = record { distinct = k.distinct; said = by_side } where
-    by_side : (x : Side) (stream : ℕ) → end_at (with_side told_closed t Far) x ≡ Some (end_of node seat stream)
-        → said_by (with_side told_closed t Far) x ≡ (sent_by (with_side told_closed t Far) x).sent ++ queued_for stream queue
-    by_side Near stream f = k.said Near stream f
-    by_side Far stream f = k.said Far stream f
+told_speaks node seat queue e t k = at_end_has (Speaks node seat queue) e (with_side told_closed) t (λ none. k) (λ side at. closed_speaks node seat queue t side k)
 
 pub delivered_all : (node : ℕ) (seat : Seat) (queue : List Queued) (w : WorldState) (count : ℕ) (o : Option Reached) → OfEachStream (Speaks node seat queue) w.streams
     → OfEachStream (Speaks node seat queue) (delivered w count o).streams
@@ -142,3 +139,10 @@ delivered_all node seat queue w count (Some x) each =
 pub told_all : (node : ℕ) (seat : Seat) (queue : List Queued) (w : WorldState) (o : Option Reached) → OfEachStream (Speaks node seat queue) w.streams → OfEachStream (Speaks node seat queue) (told w o).streams
 told_all node seat queue w None each = each
 told_all node seat queue w (Some x) each = each_changed (Speaks node seat queue) (Speaks node seat queue) w.streams x.at (with_side told_closed) (told_speaks node seat queue x.at) each
+
+-- ---- a restart
+
+pub restarted_all : (s : Setting) (member life node : ℕ) (seat : Seat) (queue : List Queued) (ts : List StreamState) → OfEachStream (Speaks node seat queue) ts
+    → OfEachStream (Speaks node seat queue) (map (told_at s member life) ts)
+restarted_all s member life node seat queue ts each =
+    each_mapped (Speaks node seat queue) (Speaks node seat queue) (told_at s member life) ts (told_by (Speaks node seat queue) (closed_speaks node seat queue) s member life) each

@@ -1,5 +1,5 @@
 use Rattle.std.proofs.Common.{map}
-use Rattle.grasp_model_network.specs.Runs.{first_seat}
+use Rattle.grasp_model_network.specs.Openings.{first_seat}
 use Rattle.grasp_simulator.specs.Seats.{SeatsStand}
 use Rattle.grasp_model_network.specs.Setting.{numbers_from, script_member}
 use Rattle.grasp_simulator.proofs.opening.open_seats.Given as goal

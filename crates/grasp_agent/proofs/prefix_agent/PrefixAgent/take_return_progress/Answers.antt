@@ -1,7 +1,7 @@
-use Rattle.std.proofs.Common.{rules, ◌≡◌, ◌∙◌, true, Some, None, sym, ap, subst}
+use Rattle.std.proofs.Common.{rules, ◌≡◌, ◌∙◌, Some, None, sym, ap, subst}
 use Rattle.grasp_pool.specs.Holdings.{Holding}
 use Rattle.grasp_agent.specs.Kept.{IsKept, returned}
-use Rattle.grasp_agent.specs.States.{AgentState, is_open}
+use Rattle.grasp_agent.specs.States.{AgentState}
 use Rattle.grasp_agent.specs.Stored.{state_of}
 use Rattle.grasp_agent.proofs.Returning.{returned_reserved, kept_heard}
 use Rattle.grasp_agent.proofs.prefix_agent.PrefixAgent.take_return_progress.Goals as goal
@@ -17,10 +17,9 @@ invariant_of-self c =
     let s : AgentState = state_of c.self.inside
     in let is : returned s.back ≡ Some c.in-Some.prefix = search rules
     in let none : s.act ≡ None = ap (λ (x : AgentState). x.act) c.self.view_is ∙ c.requires.none
-    in let serves : is_open s.stage ≡ true = ap (λ (x : AgentState). is_open x.stage) c.self.view_is ∙ c.requires.serves
     in record {
       kept = subst (λ (h : Holding). IsKept (record s { pool = h; back = None })) (sym c.settle_offer.ensures)
-          (kept_heard s c.in-Some.prefix is c.self.invariant.kept c.in-Ended.outcome none serves);
+          (kept_heard s c.in-Some.prefix is c.self.invariant.kept c.in-Ended.outcome none);
       giving = c.self.invariant.giving;
       cursor = c.self.invariant.cursor;
     }

@@ -2,4 +2,4 @@ use Rattle.grasp_simulator.proofs.WorldSeats.{seat_stands}
 use Rattle.grasp_simulator.proofs.world.World.node.Goals as goal
 
 pub returns : goal.returns
-returns c = λ s w seat h. (seat_stands c.args.self.now c.args.node s w seat c.seat.result.now c.seat.ensures h).core
+returns c = λ s w seat h. (seat_stands c.args.self.now c.args.node s w seat c.seat.result.now c.requires c.seat.ensures h).core

@@ -1,7 +1,9 @@
 use Rattle.std.proofs.Common.{rules, refl}
+use Rattle.std.proofs.lemmas.List.Elements.{All-nil}
 use Rattle.grasp_model_network.specs.Runs.{first_world}
 use Rattle.grasp_model_network.specs.Setting.{script_setting}
-use Rattle.grasp_simulator.proofs.FirstWorlds.{first_lives, first_count, first_reached}
+use Rattle.grasp_simulator.proofs.FirstWorlds.{first_lives, first_members, first_count, first_reached}
+use Rattle.grasp_simulator.specs.WorldStands.{GoesToNode}
 use Rattle.grasp_simulator.proofs.world.World.open.Goals as goal
 
 pub returns : goal.returns
@@ -15,8 +17,10 @@ returns c = record {
       setting = refl;
       seats = c.in_ok-seats.ensures;
       lives = first_lives (script_setting c.args.plan).members;
+      members = first_members (script_setting c.args.plan).members;
       streams = search rules;
       parcels = search rules;
+      receivers = All-nil (GoesToNode c.args.plan.nodes);
       places = search rules;
       given = search rules;
       sent = refl;
