@@ -55,6 +55,13 @@ after_beacon b r = by_step b.step where
   by_step Flooding = if is_done (answer_in r) then record b { step = Repeating } else b
   by_step Repeating = b
 
+-- one that has flooded its value floods it again
+unfoldable pub flooding_again : BeaconState → BeaconState
+flooding_again b = by_step b.step where
+  by_step : Step → BeaconState
+  by_step Repeating = record b { step = Flooding }
+  by_step _ = b
+
 -- ---- readers
 
 -- the number of its name, the objective that it reads, its number at its node (0 before it is registered), whether it is registered,

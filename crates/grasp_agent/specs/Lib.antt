@@ -1,5 +1,6 @@
 pub mod Announcing
 pub mod Calls
+pub mod Changes
 pub mod Deciding
 pub mod Decisions
 pub mod Kept

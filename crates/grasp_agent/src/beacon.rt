@@ -1,7 +1,7 @@
 //! An agent that offers and floods a value.
 
 ghost use Rattle.std.specs.Prelude.{◌≡◌, IfOk};
-ghost use Rattle.grasp_agent.specs.Announcing.{first_beacon, beacon_call, after_beacon};
+ghost use Rattle.grasp_agent.specs.Announcing.{first_beacon, beacon_call, after_beacon, flooding_again};
 ghost use Rattle.grasp_types.specs.declared.call.Call.TheVariants as call;
 
 use crate::agent::Agent;
@@ -27,7 +27,7 @@ pub(crate) enum Step {
     Repeating,
 }
 
-/// An agent that offers a value for synchronization and floods it once (RFC 8990, section 2.5.6).
+/// An agent that offers a value for synchronization and floods it once, and again where it is told to (RFC 8990, section 2.5.6).
 #[derive(Drop)]
 pub struct Beacon {
     alloc: Global,
@@ -67,6 +67,16 @@ impl Beacon {
             loops,
             asa: 0,
             step: Step::Registering,
+        }
+    }
+
+    /// Its next call floods the value again, where it has flooded it before; else it stays as it is.
+    #[tactic(auto, unfolding(crate::specs::Announcing::flooding_again))]
+    pub fn again(&mut self)
+        ensures { self.new ≡ flooding_again self.old }
+    {
+        if self.step == Step::Repeating {
+            self.step = Step::Flooding;
         }
     }
 

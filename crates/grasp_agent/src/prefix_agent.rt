@@ -5,6 +5,7 @@ ghost use Rattle.grasp_pool.specs.Answers.{IsOpened, IsReopened, IsRootFault, Is
 ghost use Rattle.grasp_pool.specs.Functions.{pool_of, pool_of_image};
 ghost use Rattle.grasp_pool.specs.declared.fault.PoolFault.TheVariants as pool_fault;
 ghost use Rattle.grasp_agent.specs.Calls.{next_call, opening_call, asking_call, returning_call};
+ghost use Rattle.grasp_agent.specs.Changes.{change_of, duty_change};
 ghost use Rattle.grasp_agent.specs.Decisions.{giver_decision, after_deciding};
 ghost use Rattle.grasp_agent.specs.Kept.{IsKept, returned};
 ghost use Rattle.grasp_agent.specs.Replies.{want_reply, after_want, return_reply, after_return, after_settling, after_reply, after_opening, after_incoming, after_act, after_dropping, after_doing, after_asking, after_returning, after_unsent, after_duty, after_want_progress, after_back_progress, after_give_progress, after_giver_turn, after_giver_end, finished, giving_back, settled, settling, advanced, incoming_in, answer_in};
@@ -13,6 +14,7 @@ ghost use Rattle.grasp_agent.specs.States.{first_agent, is_open, accepted_by, of
 use crate::act::{Act, accepted_by, offered_by};
 use crate::agent::Agent;
 use crate::back::{Return, ReturnFault, back_of, is_returning, unsent_of};
+use crate::change::{PoolChange, act_change, give_change, heard_change, returning_change};
 use crate::decision::GiverDecision;
 use crate::duty::{Duty, objective_name};
 use crate::giver::give;
@@ -221,6 +223,61 @@ impl PrefixAgent {
         self.last
     }
 
+    /// How many duties there are, 1 to 67: to listen, the session of its want, that of its return, and those in which it gives.
+    ///
+    /// So many calls in a row come to each of them once.
+    pub fn circle(&self) -> u64
+        ensures { result ≡ duties self.now }
+    {
+        let mut count = 1 + self.giving.len() as u64;
+        if session_of(&self.want).is_some() {
+            count += 1;
+        }
+        if back_of(&self.back).is_some() {
+            count += 1;
+        }
+        count
+    }
+
+    /// What the reply to the call that was next will change in the pool.
+    ///
+    /// What is offered anew after `Decided` is told by `offering`, once the reply is taken.
+    #[tactic(auto, unfolding(crate::specs::Changes::change_of))]
+    pub fn effect(&self, reply: &Reply) -> PoolChange
+        ensures { result ≡ change_of self.now reply.now }
+    {
+        if is_again(reply) || !self.stage.is_open() {
+            return PoolChange::Stays;
+        }
+        if let Some(act) = self.act {
+            return act_change(act, reply);
+        }
+        if is_asking(&self.want) {
+            return PoolChange::Stays;
+        }
+        if is_returning(&self.back) {
+            return returning_change(self.returned(), reply);
+        }
+        self.duty_change(self.duty(), reply)
+    }
+
+    /// What the reply to a duty changes in the pool.
+    fn duty_change(&self, duty: Duty, reply: &Reply) -> PoolChange
+        ensures { result ≡ duty_change self.now duty reply.now }
+    {
+        let Some(progress) = progress(reply) else {
+            return PoolChange::Stays;
+        };
+        match duty {
+            Duty::Listen | Duty::Want(_) => PoolChange::Stays,
+            Duty::Return(_) => heard_change(self.returned(), progress),
+            Duty::Give { place, handle: _ } => match self.giving.get(place as usize) {
+                Some(giving) => give_change(*giving, progress),
+                None => PoolChange::Stays,
+            },
+        }
+    }
+
     /// The opening call that is next.
     #[tactic(auto, unfolding(crate::specs::Calls::agent_name))]
     fn opening_call(&self) -> Result<Call, OutOfMemory>
@@ -307,20 +364,6 @@ impl PrefixAgent {
             },
             None => Duty::Listen,
         }
-    }
-
-    /// How many duties there are.
-    fn duties(&self) -> u64
-        ensures { result ≡ duties self.now }
-    {
-        let mut count = 1 + self.giving.len() as u64;
-        if session_of(&self.want).is_some() {
-            count += 1;
-        }
-        if back_of(&self.back).is_some() {
-            count += 1;
-        }
-        count
     }
 
     /// Takes the reply to the call that was next.
@@ -602,7 +645,7 @@ impl PrefixAgent {
     fn advance(&mut self)
         ensures { self.new ≡ advanced self.old }
     {
-        self.cursor = if self.cursor + 1 < self.duties() {
+        self.cursor = if self.cursor + 1 < self.circle() {
             self.cursor + 1
         } else {
             0

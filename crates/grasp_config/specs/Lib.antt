@@ -7,3 +7,4 @@ pub mod Faults
 pub mod Answered
 pub mod Groups
 pub mod Laws
+pub mod Levels

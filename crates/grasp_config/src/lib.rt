@@ -8,6 +8,7 @@ mod config;
 mod fault;
 mod items;
 mod laws;
+mod level;
 mod lists;
 mod read;
 mod table;
@@ -19,4 +20,5 @@ pub use laws::{
     configs_are_in_range, configs_have_no_bad_key, endpoints_and_roots_are_read,
     texts_are_configs_or_bad, texts_have_one_bad_key, texts_have_one_config,
 };
+pub use level::LogLevel;
 pub use read::read_config;

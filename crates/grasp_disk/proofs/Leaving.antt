@@ -12,7 +12,7 @@ none_in r has = search rules
 only_in : (x r : Range) → Contains (x ∷ []) r → r ≡ x
 only_in x r has = search rules
 
-first_in : (r : Range) (rs : List Range) → Contains (r ∷ rs) r
+pub first_in : (r : Range) (rs : List Range) → Contains (r ∷ rs) r
 first_in r rs = search rules
 
 -- where all is synced a crash leaves what a read gives

@@ -1,12 +1,13 @@
 -- What a crash leaves of a disk in memory may be left.
-use Rattle.std.proofs.Common.{◌≡◌, ℕ, ◌+◌, ◌-◌, ◌/◌, ◌≤◌, true, false, List, [], ◌∷◌, length, Option, None, Some, refl, sym, ◌∙◌, ap, subst, arith}
+use Rattle.std.proofs.Common.{◌≡◌, ℕ, ◌+◌, ◌-◌, ◌/◌, ◌≤◌, true, false, List, [], ◌∷◌, length, Option, None, Some, refl, sym, ◌∙◌, ap, subst, arith, rules}
 use Rattle.std.proofs.lemmas.List.{length-take}
-use Rattle.grasp_disk.specs.Calls.{DiskCall, DiskLog, DiskState, Range, read, wrote, synced, after_calls, disk_size, state_of, bytes_of}
+use Rattle.grasp_disk.specs.Calls.{DiskCall, DiskLog, DiskState, Range, read, wrote, synced, after_calls, disk_size, overlaid, piece, state_of, bytes_of}
+use Rattle.grasp_disk.specs.Laws.{FailedCallsLeaveNothing}
 use Rattle.grasp_disk.specs.Crashes.{MayBecome, IsSettled}
-use Rattle.grasp_disk.specs.Memory.{MemDiskState, MemStands, AllFit, all_kept, begun_anew, rest_of, written_by, synced_by, torn_by, left_by, first_half}
+use Rattle.grasp_disk.specs.Memory.{MemDiskState, MemStands, AllFit, FailuresWriteNothing, succeeded, all_kept, begun_anew, rest_of, written_by, synced_by, torn_by, left_by, first_half}
 use Rattle.grasp_disk.specs.declared.left.Left.{Left}
 use Rattle.grasp_disk.specs.declared.left.Left.TheVariants.{Old, New, Torn}
-use Rattle.grasp_disk.proofs.Bytes.{length-overlaid}
+use Rattle.grasp_disk.proofs.Bytes.{length-overlaid, overlaid_same}
 use Rattle.grasp_disk.proofs.Leaving.{settled_leaves, same_may, may_stay, any_may}
 
 module _ (start : List ℕ) where
@@ -76,6 +77,7 @@ module _ (m : MemDiskState) (log : DiskLog) (stands : MemStands m log) where
       bytes = stands.bytes ∙ left_settled New;
       kept = stands.kept ∙ left_settled Old;
       torn = stands.torn ∙ left_settled Torn;
+      nothing = tt;
       stops = tt;
       left = stands.left ∙ of_none log.stops;
     }
@@ -86,3 +88,41 @@ module _ (m : MemDiskState) (log : DiskLog) (stands : MemStands m log) where
           where
             less_none : (k : ℕ) → k ≡ k - 0
             less_none k = omega arith
+
+-- ---- a call that failed
+
+-- what is left after it is what is left before it
+module _ (start : List ℕ) (earlier : List DiskCall) (fit : AllFit (length start) earlier) where
+  same_written : (at : ℕ) (new : List ℕ) → at + length new ≤ length start → new ≡ piece (written_by start earlier) at (length new) → overlaid (written_by start earlier) at new ≡ written_by start earlier
+  same_written at new fits is =
+      ap (overlaid (written_by start earlier) at) is ∙ overlaid_same (written_by start earlier) at (length new) (omega (arith, fits, length-written start earlier fit))
+
+  left_same : (left : Left) (call : DiskCall) → AllFit (length start) (call ∷ earlier) → FailuresWriteNothing start (call ∷ earlier) → succeeded call ≡ false
+      → left_by left start (call ∷ earlier) ≡ left_by left start earlier
+  left_same Old (read ok) fits nothing failed = refl
+  left_same New (read ok) fits nothing failed = refl
+  left_same Torn (read ok) fits nothing failed = refl
+  left_same Old (wrote at new ok) fits nothing failed = refl
+  left_same New (wrote at new false) fits nothing failed = same_written at new fits.0 nothing.0
+  left_same Torn (wrote at new false) fits nothing failed = refl
+  left_same Old (synced false) fits nothing failed = refl
+  left_same New (synced false) fits nothing failed = refl
+  left_same Torn (synced false) fits nothing failed = refl
+  left_same New (wrote at new true) fits nothing failed = search rules
+  left_same Torn (wrote at new true) fits nothing failed = search rules
+  left_same Old (synced true) fits nothing failed = search rules
+  left_same New (synced true) fits nothing failed = search rules
+  left_same Torn (synced true) fits nothing failed = search rules
+
+pub failed_calls_leave_nothing : FailedCallsLeaveNothing
+failed_calls_leave_nothing m log call earlier left stands is failed =
+    ap (left_by left log.start.bytes) is ∙ left_same log.start.bytes earlier (behind call (fit_here)) left call fit_here
+    (subst (FailuresWriteNothing log.start.bytes) is stands.nothing) failed
+  where
+    fit_here : AllFit (length log.start.bytes) (call ∷ earlier)
+    fit_here = subst (AllFit (length log.start.bytes)) is (fit_start m log stands)
+
+    behind : (c : DiskCall) → AllFit (length log.start.bytes) (c ∷ earlier) → AllFit (length log.start.bytes) earlier
+    behind (read ok) fits = fits
+    behind (wrote at new ok) fits = fits.1
+    behind (synced ok) fits = fits

@@ -48,6 +48,7 @@ stopped m log calls stands all = record {
   bytes = stands.bytes;
   kept = stands.kept;
   torn = stands.torn;
+  nothing = stands.nothing;
   stops = all_go (length log.calls + calls) log.calls (omega arith) all;
   left = ap Some (behind (length log.calls) calls);
 }

@@ -1,8 +1,8 @@
 -- What is so of disks and of what a crash leaves.
-use Rattle.std.specs.Prelude.{◌≡◌, ◌↔◌, ℕ, ◌+◌, ◌≤◌, Bool, true, IsTrue, List, ◌++◌, length}
+use Rattle.std.specs.Prelude.{◌≡◌, ◌↔◌, ℕ, ◌+◌, ◌≤◌, Bool, true, false, IsTrue, List, ◌∷◌, ◌++◌, length}
 use Rattle.grasp_disk.specs.Calls.{DiskCall, DiskLog, DiskState, wrote, synced, after_call, after_calls, overlaid, piece, state_of}
 use Rattle.grasp_disk.specs.Crashes.{MayBecome, Leaves, AtEachMoment, IsSettled, DifferIn}
-use Rattle.grasp_disk.specs.Memory.{MemDiskState, MemStands, AllFit, all_kept, left_by, begun_anew}
+use Rattle.grasp_disk.specs.Memory.{MemDiskState, MemStands, AllFit, all_kept, left_by, begun_anew, succeeded}
 use Rattle.grasp_disk.specs.declared.left.Left.{Left}
 
 -- what a crash leaves after a sync that succeeded is what a read gives
@@ -41,3 +41,8 @@ LeftsMayStand = (left : Left) (start : List ℕ) (calls : List DiskCall) → All
 -- a disk in memory on which all is synced may be taken for one that begins with what a read gives
 abbrev pub SyncedDisksBeginAnew : Type 0
 SyncedDisksBeginAnew = (m : MemDiskState) (log : DiskLog) → MemStands m log → IsSettled (state_of log) → MemStands m (begun_anew log)
+
+-- whatever a crash leaves of a disk in memory, it would leave without the last call, where that failed
+abbrev pub FailedCallsLeaveNothing : Type 0
+FailedCallsLeaveNothing = (m : MemDiskState) (log : DiskLog) (call : DiskCall) (earlier : List DiskCall) (left : Left) → MemStands m log → log.calls ≡ call ∷ earlier
+    → succeeded call ≡ false → left_by left log.start.bytes log.calls ≡ left_by left log.start.bytes earlier

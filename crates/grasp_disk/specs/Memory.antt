@@ -1,6 +1,6 @@
 -- A disk in memory: the contents that a crash leaves of it, and the calls that led to them.
 use Rattle.std.specs.Prelude.{◌≡◌, ℕ, ◌+◌, ◌-◌, ◌/◌, ◌≤◌, Bool, true, false, nat_lt, IsTrue, ⊤, List, [], ◌∷◌, length, take, replicate, Option, None, Some}
-use Rattle.grasp_disk.specs.Calls.{DiskCall, DiskLog, DiskState, read, wrote, synced, disk_size, overlaid, after_calls, bytes_of}
+use Rattle.grasp_disk.specs.Calls.{DiskCall, DiskLog, DiskState, read, wrote, synced, disk_size, overlaid, piece, after_calls, bytes_of}
 use Rattle.grasp_disk.specs.declared.left.Left.{Left}
 use Rattle.grasp_disk.specs.declared.left.Left.TheVariants.{Old, New, Torn}
 
@@ -79,6 +79,14 @@ abbrev pub StopsAt : Option ℕ → List DiskCall → Type 0
 StopsAt stops [] = ⊤
 StopsAt stops (call ∷ earlier) = (succeeded call ≡ goes stops (length earlier)) × StopsAt stops earlier
 
+-- each write that failed wrote what stood there already
+abbrev pub FailuresWriteNothing : List ℕ → List DiskCall → Type 0
+FailuresWriteNothing start [] = ⊤
+FailuresWriteNothing start (read ok ∷ earlier) = FailuresWriteNothing start earlier
+FailuresWriteNothing start (wrote at new true ∷ earlier) = FailuresWriteNothing start earlier
+FailuresWriteNothing start (wrote at new false ∷ earlier) = (new ≡ piece (written_by start earlier) at (length new)) × FailuresWriteNothing start earlier
+FailuresWriteNothing start (synced ok ∷ earlier) = FailuresWriteNothing start earlier
+
 -- how many can succeed yet after so many were made
 abbrev pub rest_of : Option ℕ → ℕ → Option ℕ
 rest_of None made = None
@@ -104,6 +112,7 @@ pub record MemStands (m : MemDiskState) (log : DiskLog) : Type 0 where
   pub bytes : m.bytes ≡ written_by log.start.bytes log.calls
   pub kept : m.kept ≡ synced_by log.start.bytes log.calls
   pub torn : m.torn ≡ torn_by log.start.bytes log.calls
+  pub nothing : FailuresWriteNothing log.start.bytes log.calls
   pub stops : StopsAt log.stops log.calls
   pub left : m.left ≡ rest_of log.stops (length log.calls)
 

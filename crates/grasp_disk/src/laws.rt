@@ -1,6 +1,6 @@
 //! Laws of the crash model.
 
-ghost use Rattle.grasp_disk.specs.Laws.{SyncedBytesStay, ReadBytesMayStand, WrittenBytesAreRead, WritesSpoilTheirPlace, UnsyncedBytesMayBeAny, MomentsAreAll, LeftsMayStand, SyncedDisksBeginAnew};
+ghost use Rattle.grasp_disk.specs.Laws.{SyncedBytesStay, ReadBytesMayStand, WrittenBytesAreRead, WritesSpoilTheirPlace, UnsyncedBytesMayBeAny, MomentsAreAll, LeftsMayStand, SyncedDisksBeginAnew, FailedCallsLeaveNothing};
 
 /// After a sync that succeeded a crash leaves what a read gives, and nothing else.
 pub fn synced_bytes_stay()
@@ -41,4 +41,9 @@ pub fn lefts_may_stand()
 /// difference to what it does from then on.
 pub fn synced_disks_begin_anew()
     ensures { SyncedDisksBeginAnew }
+{}
+
+/// A call that fails makes no difference to what a crash leaves of a disk in memory.
+pub fn failed_calls_leave_nothing()
+    ensures { FailedCallsLeaveNothing }
 {}

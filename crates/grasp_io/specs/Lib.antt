@@ -2,6 +2,8 @@ pub mod Faults
 pub mod Known
 pub mod Memory
 pub mod Told
+pub mod Guards
+pub mod Counted
 pub mod Links
 pub mod MemoryLinks
 pub mod MemoryClock

@@ -44,8 +44,7 @@ impl<R: time::Clock + Drop> StdClock<R> {
 
     // The milliseconds since the start, where the clock can be read.
     fn read(&self) -> Option<u64> {
-        let passed = self.start?.elapsed(&self.rt).ok()?;
-        Some(u64::try_from(passed.as_millis()).unwrap_or(u64::MAX))
+        millis_since(&self.rt, self.start?)
     }
 }
 
@@ -60,6 +59,12 @@ impl<R: time::Clock + Drop> Clock for StdClock<R> {
         }
         self.latest
     }
+}
+
+/// The milliseconds that passed since then, where the clock can be read.
+pub(crate) fn millis_since<R: time::Clock>(rt: &R, start: Instant) -> Option<u64> {
+    let passed = start.elapsed(rt).ok()?;
+    Some(u64::try_from(passed.as_millis()).unwrap_or(u64::MAX))
 }
 
 /// 32 bytes of the machine's random source, or `None` where it gives none.

@@ -5,15 +5,23 @@
 
 mod buffered;
 mod clock;
+mod counters;
+mod descriptors;
+mod dial;
 mod file;
+mod guard;
+mod journal;
+mod link_log;
 mod links;
 mod memory;
 mod memory_clock;
 mod memory_links;
+mod patient;
 mod peers;
 mod readiness;
 mod reading;
 mod sockets;
+mod stamp;
 mod standard;
 mod stream;
 mod wires;
@@ -21,13 +29,20 @@ mod writing;
 
 pub use buffered::WriteBuffer;
 pub use clock::{Clock, StdClock, random_seed};
+pub use counters::{Counted, Counters, LinkFault};
+pub use descriptors::StandardFiles;
 pub use file::FileSource;
+pub use guard::{AddressRange, Guard};
+pub use journal::{Journal, LogLevel, LogSwitch};
+pub use link_log::LinkLog;
 pub use links::{Asked, LinkPlan, Links, Sent};
 pub use memory::{MemSink, MemSource};
 pub use memory_clock::MemClock;
 pub use memory_links::{Arrival, MemLinks};
+pub use patient::PatientSink;
 pub use reading::{ReadError, Source, read_all};
 pub use sockets::MioLinks;
+pub use stamp::Stamp;
 pub use standard::{StdSink, StdSource};
 pub use writing::{Sink, write_all};
 

@@ -1,6 +1,7 @@
 //! What joins a node to others: datagrams to and from its neighbours, and streams.
 ghost use Rattle.std.specs.Prelude.{◌≡◌, ◌≤◌, List, ℕ, Bool, true, Option, None, IsTrue, OnOk, OnErr};
 ghost use Rattle.grasp_io.specs.Faults.{Rose};
+ghost use Rattle.grasp_io.specs.Counted.{StaysAt, CountsOne};
 ghost use Rattle.grasp_io.specs.Told.{Stays, Grows};
 ghost use Rattle.grasp_io.specs.Links.{IsNext, Gives, Waits, IsAnswer, Hands};
 ghost use Rattle.grasp_io.specs.declared.links.LinkPlan.{LinkPlan};
@@ -54,6 +55,9 @@ pub trait Links {
     /// The plans that they were opened with so far, where they are told.
     ghost plans: { Self → Option (List LinkPlan) } = { λ _. None };
 
+    /// How often they were asked, or 2^64 - 1, where it is told.
+    ghost asks: { Self → Option ℕ } = { λ _. None };
+
     /// The waits of the asks so far, in milliseconds, where they are told.
     ghost waits: { Self → Option (List ℕ) };
 
@@ -74,6 +78,7 @@ pub trait Links {
         ensures opens { OnOk result (IsTrue (is_open self.new)) }
         ensures told { OnOk result (Grows (plans self.old) (plans self.new) plan.now) }
         ensures told_nothing { OnErr result (Stays (plans self.old) (plans self.new)) }
+        ensures not_asked { StaysAt (asks self.old) (asks self.new) }
         ensures waited { Stays (waits self.old) (waits self.new) }
         ensures gave { Stays (given self.old) (given self.new) }
         ensures took { Stays (handed self.old) (handed self.new) }
@@ -86,6 +91,7 @@ pub trait Links {
     fn ask(&mut self, wait_ms: u32) -> Asked
         ensures stays_open { is_open self.new ≡ is_open self.old }
         ensures told { Stays (plans self.old) (plans self.new) }
+        ensures asked { CountsOne (asks self.old) (asks self.new) }
         ensures waited { Waits (waits self.old) (waits self.new) result wait_ms }
         ensures gave { Gives (given self.old) (given self.new) result }
         ensures took { Stays (handed self.old) (handed self.new) }
@@ -96,6 +102,7 @@ pub trait Links {
     fn send(&mut self, output: &Output) -> Sent
         ensures stays_open { is_open self.new ≡ is_open self.old }
         ensures told { Stays (plans self.old) (plans self.new) }
+        ensures not_asked { StaysAt (asks self.old) (asks self.new) }
         ensures waited { Stays (waits self.old) (waits self.new) }
         ensures gave { Stays (given self.old) (given self.new) }
         ensures took { Hands (handed self.old) (handed self.new) result output.now }

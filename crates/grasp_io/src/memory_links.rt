@@ -1,5 +1,6 @@
 //! Links in memory, with asks that give nothing and sends that fail.
 ghost use Rattle.std.specs.Prelude.{◌≡◌, ◌≢◌, ◌≤◌, [], ◌∷◌, ◌++◌, Some, true, false, is_some, IsTrue, IsErr, IfSome, OnOk, OnErr};
+ghost use Rattle.grasp_io.specs.Counted.{StaysAt, CountsOne};
 ghost use Rattle.grasp_io.specs.Faults.{Rose};
 ghost use Rattle.grasp_io.specs.Links.{IsNext, Gives, Waits, IsAnswer, Hands};
 ghost use Rattle.grasp_io.specs.Memory.{one_more, next_fails};
@@ -7,10 +8,11 @@ ghost use Rattle.grasp_io.specs.MemoryLinks.{LinksState, given_of, can_come, com
 ghost use Rattle.grasp_io.specs.Told.{Stays, Grows};
 ghost use Rattle.grasp_io.specs.declared.links.Asked.TheVariants.{Got};
 
-use crate::{Asked, Failed, LinkPlan, Links, Sent};
+use crate::{Asked, Counted, Counters, Failed, LinkFault, LinkPlan, Links, Sent};
 use grasp_types::{Input, Output, Plain};
 use std::alloc::Global;
 use std::marker::Model;
+use std::net::SocketAddr;
 
 const MOST_OPENED: u64 = 1 << 62;
 
@@ -175,8 +177,29 @@ fn openings_after(opened: u64, input: &Input) -> Option<u64>
     }
 }
 
+/// Openings and faults alone are counted.
+impl Counted for MemLinks<'_> {
+    fn counters(&self) -> Counters {
+        Counters {
+            opened: self.opened,
+            faults: self.faults,
+            ..Counters::new()
+        }
+    }
+
+    fn last_fault(&self) -> Option<LinkFault> {
+        None
+    }
+
+    fn last_stranger(&self) -> Option<SocketAddr> {
+        None
+    }
+}
+
 impl Links for MemLinks<'_> {
     ghost plans = { λ s. Some s.plans };
+
+    ghost asks = { λ s. Some s.asks };
 
     ghost waits = { λ s. Some s.waits };
 
@@ -193,6 +216,7 @@ impl Links for MemLinks<'_> {
         ensures opens { OnOk result (IsTrue true) }
         ensures told { OnOk result (Grows (Some self.old.plans) (Some self.new.plans) plan.now) }
         ensures told_nothing { OnErr result (Stays (Some self.old.plans) (Some self.new.plans)) }
+        ensures not_asked { StaysAt (Some self.old.asks) (Some self.new.asks) }
         ensures waited { Stays (Some self.old.waits) (Some self.new.waits) }
         ensures gave { Stays (Some (given_of self.old)) (Some (given_of self.new)) }
         ensures took { Stays (Some self.old.handed) (Some self.new.handed) }
@@ -216,6 +240,7 @@ impl Links for MemLinks<'_> {
     // Where memory is wanted for the wait, nothing is told; where it is wanted for the input, the wait is told.
     fn ask(&mut self, wait_ms: u32) -> Asked
         ensures told { Stays (Some self.old.plans) (Some self.new.plans) }
+        ensures asked { CountsOne (Some self.old.asks) (Some self.new.asks) }
         ensures waited { Waits (Some self.old.waits) (Some self.new.waits) result wait_ms }
         ensures gave { Gives (Some (given_of self.old)) (Some (given_of self.new)) result }
         ensures took { Stays (Some self.old.handed) (Some self.new.handed) }
@@ -256,6 +281,7 @@ impl Links for MemLinks<'_> {
     // Where memory is wanted the send fails, as at a number that is to fail.
     fn send(&mut self, output: &Output) -> Sent
         ensures told { Stays (Some self.old.plans) (Some self.new.plans) }
+        ensures not_asked { StaysAt (Some self.old.asks) (Some self.new.asks) }
         ensures waited { Stays (Some self.old.waits) (Some self.new.waits) }
         ensures gave { Stays (Some (given_of self.old)) (Some (given_of self.new)) }
         ensures took { Hands (Some self.old.handed) (Some self.new.handed) result output.now }

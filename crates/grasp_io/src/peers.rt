@@ -56,6 +56,15 @@ pub(crate) fn dial_addr(locator: &Locator) -> Option<SocketAddr> {
     }
 }
 
+/// Where dials of a node come from that listens here: from the same address, unless that stands for any.
+pub(crate) fn source_of(listen: SocketAddr) -> Option<SocketAddr> {
+    if listen.ip().is_unspecified() {
+        None
+    } else {
+        Some(SocketAddr::new(listen.ip(), 0))
+    }
+}
+
 /// The address of a node whose socket is here.
 pub(crate) fn address_of(addr: &SocketAddr) -> Address {
     match addr.ip().to_canonical() {

@@ -83,7 +83,7 @@ pub(crate) fn read_some<R: Read>(reader: &mut R, into: &mut [u8]) -> Result<usiz
 }
 
 // One write. A write that a signal interrupted is made again.
-fn write_some<W: Write>(writer: &mut W, piece: &[u8]) -> Result<usize, Failed>
+pub(crate) fn write_some<W: Write>(writer: &mut W, piece: &[u8]) -> Result<usize, Failed>
     ensures { IfOk result (λ n. n ≤ length piece.now) }
 {
     for _ in 0..u64::MAX {

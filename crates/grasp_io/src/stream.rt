@@ -1,10 +1,12 @@
 //! One stream: its socket, what is still to be written, and how far it has ended.
 use crate::readiness::Readiness;
 use grasp_cbor::Octets;
+use grasp_types::Address;
 use mio::net::TcpStream;
 use std::alloc::Global;
+use std::io;
 use std::io::{ErrorKind, Read, Write};
-use std::net::Shutdown;
+use std::net::{Shutdown, SocketAddr};
 
 // The most bytes that one read gives.
 const PIECE: usize = 4096;
@@ -15,8 +17,8 @@ const MOST_UNSENT: usize = 1 << 20;
 // The most writes, and the most reads of a closing stream, in one call.
 const TRIES: usize = 64;
 
-// How many asks a closing stream outlasts.
-const PATIENCE: u32 = 1000;
+// For how long a closing stream is kept, and for how long a dial may take. Milliseconds.
+const PATIENCE: u64 = 10_000;
 
 #[derive(Clone, Copy, Debug, PartialEq, Eq)]
 enum Stage {
@@ -28,9 +30,25 @@ enum Stage {
     Gone,
 }
 
+/// Which side began a stream.
+#[derive(Clone, Copy, Debug, PartialEq, Eq)]
+pub(crate) enum Beginning {
+    /// The peer, whose address this is. The node has sent nothing on it.
+    Opened(Address),
+    /// The same, where the node has sent something.
+    Answered(Address),
+    /// The node, which isn't connected yet. There is no address where the locator has none.
+    Dialling(Option<SocketAddr>),
+    /// The same, connected.
+    Dialled,
+}
+
 #[derive(Drop)]
 pub(crate) struct Stream {
     number: u64,
+    beginning: Beginning,
+    // When it began or last gave bytes; and once it is closing, since when. Milliseconds.
+    since: u64,
     // None where it failed, and its end is still to be told.
     socket: Option<TcpStream>,
     unsent: Vec<u8>,
@@ -42,7 +60,8 @@ pub(crate) struct Stream {
     // The writing side is shut.
     shut: bool,
     stage: Stage,
-    patience: u32,
+    // Why it failed, where it did and the system said why.
+    why: Option<io::Error>,
 }
 
 /// What a stream gives.
@@ -54,6 +73,13 @@ pub(crate) enum News {
     OutOfMemory,
 }
 
+/// A dial that failed, and to where it went, where its locator has an address.
+#[derive(Clone, Copy)]
+pub(crate) struct FailedDial {
+    pub(crate) to: Option<SocketAddr>,
+    pub(crate) error: io::Error,
+}
+
 // What a read gives.
 #[derive(Drop)]
 enum Piece {
@@ -62,7 +88,7 @@ enum Piece {
     Later,
     // A signal interrupted it.
     Again,
-    End,
+    End(Option<io::Error>),
     OutOfMemory,
 }
 
@@ -72,7 +98,7 @@ fn read_piece(alloc: Global, socket: &mut TcpStream) -> Piece {
         return Piece::OutOfMemory;
     };
     match socket.read(&mut bytes) {
-        Ok(0) => Piece::End,
+        Ok(0) => Piece::End(None),
         Ok(count) => {
             bytes.truncate(count);
             Piece::Bytes(Octets::from_vec(bytes))
@@ -80,7 +106,7 @@ fn read_piece(alloc: Global, socket: &mut TcpStream) -> Piece {
         Err(error) => match error.kind() {
             ErrorKind::WouldBlock => Piece::Later,
             ErrorKind::Interrupted => Piece::Again,
-            _ => Piece::End,
+            _ => Piece::End(Some(error)),
         },
     }
 }
@@ -103,18 +129,41 @@ fn drop_what_comes(socket: &mut TcpStream) -> bool {
 }
 
 impl Stream {
-    /// A stream over this socket, or with `None` one that failed at once.
-    pub(crate) fn new(alloc: Global, number: u64, socket: Option<TcpStream>) -> Stream {
+    /// A stream that begins now, over this socket.
+    pub(crate) fn new(
+        alloc: Global,
+        number: u64,
+        beginning: Beginning,
+        now: u64,
+        socket: TcpStream,
+    ) -> Stream {
+        let socket = Some(socket);
+        Stream {
+            socket,
+            ..Stream::failed(alloc, number, beginning, now, None)
+        }
+    }
+
+    /// A stream that failed at once.
+    pub(crate) fn failed(
+        alloc: Global,
+        number: u64,
+        beginning: Beginning,
+        now: u64,
+        why: Option<io::Error>,
+    ) -> Stream {
         Stream {
             number,
-            socket,
+            beginning,
+            since: now,
+            socket: None,
             unsent: Vec::new(alloc),
             written: 0,
             readiness: Readiness::Idle,
             mute: false,
             shut: false,
             stage: Stage::Open,
-            patience: PATIENCE,
+            why,
         }
     }
 
@@ -124,6 +173,43 @@ impl Stream {
 
     pub(crate) fn is_closing(&self) -> bool {
         self.stage == Stage::Closing
+    }
+
+    /// Whether it is closing, and all was written.
+    pub(crate) fn is_written(&self) -> bool {
+        self.stage == Stage::Closing && !self.has_unsent()
+    }
+
+    /// Whether this address opened it, and it isn't closing.
+    pub(crate) fn is_open_of(&self, address: &Address) -> bool {
+        self.stage == Stage::Open
+            && match &self.beginning {
+                Beginning::Opened(from) | Beginning::Answered(from) => from == address,
+                Beginning::Dialling(_) | Beginning::Dialled => false,
+            }
+    }
+
+    /// Whether a peer opened it and has said nothing for so long, and the node has said nothing at all.
+    pub(crate) fn is_silent(&self, now: u64, silence: u64) -> bool {
+        self.stage == Stage::Open
+            && matches!(&self.beginning, Beginning::Opened(_))
+            && now >= self.since.saturating_add(silence)
+    }
+
+    /// Why the node's dial failed, where it did and its end is told now.
+    pub(crate) fn failed_dial(&self) -> Option<FailedDial> {
+        match (&self.beginning, &self.why) {
+            (Beginning::Dialling(to), Some(error)) => Some(FailedDial {
+                to: *to,
+                error: *error,
+            }),
+            _ => None,
+        }
+    }
+
+    // Whether the node dialled it and isn't connected.
+    fn is_dialling(&self) -> bool {
+        matches!(&self.beginning, Beginning::Dialling(_))
     }
 
     pub(crate) fn is_gone(&self) -> bool {
@@ -145,8 +231,15 @@ impl Stream {
         self.readiness = Readiness::Ready;
     }
 
+    /// Notes that the system reported that it can be written to.
+    pub(crate) fn mark_connected(&mut self) {
+        if self.is_dialling() {
+            self.beginning = Beginning::Dialled;
+        }
+    }
+
     /// The next bytes, or the end.
-    pub(crate) fn next(&mut self, alloc: Global) -> News {
+    pub(crate) fn next(&mut self, alloc: Global, now: u64) -> News {
         if self.stage != Stage::Open {
             return News::Nothing;
         }
@@ -158,14 +251,19 @@ impl Stream {
             return News::Nothing;
         }
         match read_piece(alloc, socket) {
-            Piece::Bytes(bytes) => News::Bytes(bytes),
+            Piece::Bytes(bytes) => {
+                self.since = now;
+                self.mark_connected();
+                News::Bytes(bytes)
+            }
             Piece::Later => {
                 self.readiness = Readiness::Idle;
                 News::Nothing
             }
             Piece::Again => News::Nothing,
-            Piece::End => {
-                self.end();
+            Piece::End(why) => {
+                self.why = why;
+                self.end(now);
                 News::End
             }
             Piece::OutOfMemory => {
@@ -185,26 +283,38 @@ impl Stream {
 
     /// Ends it: what is unsent is written, then the writing side is shut, and what comes is dropped for a while. To drop the
     /// socket at once could reset the stream, and so lose its last bytes on the other side.
-    pub(crate) fn close(&mut self) {
-        if self.stage == Stage::Open {
-            self.stage = Stage::Closing;
-        }
-        self.linger();
+    pub(crate) fn close(&mut self, now: u64) {
+        self.begin_closing(now);
+        self.linger(now);
     }
 
-    /// Goes on with what is unsent, and with closing.
-    pub(crate) fn go_on(&mut self) {
+    /// Goes on with what is unsent, and with closing. A dial that takes too long fails.
+    pub(crate) fn go_on(&mut self, now: u64) {
         match self.stage {
             Stage::Open => {
                 if self.has_unsent() {
                     self.flush();
                 }
+                if self.is_dialling() && self.is_past(now) && self.socket.is_some() {
+                    self.socket = None;
+                    self.forget_unsent();
+                    self.why = Some(io::Error::from(ErrorKind::TimedOut));
+                }
             }
-            Stage::Closing => {
-                self.patience = self.patience.saturating_sub(1);
-                self.linger();
-            }
+            Stage::Closing => self.linger(now),
             Stage::Gone => {}
+        }
+    }
+
+    // Whether its patience is over.
+    fn is_past(&self, now: u64) -> bool {
+        now >= self.since.saturating_add(PATIENCE)
+    }
+
+    fn begin_closing(&mut self, now: u64) {
+        if self.stage == Stage::Open {
+            self.stage = Stage::Closing;
+            self.since = now;
         }
     }
 
@@ -216,6 +326,9 @@ impl Stream {
     }
 
     fn take(&mut self, bytes: &[u8]) -> bool {
+        if let Beginning::Opened(from) = self.beginning {
+            self.beginning = Beginning::Answered(from);
+        }
         if self.mute || self.socket.is_none() {
             return false;
         }
@@ -275,17 +388,17 @@ impl Stream {
     }
 
     // The other side has ended it, and this is told now.
-    fn end(&mut self) {
+    fn end(&mut self, now: u64) {
         if self.has_unsent() {
-            self.stage = Stage::Closing;
+            self.begin_closing(now);
         } else {
             self.forget();
         }
     }
 
     // Goes on with closing.
-    fn linger(&mut self) {
-        if self.patience == 0 || self.mute {
+    fn linger(&mut self, now: u64) {
+        if self.is_past(now) || self.mute {
             self.forget();
             return;
         }

@@ -1,23 +1,31 @@
 //! The sockets of a node: one for datagrams, one that listens, and one for each stream.
 ghost use Rattle.grasp_io.specs.Links.{MayCome, GivesNoOpening};
 
-use crate::peers::{Peers, address_of, dial_addr};
+use crate::clock::millis_since;
+use crate::counters::add_one;
+use crate::dial::{dial_from, keep_alive};
+use crate::peers::{Peers, address_of, dial_addr, source_of};
 use crate::readiness::Readiness;
-use crate::stream::{News, Stream};
-use crate::{Asked, LinkPlan};
+use crate::stream::{Beginning, News, Stream};
+use crate::{Asked, Counters, Guard, LinkFault, LinkPlan};
 use grasp_cbor::Octets;
-use grasp_types::{Input, Locator};
+use grasp_types::{Address, Input, Locator, Proto};
 use mio::net::{TcpListener, TcpStream, UdpSocket};
+use mio::unix::SourceFd;
 use mio::{Events, Interest, Poll, Token};
 use std::alloc::Global;
-use std::io;
 use std::io::ErrorKind;
-use std::net::Net;
-use std::time::Duration;
+use std::net::{Net, SocketAddr};
+use std::os::fd::RawFd;
+use std::time::{Duration, Instant};
+use std::{io, time};
 
 const DATAGRAMS: Token = Token(0);
 
 const LISTENER: Token = Token(1);
+
+// A descriptor that is watched beside the sockets. No stream has this token.
+const WATCHED: Token = Token(usize::MAX);
 
 // The most events of one wait.
 const MOST_EVENTS: usize = 64;
@@ -30,13 +38,13 @@ const MOST_OPENED: u64 = 1 << 62;
 // No datagram is longer.
 const LONGEST_DATAGRAM: usize = 65536;
 
-// How many datagrams of others than neighbours one ask passes over.
+// How many datagrams of others than neighbours are passed over at a time.
 const MOST_STRANGERS: usize = 64;
 
 // How often, and how long each time, the end waits for streams. Milliseconds.
 const SETTLING_WAITS: u32 = 50;
 
-const SETTLING_WAIT: u32 = 20;
+const SETTLING_WAIT: u64 = 20;
 
 #[derive(Drop)]
 pub(crate) struct Wires {
@@ -45,11 +53,22 @@ pub(crate) struct Wires {
     datagrams: UdpSocket,
     listener: TcpListener,
     peers: Peers,
+    // Where dials come from, where that is stated.
+    source: Option<SocketAddr>,
     streams: Vec<Stream>,
     // Where a datagram is read to.
     block: Vec<u8>,
     datagram: Readiness,
     opening: Readiness,
+    // The descriptor that is watched was ready.
+    called: bool,
+    // When the clock was first read, and the milliseconds since. Without a clock it stays 0.
+    start: Option<Instant>,
+    now: u64,
+    pub(crate) counters: Counters,
+    pub(crate) fault: Option<LinkFault>,
+    has_failed: bool,
+    pub(crate) stranger: Option<SocketAddr>,
     // Which of the three kinds comes first, and which stream came last.
     turn: u8,
     place: usize,
@@ -60,13 +79,50 @@ fn token_of(stream: u64) -> Token {
 }
 
 impl Wires {
-    /// The sockets of this plan. Both that take what comes are at the address where the node listens.
-    pub(crate) fn open<N: Net>(net: &N, alloc: Global, plan: &LinkPlan) -> io::Result<Wires> {
-        let at = dial_addr(&plan.listen).ok_or(ErrorKind::InvalidInput)?;
-        let peers = Peers::of(alloc, &plan.links).map_err(|_| ErrorKind::OutOfMemory)?;
+    /// The sockets of this plan, with a descriptor that is watched beside them. Both that take what comes are at the address
+    /// where the node listens.
+    pub(crate) fn open<N: Net + time::Clock>(
+        net: &N,
+        alloc: Global,
+        plan: &LinkPlan,
+        watched: Option<RawFd>,
+    ) -> Result<Wires, LinkFault> {
+        let Some(at) = dial_addr(&plan.listen) else {
+            return Err(open_fault(io::Error::from(ErrorKind::InvalidInput)));
+        };
+        let Ok(peers) = Peers::of(alloc, &plan.links) else {
+            return Err(open_fault(io::Error::from(ErrorKind::OutOfMemory)));
+        };
+        let listener = match TcpListener::bind(net, at) {
+            Ok(listener) => listener,
+            Err(error) => return Err(listen_fault(Proto::Tcp, at, error)),
+        };
+        let datagrams = match UdpSocket::bind(net, at) {
+            Ok(datagrams) => datagrams,
+            Err(error) => return Err(listen_fault(Proto::Udp, at, error)),
+        };
+        match Wires::of(net, alloc, peers, listener, datagrams) {
+            Ok(mut wires) => {
+                wires.source = source_of(at);
+                match wires.watch(watched) {
+                    Ok(()) => Ok(wires),
+                    Err(error) => Err(open_fault(error)),
+                }
+            }
+            Err(error) => Err(open_fault(error)),
+        }
+    }
+
+    fn of<N: Net + time::Clock>(
+        net: &N,
+        alloc: Global,
+        peers: Peers,
+        listener: TcpListener,
+        datagrams: UdpSocket,
+    ) -> io::Result<Wires> {
+        let mut listener = listener;
+        let mut datagrams = datagrams;
         let poll = Poll::new(net)?;
-        let mut listener = TcpListener::bind(net, at)?;
-        let mut datagrams = UdpSocket::bind(net, at)?;
         let registry = poll.registry();
         registry.register(&mut datagrams, DATAGRAMS, Interest::READABLE)?;
         registry.register(&mut listener, LISTENER, Interest::READABLE)?;
@@ -76,20 +132,106 @@ impl Wires {
             datagrams,
             listener,
             peers,
+            source: None,
             streams: Vec::with_capacity(alloc, MOST_STREAMS)?,
             block: Vec::from_elem(alloc, 0u8, LONGEST_DATAGRAM)?,
             datagram: Readiness::Idle,
             opening: Readiness::Idle,
+            called: false,
+            start: Instant::now(net).ok(),
+            now: 0,
+            counters: Counters::new(),
+            fault: None,
+            has_failed: false,
+            stranger: None,
             turn: 0,
             place: 0,
         })
     }
 
-    /// Waits until something comes, at most so many milliseconds, and notes for which socket.
-    pub(crate) fn wait(&mut self, wait_ms: u32) -> io::Result<()> {
-        let wait_ms = if self.is_ready() { 0 } else { wait_ms };
-        let wait = Duration::from_millis(u64::from(wait_ms));
-        self.poll.poll(&mut self.events, Some(wait))?;
+    /// Watches a descriptor beside the sockets: an ask ends once it is ready.
+    pub(crate) fn watch(&mut self, watched: Option<RawFd>) -> io::Result<()> {
+        match watched {
+            Some(fd) => {
+                let registry = self.poll.registry();
+                registry.register(&mut SourceFd(&fd), WATCHED, Interest::READABLE)
+            }
+            None => Ok(()),
+        }
+    }
+
+    /// The next input, for which it waits at most so many milliseconds. What is no input ends no wait.
+    pub(crate) fn ask<N: time::Clock>(
+        &mut self,
+        clock: &N,
+        alloc: Global,
+        guard: Option<&Guard>,
+        opened: u64,
+        wait_ms: u32,
+    ) -> Asked
+        ensures { MayCome opened result }
+    {
+        let tells_time = self.read_clock(clock);
+        let end = self.now.saturating_add(u64::from(wait_ms));
+        for _ in 0..u64::MAX {
+            let left = end.saturating_sub(self.now);
+            let waited = self.wait(Duration::from_millis(left));
+            self.read_clock(clock);
+            if let Err(error) = waited {
+                self.note_fault(LinkFault::Wait { error });
+                return Asked::Nothing;
+            }
+            self.tidy();
+            match self.next(alloc, guard, opened) {
+                Asked::Nothing => {}
+                asked => return asked,
+            }
+            if self.called || !tells_time || self.now >= end {
+                self.called = false;
+                return Asked::Nothing;
+            }
+        }
+        Asked::Nothing
+    }
+
+    // Reads the clock, and returns whether it could be read.
+    fn read_clock<N: time::Clock>(&mut self, clock: &N) -> bool {
+        let Some(start) = self.start else {
+            return false;
+        };
+        match millis_since(clock, start) {
+            Some(now) => {
+                self.now = self.now.max(now);
+                true
+            }
+            None => false,
+        }
+    }
+
+    fn note_fault(&mut self, fault: LinkFault) {
+        self.has_failed = true;
+        self.fault = Some(fault);
+    }
+
+    /// Whether something failed since the last such question.
+    pub(crate) fn take_failed(&mut self) -> bool {
+        let failed = self.has_failed;
+        self.has_failed = false;
+        failed
+    }
+
+    // Waits until something comes, at most so long, and notes for which socket. A signal may end the wait early.
+    fn wait(&mut self, wait: Duration) -> io::Result<()> {
+        let wait = if self.is_ready() {
+            Duration::ZERO
+        } else {
+            wait
+        };
+        if let Err(error) = self.poll.poll(&mut self.events, Some(wait)) {
+            if error.kind() != ErrorKind::Interrupted {
+                return Err(error);
+            }
+        }
         self.datagram = self.datagram.after_wait();
         self.opening = self.opening.after_wait();
         for stream in self.streams.iter_mut() {
@@ -106,12 +248,18 @@ impl Wires {
                 self.datagram = Readiness::Ready;
             } else if token == LISTENER {
                 self.opening = Readiness::Ready;
-            } else if event.is_readable() || event.is_read_closed() || event.is_error() {
-                if let Some(stream) = self
-                    .streams
-                    .iter_mut()
-                    .find(|stream| token_of(stream.number()) == token)
-                {
+            } else if token == WATCHED {
+                self.called = true;
+            } else if let Some(stream) = self
+                .streams
+                .iter_mut()
+                .find(|stream| token_of(stream.number()) == token)
+            {
+                let failed = event.is_error() || event.is_read_closed();
+                if event.is_writable() && !failed {
+                    stream.mark_connected();
+                }
+                if event.is_readable() || failed {
                     stream.mark_ready();
                 }
             }
@@ -121,21 +269,21 @@ impl Wires {
     /// Goes on with what is unsent and with what is closing.
     pub(crate) fn tidy(&mut self) {
         for stream in self.streams.iter_mut() {
-            stream.go_on();
+            stream.go_on(self.now);
         }
         self.streams.retain(|stream| !stream.is_gone());
     }
 
     /// The next input, where something is there. The kinds take turns to come first, and so do the streams.
-    pub(crate) fn next(&mut self, alloc: Global, opened: u64) -> Asked
+    fn next(&mut self, alloc: Global, guard: Option<&Guard>, opened: u64) -> Asked
         ensures { MayCome opened result }
     {
         self.turn = (self.turn % 3 + 1) % 3;
         for later in 0..3 {
             let asked = match (self.turn % 3 + later) % 3 {
                 0 => self.next_datagram(alloc),
-                1 => self.next_opening(alloc, opened),
-                _ => self.next_of_streams(alloc),
+                1 => self.next_opening(alloc, guard, opened),
+                _ => self.next_of_streams(alloc, guard),
             };
             match asked {
                 Asked::Nothing => {}
@@ -149,10 +297,15 @@ impl Wires {
         self.streams.len() >= MOST_STREAMS
     }
 
+    // Whether another stream can be kept, at worst in the place of one that is closing.
+    fn has_room(&self) -> bool {
+        !self.is_full() || self.streams.iter().any(|stream| stream.is_closing())
+    }
+
     // Whether something may be there to give without a wait.
     fn is_ready(&self) -> bool {
         self.datagram.is_ready()
-            || self.opening.is_ready() && !self.is_full()
+            || self.opening.is_ready() && self.has_room()
             || self.streams.iter().any(|stream| stream.is_ready())
     }
 
@@ -166,11 +319,14 @@ impl Wires {
             match self.datagrams.recv_from(&mut self.block) {
                 Ok((count, from)) => {
                     if let Some((link, from)) = self.peers.at(&from) {
+                        add_one(&mut self.counters.received);
                         return match Octets::of(alloc, &self.block[..count]) {
                             Ok(bytes) => Asked::Got(Input::Datagram { link, from, bytes }),
                             Err(_) => Asked::OutOfMemory,
                         };
                     }
+                    add_one(&mut self.counters.strangers);
+                    self.stranger = Some(from);
                 }
                 Err(error) => self.datagram = after_error(error.kind()),
             }
@@ -178,29 +334,65 @@ impl Wires {
         Asked::Nothing
     }
 
-    fn next_opening(&mut self, alloc: Global, opened: u64) -> Asked
+    fn next_opening(&mut self, alloc: Global, guard: Option<&Guard>, opened: u64) -> Asked
         ensures { MayCome opened result }
     {
-        if self.is_full() || opened >= MOST_OPENED || !self.opening.is_ready() {
+        if opened >= MOST_OPENED || !self.opening.is_ready() || !self.has_room() {
             return Asked::Nothing;
         }
         match self.listener.accept() {
             Ok((socket, from)) => {
                 let stream = 2 * opened + 1;
                 let from = address_of(&from);
-                match self.keep(alloc, stream, socket) {
-                    true => Asked::Got(Input::Opened { stream, from }),
-                    false => Asked::Nothing,
+                if !self.lets_in(guard, &from) {
+                    return Asked::Nothing;
+                }
+                if self.is_full() {
+                    self.make_room();
+                }
+                match self.keep(alloc, stream, Beginning::Opened(from), socket) {
+                    Ok(()) => {
+                        add_one(&mut self.counters.opened);
+                        Asked::Got(Input::Opened { stream, from })
+                    }
+                    Err(error) => {
+                        self.note_fault(LinkFault::Accept { error });
+                        Asked::Nothing
+                    }
                 }
             }
             Err(error) => {
                 self.opening = after_error(error.kind());
+                if self.opening == Readiness::Later {
+                    self.note_fault(LinkFault::Accept { error });
+                }
                 Asked::Nothing
             }
         }
     }
 
-    fn next_of_streams(&mut self, alloc: Global) -> Asked
+    // Whether this address may open one more stream. Where it may not, that is counted.
+    fn lets_in(&mut self, guard: Option<&Guard>, from: &Address) -> bool {
+        let Some(guard) = guard else {
+            return true;
+        };
+        if !guard.lets_in(from) {
+            add_one(&mut self.counters.not_allowed);
+            return false;
+        }
+        let open = self
+            .streams
+            .iter()
+            .filter(|stream| stream.is_open_of(from))
+            .count();
+        if open >= usize::from(guard.streams) {
+            add_one(&mut self.counters.too_many);
+            return false;
+        }
+        true
+    }
+
+    fn next_of_streams(&mut self, alloc: Global, guard: Option<&Guard>) -> Asked
         ensures { GivesNoOpening result }
     {
         for _ in 0..self.streams.len() {
@@ -208,29 +400,74 @@ impl Wires {
             if self.place >= self.streams.len() {
                 self.place = 0;
             }
-            let Some(held) = self.streams.get_mut(self.place) else {
-                return Asked::Nothing;
-            };
-            let stream = held.number();
-            match held.next(alloc) {
-                News::Nothing => {}
-                News::Bytes(bytes) => return Asked::Got(Input::Bytes { stream, bytes }),
-                News::End => return Asked::Got(Input::Closed { stream }),
-                News::OutOfMemory => return Asked::OutOfMemory,
+            match self.next_of_stream(alloc, guard) {
+                Asked::Nothing => {}
+                asked => return asked,
             }
         }
         Asked::Nothing
     }
 
+    // What the stream gives whose turn it is.
+    fn next_of_stream(&mut self, alloc: Global, guard: Option<&Guard>) -> Asked
+        ensures { GivesNoOpening result }
+    {
+        let Some(held) = self.streams.get_mut(self.place) else {
+            return Asked::Nothing;
+        };
+        let stream = held.number();
+        if let Some(guard) = guard {
+            if held.is_silent(self.now, u64::from(guard.silence)) {
+                held.close(self.now);
+                add_one(&mut self.counters.silent);
+                return Asked::Got(Input::Closed { stream });
+            }
+        }
+        match held.next(alloc, self.now) {
+            News::Nothing => Asked::Nothing,
+            News::Bytes(bytes) => {
+                let many = &mut self.counters.bytes_received;
+                *many = many.saturating_add(bytes.len());
+                Asked::Got(Input::Bytes { stream, bytes })
+            }
+            News::End => {
+                self.note_end(self.place);
+                Asked::Got(Input::Closed { stream })
+            }
+            News::OutOfMemory => Asked::OutOfMemory,
+        }
+    }
+
+    // Notes that the stream at this place has ended, where it is a dial that failed.
+    fn note_end(&mut self, place: usize) {
+        let Some(held) = self.streams.get(place) else {
+            return;
+        };
+        let Some(failed) = held.failed_dial() else {
+            return;
+        };
+        add_one(&mut self.counters.failed_dials);
+        if let Some(to) = failed.to {
+            self.fault = Some(LinkFault::Dial {
+                stream: held.number(),
+                to,
+                error: failed.error,
+            });
+        }
+    }
+
     /// Sends a datagram, and returns whether the system took it whole.
     pub(crate) fn send_datagram(&mut self, link: u8, to: u8, bytes: &[u8]) -> bool {
         let Some(at) = self.peers.socket_of(link, to) else {
+            add_one(&mut self.counters.lost);
             return false;
         };
-        match self.datagrams.send_to(bytes, at) {
-            Ok(count) => count == bytes.len(),
-            Err(_) => false,
-        }
+        let is_sent = self.datagrams.send_to(bytes, at).ok() == Some(bytes.len());
+        add_one(match is_sent {
+            true => &mut self.counters.sent,
+            false => &mut self.counters.lost,
+        });
+        is_sent
     }
 
     /// Begins to connect, and returns whether it could. The stream is kept in any case, so that its end is told.
@@ -244,31 +481,50 @@ impl Wires {
         if self.is_full() {
             self.make_room();
         }
-        let connecting = match dial_addr(to) {
-            Some(at) => TcpStream::connect(net, at).ok(),
-            None => None,
+        add_one(&mut self.counters.dialled);
+        let to = dial_addr(to);
+        let beginning = Beginning::Dialling(to);
+        let kept = match self.connect(net, to) {
+            Ok(socket) => self.keep(alloc, number, beginning, socket),
+            Err(error) => Err(error),
         };
-        if let Some(socket) = connecting {
-            if self.keep(alloc, number, socket) {
-                return true;
-            }
-        }
-        let _ = self.streams.push(Stream::new(alloc, number, None));
+        let Err(error) = kept else {
+            return true;
+        };
+        let failed = Stream::failed(alloc, number, beginning, self.now, Some(error));
+        let _ = self.streams.push(failed);
         false
+    }
+
+    // Begins to connect, from where the node listens if that is an address of the same family.
+    fn connect<N: Net>(&self, net: &N, to: Option<SocketAddr>) -> io::Result<TcpStream> {
+        let Some(to) = to else {
+            return Err(io::Error::from(ErrorKind::InvalidInput));
+        };
+        match self.source {
+            Some(from) if from.is_ipv4() == to.is_ipv4() => dial_from(net, from, to),
+            _ => TcpStream::connect(net, to),
+        }
     }
 
     /// Takes bytes for a stream, and returns whether it could. One that isn't there has ended, and what comes for it is dropped.
     pub(crate) fn send_bytes(&mut self, number: u64, bytes: &[u8]) -> bool {
-        match self.stream(number) {
+        let is_taken = match self.stream(number) {
             Some(stream) => stream.send(bytes),
             None => true,
+        };
+        if is_taken {
+            let many = &mut self.counters.bytes_sent;
+            *many = many.saturating_add(bytes.len() as u64);
         }
+        is_taken
     }
 
     /// Ends a stream. Its end isn't told.
     pub(crate) fn close(&mut self, number: u64) {
+        let now = self.now;
         if let Some(stream) = self.stream(number) {
-            stream.close();
+            stream.close(now);
         }
     }
 
@@ -276,11 +532,11 @@ impl Wires {
     pub(crate) fn settle(&mut self) {
         self.stop_listening();
         for stream in self.streams.iter_mut() {
-            stream.close();
+            stream.close(self.now);
         }
         for _ in 0..SETTLING_WAITS {
             self.tidy();
-            if self.streams.is_empty() || self.wait(SETTLING_WAIT).is_err() {
+            if self.streams.is_empty() || self.wait(Duration::from_millis(SETTLING_WAIT)).is_err() {
                 return;
             }
         }
@@ -300,27 +556,43 @@ impl Wires {
             .find(|stream| stream.number() == number)
     }
 
-    // Registers a socket, and keeps it as this stream. Returns whether it could.
-    fn keep(&mut self, alloc: Global, number: u64, socket: TcpStream) -> bool {
+    // Registers a socket, and keeps it as this stream.
+    fn keep(
+        &mut self,
+        alloc: Global,
+        number: u64,
+        beginning: Beginning,
+        socket: TcpStream,
+    ) -> io::Result<()> {
         let mut socket = socket;
         let both = Interest::READABLE | Interest::WRITABLE;
         let registry = self.poll.registry();
-        let token = token_of(number);
-        if registry.register(&mut socket, token, both).is_err() {
-            return false;
-        }
+        registry.register(&mut socket, token_of(number), both)?;
         let _ = socket.set_nodelay(true);
-        let stream = Stream::new(alloc, number, Some(socket));
-        self.streams.push(stream).is_ok()
+        let _ = keep_alive(&socket);
+        let stream = Stream::new(alloc, number, beginning, self.now, socket);
+        Ok(self.streams.push(stream)?)
     }
 
-    // Forgets a stream that is closing.
+    // Forgets a stream that is closing: one of which all was written, where there is one.
     fn make_room(&mut self) {
-        if let Some(stream) = self.streams.iter_mut().find(|stream| stream.is_closing()) {
-            stream.forget();
+        let written = self.streams.iter().position(|stream| stream.is_written());
+        let closing = self.streams.iter().position(|stream| stream.is_closing());
+        if let Some(place) = written.or(closing) {
+            if let Some(stream) = self.streams.get_mut(place) {
+                stream.forget();
+            }
         }
         self.streams.retain(|stream| !stream.is_gone());
     }
+}
+
+fn open_fault(error: io::Error) -> LinkFault {
+    LinkFault::Open { error }
+}
+
+fn listen_fault(proto: Proto, at: SocketAddr, error: io::Error) -> LinkFault {
+    LinkFault::Listen { proto, at, error }
 }
 
 // What is known of a socket after a try that failed.

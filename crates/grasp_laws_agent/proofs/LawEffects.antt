@@ -60,7 +60,7 @@ choice_pool true x y h e f = e
 choice_pool false x y h e f = f
 
 -- the pool stays as it was where a session comes in
-incoming_pool : (s : AgentState) (o : Option Handle) → (after_incoming s o).pool ≡ s.pool
+pub incoming_pool : (s : AgentState) (o : Option Handle) → (after_incoming s o).pool ≡ s.pool
 incoming_pool s None = refl
 incoming_pool s (Some h) = choice_pool _ _ _ _ refl refl
 
@@ -69,7 +69,7 @@ registering_pool s None = refl
 registering_pool s (Some n) = refl
 
 -- an opening call leaves the pool
-opening_pool : (s : AgentState) (st : Stage) (r : Reply) → (after_opening (record s { stage = st }) r).pool ≡ s.pool
+pub opening_pool : (s : AgentState) (st : Stage) (r : Reply) → (after_opening (record s { stage = st }) r).pool ≡ s.pool
 opening_pool s stage.Registering r = registering_pool (record s { stage = stage.Registering }) (asa_in (answer_in r))
 opening_pool s stage.Declaring r = choice_pool _ _ _ _ refl refl
 opening_pool s stage.Opening r = choice_pool _ _ _ _ (incoming_pool (record s { stage = stage.Serving }) (incoming_in (answer_in r))) refl
@@ -81,13 +81,13 @@ starting_pool s (Some w) None = refl
 starting_pool s (Some w) (Some h) = refl
 
 -- the request of a want leaves the pool
-asking_pool : (s : AgentState) (r : Reply) → (after_asking s r).pool ≡ s.pool
+pub asking_pool : (s : AgentState) (r : Reply) → (after_asking s r).pool ≡ s.pool
 asking_pool s (reply.Refused x) = refl
 asking_pool s (reply.Api a) = starting_pool s s.want (started_in (Some a))
 asking_pool s _ = starting_pool s s.want None
 
 -- the request of a return leaves the pool, or its prefix goes back
-sending_pool : (s : AgentState) (b : Option Return) (o : Option Handle) → (after_sending s b o).pool ≡ s.pool
+pub sending_pool : (s : AgentState) (b : Option Return) (o : Option Handle) → (after_sending s b o).pool ≡ s.pool
 sending_pool s None o = refl
 sending_pool s (Some b) None = refl
 sending_pool s (Some b) (Some h) = refl
@@ -114,7 +114,7 @@ back_effect s r h idle next (Some b) e at (Some (progress.Ended o)) told =
 back_effect s r h idle next _ e at _ told = unchanged refl
 
 -- the progress of a want leaves the pool
-want_pool : (s : AgentState) (w : Option Want) (h : Handle) (p : Option Progress) → (after_want_progress s w h p).pool ≡ s.pool
+pub want_pool : (s : AgentState) (w : Option Want) (h : Handle) (p : Option Progress) → (after_want_progress s w h p).pool ≡ s.pool
 want_pool s None h p = refl
 want_pool s (Some w) h None = refl
 want_pool s (Some w) h (Some progress.NotYet) = refl

@@ -35,7 +35,7 @@ use Rattle.grasp_agent.proofs.Keeping.{opened, new_kept, kept_incoming, kept_dro
 use Rattle.grasp_agent.proofs.Returning.{kept_returning, kept_handed, kept_unsent, kept_heard}
 
 -- an agent that has made shut call
-kept_first : (h : Holding) → IsPool h → h.reserved ≡ [] → IsKept (first_agent h)
+pub kept_first : (h : Holding) → IsPool h → h.reserved ≡ [] → IsKept (first_agent h)
 kept_first h pool none = record {
   pool = pool;
   few = omega arith;

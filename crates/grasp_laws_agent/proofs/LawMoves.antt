@@ -201,6 +201,14 @@ finishing s r h o (n, told) =
 
 -- ---- acts
 
+-- an acceptance that is done gains its prefix
+pub accepted_gains : (s : AgentState) (h : Handle) (p : Prefix) → s.act ≡ Some (act.Accept h p) → IsKept s → Gains s.pool (after_gaining s.pool p) p
+accepted_gains s h p is k =
+    let stands : ActStands s (act.Accept h p) = act_stands s (act.Accept h p) is k
+    in let new = (can_gain_tells s.pool p).0 stands.2
+    in let gained : after_gaining s.pool p ≡ after_gain s.pool p = ap (λ b. cond b (after_gain s.pool p) s.pool) stands.2
+    in subst (λ x. Gains s.pool x p) (sym gained) (gain_means s.pool p k.pool stands.1 new.0)
+
 making : (s : AgentState) (r : Reply) (a : Act) → IsKept s → Happens s r (is_made a) → Effect s (is_made a) (after_reply s r)
 making s r a k (is, done) =
     let e : after_reply s r ≡ after_doing s a
@@ -208,11 +216,7 @@ making s r a k (is, done) =
     in subst (Effect s (is_made a)) (sym e) (by a is)
   where
     by : (x : Act) → s.act ≡ Some x → Effect s (is_made x) (after_doing s x)
-    by (act.Accept h p) f =
-        let stands : ActStands s (act.Accept h p) = act_stands s (act.Accept h p) f k
-        in let new = (can_gain_tells s.pool p).0 stands.2
-        in let gained : after_gaining s.pool p ≡ after_gain s.pool p = ap (λ b. cond b (after_gain s.pool p) s.pool) stands.2
-        in (refl, (refl, refl), refl, refl, subst (λ x. Gains s.pool x p) (sym gained) (gain_means s.pool p k.pool stands.1 new.0))
+    by (act.Accept h p) f = (refl, (refl, refl), refl, refl, accepted_gains s h p f k)
     by _ f = (refl, (refl, refl), refl, refl, refl)
 
 -- an act is dropped

@@ -1,4 +1,5 @@
 pub mod Facts
+pub mod LawChanges
 pub mod LawCursors
 pub mod LawDuties
 pub mod LawEffects

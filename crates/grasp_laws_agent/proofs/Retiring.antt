@@ -56,7 +56,7 @@ act_offers s _ is p e = absurd (cc)
 return_offers : (s t : AgentState) → s.back ≡ t.back → (p : Prefix) → IsToBeReturned s p → IsToBeOffered t p
 return_offers s t same p r = by_return r.0 (sym same ∙ r.1) r.2 r.3
 
-unsent_now : (r : Return) → r.session ≡ None → unsent_of (Some r) ≡ Some r.prefix
+pub unsent_now : (r : Return) → r.session ≡ None → unsent_of (Some r) ≡ Some r.prefix
 unsent_now r none = rw none refl
 
 -- at the end of its life it has nothing to offer

@@ -1,6 +1,7 @@
 //! What the decisions of an agent of PrefixManager mean for addresses.
 
 ghost use Rattle.grasp_agent.specs.Deciding.{GiversDecide, RequestersDecide};
+ghost use Rattle.grasp_laws_agent.specs.Changes.{RepliesChangePools};
 ghost use Rattle.grasp_laws_agent.specs.Moves.{MovesAreMade, NothingElseMoves, CursorsTurn, OpeningsGoOn, OpeningsEnd};
 ghost use Rattle.grasp_laws_agent.specs.Next.{NextCallsAre};
 ghost use Rattle.grasp_agent.specs.Announcing.{ReadersAgree};
@@ -86,4 +87,11 @@ pub fn offers_stay_listed()
 /// An address becomes free only with an offer that goes back, or with an acceptance that is done.
 pub fn gains_are_accepted()
     ensures { GainsAreAccepted }
+{}
+
+/// The pool after a reply is the one before with just the change that the reply makes: nothing, a prefix gained, given, back or
+/// in doubt, or at a giver's turn its last offer back and the new one reserved.
+#[tactic(auto, using(crate::proofs::LawChanges::replies_change_pools))]
+pub fn replies_change_pools()
+    ensures { RepliesChangePools }
 {}

@@ -1,5 +1,5 @@
 -- What each agent of prefixes of a network offers stands as it is to, and what its next call makes of that.
-use Rattle.std.proofs.Common.{◌≡◌, refl, sym, ap, ◌∙◌, subst, arith, ℕ, ◌-◌, List, [], Contains, inl, inr, slice_get, Option, None, Some, Ok, Err, Result}
+use Rattle.std.proofs.Common.{◌≡◌, refl, sym, ap, ◌∙◌, subst, arith, ℕ, List, [], Contains, inl, inr, slice_get, Option, None, Some, Ok, Err, Result}
 use Rattle.std.proofs.lemmas.Option.{none-some}
 use Rattle.grasp_laws_agent.proofs.LawKept.{kept_event, kept_reply}
 use Rattle.grasp_laws_agent.proofs.Retiring.{agents_retire, settling_keeps}

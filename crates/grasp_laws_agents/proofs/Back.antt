@@ -1,6 +1,7 @@
 -- The return of a prefix: its request begins a session or is refused, and that session ends.
 use Rattle.std.proofs.Common.{◌≡◌, ◌≢◌, ◌⊎◌, refl, sym, ap, ◌∙◌, subst, inl, inr, ℕ, None, Some, Contains, List, slice_get}
 use Rattle.std.proofs.lemmas.Option.{none-some}
+use Rattle.grasp_laws_agent.proofs.Retiring.{unsent_now}
 use Rattle.grasp_laws_agent.specs.Moves.{hands, is_unsent, hears, Effect, Settled}
 use Rattle.grasp_agent.specs.States.{AgentState, back_session, unsent_of, want_session}
 use Rattle.grasp_agent.specs.declared.back.Return.{Return}
@@ -24,9 +25,6 @@ use Rattle.grasp_laws_agents.specs.Giving.{HasOffered, IsOpenOffer, IsOwnSession
 use Rattle.grasp_laws_agents.specs.OfferLaws.{FreedBy, WasOffered, was_there, just_requested, was_gone}
 
 -- ---- the request of a return
-
-unsent_now : (v : Return) → v.session ≡ None → unsent_of (Some v) ≡ Some v.prefix
-unsent_now v none = rw none refl
 
 -- the return of the agent is this one, which wasn't requested
 module _ (a : AgentState) (v : Return) (is : a.back ≡ Some v) (none : v.session ≡ None) where

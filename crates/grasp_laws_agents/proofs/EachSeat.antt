@@ -24,7 +24,7 @@ use Rattle.grasp_types.specs.declared.reply.Reply.{Reply}
 use Rattle.grasp_types.specs.declared.reply.Reply.TheVariants as reply
 use Rattle.grasp_types.specs.declared.traffic.Input.{Input}
 use Rattle.grasp_types.specs.declared.traffic.Input.TheVariants as input
-use Rattle.grasp_laws_network.proofs.EachNode.{IsMade, is_made}
+use Rattle.grasp_laws_network.proofs.EachNode.{IsMade, drain_steps, is_made}
 use Rattle.grasp_laws_network.proofs.Ended.{put_life}
 use Rattle.grasp_laws_network.proofs.Here.{visits_are_here}
 use Rattle.grasp_laws_network.proofs.Others.{arrived_keeps, delivered_keeps, told_keeps}
@@ -108,21 +108,18 @@ AtSeat P life seat = P seat.core seat.agent
 
 -- ---- a drain
 
-drain_steps : (n : NodeState) (max : ℕ) (x : Coming) → NodeStep n n.reading (input.Drain max) x (reply.Outputs (drained (begin n n.reading) max)) (after_drain (begin n n.reading) max)
-drain_steps n max x = record { is_coming = tt; acts = (refl, refl) }
-
 module _ (P : NodeState → AgentState → Type 0) (keep : Keeps P) (s : Setting) where
   drained_by : (w : WorldState) (node max : ℕ) (o : Option Seat) → 1 ≤ node → seat_at w node ≡ o → OfEachSeat P w → OfEachSeat P (drained_at s w node max o)
   drained_by w node max None least here each = each
   drained_by w node max (Some seat) least here each =
       from (begin seat.core seat.core.reading)
       (keep.others seat.core (after_drain (begin seat.core seat.core.reading) max) seat.agent seat.core.reading (input.Drain max) no_choice.coming
-      (reply.Outputs (drained (begin seat.core seat.core.reading) max)) (each node seat here) tt (drain_steps seat.core max no_choice.coming))
+      (reply.Outputs (drained (begin seat.core seat.core.reading) max)) (each node seat here) tt (drain_steps seat.core seat.core.reading max no_choice.coming))
     where
       from : (m : NodeState) → P (after_drain m max) seat.agent → OfEachSeat P (drained_from s w node seat m max)
       from m p =
-          put_life (AtSeat P) w (drained_from s w node seat m max) node (seat_with seat (after_drain m max) seat.agent) least
-          (sending_keeps_nodes s (with_seat w node (seat_with seat (after_drain m max) seat.agent)) node seat (take max m.queue) (closes m max)) p each
+          put_life (AtSeat P) w (drained_from s w node seat m max) node (seat_with (after_drain m max) seat.agent) least
+          (sending_keeps_nodes s (with_seat w node (seat_with (after_drain m max) seat.agent)) node (take max m.queue) (closes m max)) p each
 
   drained_each : (w : WorldState) (node max : ℕ) → 1 ≤ node → OfEachSeat P w → OfEachSeat P (network.drained s w node max)
   unfolding network.drained
@@ -137,7 +134,7 @@ module _ (P : NodeState → AgentState → Type 0) (keep : Keeps P) (s : Setting
   stepped_each : (w x y : WorldState) (v : Visit) (core : NodeState) (agent : AgentState) → 1 ≤ v.node → x.seats ≡ w.seats → y.seats ≡ (stepped x v core agent).seats → P core agent → OfEachSeat P w
       → OfEachSeat P y
   unfolding stepped
-  stepped_each w x y v core agent least e f p each = put_life (AtSeat P) w y v.node (seat_with v.seat core agent) least (f ∙ ap (λ seats. slice_set seats (v.node - 1) (seat_with v.seat core agent)) e) p each
+  stepped_each w x y v core agent least e f p each = put_life (AtSeat P) w y v.node (seat_with core agent) least (f ∙ ap (λ seats. slice_set seats (v.node - 1) (seat_with core agent)) e) p each
 
   visit_each : (w : WorldState) (e : Event) (v : Visit) (c : Choice) → visit_of s w e ≡ Some v → IsFit s w e → IsHere w v → NodeStep v.seat.core v.now v.input c.coming c.reply c.after → OfEachSeat P w
       → OfEachSeat P (after_visit s w e v c)
@@ -177,7 +174,7 @@ module _ (P : NodeState → AgentState → Type 0) (keep : Keeps P) (s : Setting
   told_each : (w : WorldState) (e : Event) → OfEachSeat P w → (after_none s w e ≡ w) ⊎ Tells s w e (after_none s w e) → OfEachSeat P (after_none s w e)
   told_each w e each (inl same) = subst (OfEachSeat P) (sym same) each
   told_each w e each (inr t) =
-      put_life (AtSeat P) w (after_none s w e) t.telling.node (seat_with t.seat t.seat.core (agent.after_event t.seat.agent t.telling.what)) (one_least w (after_none s w e) (one_agent s w e (after_none s w e) t))
+      put_life (AtSeat P) w (after_none s w e) t.telling.node (seat_with t.seat.core (agent.after_event t.seat.agent t.telling.what)) (one_least w (after_none s w e) (one_agent s w e (after_none s w e) t))
       (ap (λ (x : WorldState). x.seats) t.after) (keep.told t.seat.core t.seat.agent t.telling.what t.possible t.no_reply (each t.telling.node t.seat t.here)) each
 
   -- ---- an event

@@ -48,7 +48,7 @@ streams_before s w (event.Cut stream far hold) v c = (told w (reached_side w str
 streams_before s w _ v c = w.streams
 
 pub streams_stepped : (s : Setting) (w : WorldState) (e : Event) (v : Visit) (c : Choice) → IsStep e
-    → (after_visit s w e v c).streams ≡ streams_made v.node v.seat (streams_before s w e v c) (gained v.seat.core c.after)
+    → (after_visit s w e v c).streams ≡ streams_made v.node (streams_before s w e v c) (gained v.seat.core c.after)
 unfolding after_clock after_agent after_agent_call after_delivery after_arrival after_piece after_cut noted stepped
 streams_stepped s w (event.Want node length longest peer) v c is = absurd is
 streams_stepped s w (event.Return node prefix peer) v c is = absurd is
@@ -59,11 +59,11 @@ streams_stepped s w _ v c is = refl
 pub record SeatsPut (w x : WorldState) (v : Visit) (c : Choice) : Type 0 where
   pub agent : AgentState
   pub agent_is : (agent ≡ v.seat.agent) ⊎ (agent ≡ after_reply v.seat.agent c.reply)
-  pub seats : x.seats ≡ slice_set w.seats (v.node - 1) (seat_with v.seat c.after agent)
+  pub seats : x.seats ≡ slice_set w.seats (v.node - 1) (seat_with c.after agent)
 
 put_in : (w x y : WorldState) (v : Visit) (c : Choice) (agent : AgentState) → (agent ≡ v.seat.agent) ⊎ (agent ≡ after_reply v.seat.agent c.reply) → x.seats ≡ w.seats → y.seats ≡ (stepped x v c.after agent).seats → SeatsPut w y v c
 unfolding stepped
-put_in w x y v c agent is e f = record { agent = agent; agent_is = is; seats = f ∙ ap (λ seats. slice_set seats (v.node - 1) (seat_with v.seat c.after agent)) e }
+put_in w x y v c agent is e f = record { agent = agent; agent_is = is; seats = f ∙ ap (λ seats. slice_set seats (v.node - 1) (seat_with c.after agent)) e }
 
 pub seats_stepped : (s : Setting) (w : WorldState) (e : Event) (v : Visit) (c : Choice) → IsStep e → SeatsPut w (after_visit s w e v c) v c
 unfolding after_clock after_agent after_agent_call after_delivery after_arrival after_piece after_cut noted
@@ -86,14 +86,14 @@ seats_stepped s w (event.Drain node max) v c is = absurd is
 
 -- what is so of the node of the step, and of every other one
 pub each_seat : (P : ℕ → Seat → Type 0) (w x : WorldState) (v : Visit) (c : Choice) → 1 ≤ v.node → SeatsPut w x v c
-    → ((agent : AgentState) → (agent ≡ v.seat.agent) ⊎ (agent ≡ after_reply v.seat.agent c.reply) → seat_at x v.node ≡ Some (seat_with v.seat c.after agent) → P v.node (seat_with v.seat c.after agent))
+    → ((agent : AgentState) → (agent ≡ v.seat.agent) ⊎ (agent ≡ after_reply v.seat.agent c.reply) → seat_at x v.node ≡ Some (seat_with c.after agent) → P v.node (seat_with c.after agent))
     → ((node : ℕ) (seat : Seat) → node ≢ v.node → seat_at w node ≡ Some seat → P node seat) → (node : ℕ) (seat : Seat) → seat_at x node ≡ Some seat → P node seat
 each_seat P w x v c least put own others node seat found =
-    by_node (put_or w.seats v.node (seat_with v.seat c.after put.agent) node seat least (subst (λ seats. numbered seats node ≡ Some seat) put.seats found)) where
-      by_node : IsPutOr w.seats v.node (seat_with v.seat c.after put.agent) node seat → P node seat
+    by_node (put_or w.seats v.node (seat_with c.after put.agent) node seat least (subst (λ seats. numbered seats node ≡ Some seat) put.seats found)) where
+      by_node : IsPutOr w.seats v.node (seat_with c.after put.agent) node seat → P node seat
       by_node (inl t) =
           subst (λ k. P k seat) (sym t.0)
-          (subst (λ (y : Seat). P v.node y) t.1 (own put.agent put.agent_is (subst (λ k. seat_at x k ≡ Some (seat_with v.seat c.after put.agent)) t.0 (found ∙ ap (λ (y : Seat). Some y) (sym t.1)))))
+          (subst (λ (y : Seat). P v.node y) t.1 (own put.agent put.agent_is (subst (λ k. seat_at x k ≡ Some (seat_with c.after put.agent)) t.0 (found ∙ ap (λ (y : Seat). Some y) (sym t.1)))))
       by_node (inr t) = others node seat t.0 t.1
 
 -- ---- a drain
@@ -104,15 +104,15 @@ posted_each P w m None each = each
 posted_each P w m (Some route) each = each
 
 -- the node is put as the drain leaves it
-pub each_drained : (P : ℕ → Seat → Type 0) (s : Setting) (w : WorldState) (node : ℕ) (seat : Seat) (m : NodeState) (max : ℕ) → 1 ≤ node → P node (seat_with seat (after_drain m max) seat.agent)
+pub each_drained : (P : ℕ → Seat → Type 0) (s : Setting) (w : WorldState) (node : ℕ) (seat : Seat) (m : NodeState) (max : ℕ) → 1 ≤ node → P node (seat_with (after_drain m max) seat.agent)
     → ((n : ℕ) (other : Seat) → n ≢ node → seat_at w n ≡ Some other → P n other) → (n : ℕ) (other : Seat) → seat_at (drained_from s w node seat m max) n ≡ Some other → P n other
 each_drained P s w node seat m max least own others n other found =
     by_node (put_or w.seats node put n other least (subst (λ seats. numbered seats n ≡ Some other) kept found)) where
       put : Seat
-      put = seat_with seat (after_drain m max) seat.agent
+      put = seat_with (after_drain m max) seat.agent
 
       kept : (drained_from s w node seat m max).seats ≡ slice_set w.seats (node - 1) put
-      kept = sending_keeps_nodes s (with_seat w node put) node seat (take max m.queue) (closes m max)
+      kept = sending_keeps_nodes s (with_seat w node put) node (take max m.queue) (closes m max)
 
       by_node : IsPutOr w.seats node put n other → P n other
       by_node (inl t) = subst (λ k. P k other) (sym t.0) (subst (λ (y : Seat). P node y) t.1 own)
@@ -121,11 +121,11 @@ each_drained P s w node seat m max least own others n other found =
 -- ---- another agent
 
 -- what is so of each node and of the streams stays so, if it does of the node whose agent is another one
-pub agent_keeps : (P : List StreamState → ℕ → Seat → Type 0) (w x : WorldState) (o : OneAgent w x) → (P w.streams o.node o.seat → P w.streams o.node (seat_with o.seat o.seat.core o.agent))
+pub agent_keeps : (P : List StreamState → ℕ → Seat → Type 0) (w x : WorldState) (o : OneAgent w x) → (P w.streams o.node o.seat → P w.streams o.node (seat_with o.seat.core o.agent))
     → ((node : ℕ) (seat : Seat) → seat_at w node ≡ Some seat → P w.streams node seat) → (node : ℕ) (seat : Seat) → seat_at x node ≡ Some seat → P x.streams node seat
 agent_keeps P w x o own each = subst (λ (y : WorldState). (n : ℕ) (other : Seat) → seat_at y n ≡ Some other → P y.streams n other) (sym o.after) put where
-  put : (n : ℕ) (other : Seat) → seat_at (with_seat w o.node (seat_with o.seat o.seat.core o.agent)) n ≡ Some other → P w.streams n other
-  put n other found = by_node (put_or w.seats o.node (seat_with o.seat o.seat.core o.agent) n other (one_least w x o) found) where
-    by_node : IsPutOr w.seats o.node (seat_with o.seat o.seat.core o.agent) n other → P w.streams n other
+  put : (n : ℕ) (other : Seat) → seat_at (with_seat w o.node (seat_with o.seat.core o.agent)) n ≡ Some other → P w.streams n other
+  put n other found = by_node (put_or w.seats o.node (seat_with o.seat.core o.agent) n other (one_least w x o) found) where
+    by_node : IsPutOr w.seats o.node (seat_with o.seat.core o.agent) n other → P w.streams n other
     by_node (inl t) = subst (λ k. P w.streams k other) (sym t.0) (subst (λ (y : Seat). P w.streams o.node y) t.1 (own (each o.node o.seat o.here)))
     by_node (inr t) = each n other t.1

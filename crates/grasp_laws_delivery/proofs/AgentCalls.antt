@@ -1,17 +1,13 @@
--- What the agent of a node calls is in range, and it stays the agent that it is.
-use Rattle.std.proofs.Common.{◌≡◌, ◌≤◌, ◌<◌, ◌^◌, arith, [], None, Some}
-use Rattle.std.proofs.lemmas.List.Elements.{All-nil}
-use Rattle.grasp_laws_agent.proofs.LawKept.{kept_event, agents_are_kept}
+-- What the agent of a node calls is in range.
+use Rattle.std.proofs.Common.{◌≤◌, ◌<◌, ◌^◌, arith, None, Some}
 use Rattle.grasp_laws_agent.proofs.LawNext.{next_calls_are}
 use Rattle.grasp_laws_agent.proofs.LawSending.{calls_are_short}
 use Rattle.grasp_agent.specs.Calls.{act_call, duty_call, opening_call, next_call}
 use Rattle.grasp_agent.specs.Kept.{IsKept}
-use Rattle.grasp_agent.specs.Laws.{IsPossible}
 use Rattle.grasp_agent.specs.Reopening.{MayReopen}
-use Rattle.grasp_agent.specs.Replies.{AgentEvent, after_event}
 use Rattle.grasp_laws_agent.specs.Next.{NextIs, opens, acts, requests, hands_back, does}
 use Rattle.grasp_laws_agent.specs.Sending.{IsShortCall, IsShortVerdict}
-use Rattle.grasp_agent.specs.States.{AgentState, first_agent}
+use Rattle.grasp_agent.specs.States.{AgentState}
 use Rattle.grasp_agent.specs.declared.act.Act.{Act}
 use Rattle.grasp_agent.specs.declared.act.Act.TheVariants.{Offer}
 use Rattle.grasp_agent.specs.declared.duty.Duty.{Duty}
@@ -20,7 +16,6 @@ use Rattle.grasp_agent.specs.declared.stage.Stage.{Stage}
 use Rattle.grasp_agent.specs.declared.stage.Stage.TheVariants.{Declaring}
 use Rattle.grasp_pool.proofs.Opening.{reopened_pool}
 use Rattle.grasp_pool.specs.Functions.{pool_of_image}
-use Rattle.grasp_pool.specs.Holdings.{Holding}
 use Rattle.grasp_pool.specs.Pools.{IsPool}
 use Rattle.grasp_pool.specs.declared.image.PoolImage.{PoolImage}
 use Rattle.grasp_laws_network.proofs.Begun.{reopened}
@@ -87,14 +82,6 @@ short_is _ h k = tt
 
 pub agent_call_is : (s : AgentState) → IsKept s → IsCall (next_call s)
 agent_call_is s k = short_is (next_call s) (calls_are_short s k) (modest_call s (next_call s) (next_calls_are s))
-
--- ---- the agent stays kept
-
-pub told_kept : (s : AgentState) (e : AgentEvent) → IsPossible e → IsKept s → IsKept (after_event s e)
-told_kept = kept_event
-
-pub fresh_kept : (h : Holding) → IsPool h → h.reserved ≡ [] → IsKept (first_agent h)
-fresh_kept h pool none = agents_are_kept h [] pool none (All-nil (λ e. IsPossible e))
 
 -- the pool of an image by which an agent may be opened anew
 pub image_pool : (a : AgentState) (image : PoolImage) → MayReopen a image → IsPool (pool_of_image image)

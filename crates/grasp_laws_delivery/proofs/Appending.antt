@@ -31,10 +31,10 @@ put_nodes Q seats node seat least own others n x found = by_node (n == node) ref
   by_node false is = let apart : n ≢ node = eqb-false n node is in others n x apart (sym (put_elsewhere seats node n seat least apart) ∙ found)
 
 module _ (s : Setting) (seats : List Seat) (hs : List Head) (dials : ℕ) (k : AreKept s seats hs dials) (node : ℕ) (seat after : Seat) (more : List Queued) (member : IsNode (length seats) node)
-    (here : numbered seats node ≡ Some seat) (life : after.earlier ≡ seat.earlier) (queued : after.core.queue ≡ seat.core.queue ++ more)
+    (here : numbered seats node ≡ Some seat) (queued : after.core.queue ≡ seat.core.queue ++ more)
     (records : RecordsKnown (λ n. IsArrived hs node n) after.core) (follows : Follows (λ n. IsArrived hs node n) seat.core.streams.dialled more after.core.streams.dialled) where
   abbrev made : List Head
-  made = made_heads 0 node more
+  made = made_heads node more
 
   fars : FarsStay hs (hs ++ made)
   fars e f = far_more e hs made f
@@ -68,7 +68,6 @@ module _ (s : Setting) (seats : List Seat) (hs : List Head) (dials : ℕ) (k : A
 
   own : NodeKept (hs ++ made) node after
   own = record {
-    life = life ∙ was.life;
     queue = own_queue;
     records = records_wider (λ n. IsArrived hs node n) (λ n. IsArrived (hs ++ made) node n) (arrived_stays hs (hs ++ made) fars node) after.core records;
     nears = own_nears;
@@ -90,7 +89,7 @@ module _ (s : Setting) (seats : List Seat) (hs : List Head) (dials : ℕ) (k : A
   counted : (j : ℕ) → 1 ≤ j → j ≤ dials → count_by (has_number j) (hs ++ made) ≡ 1
   counted j least most =
       let a : count_by (has_number j) (hs ++ made) ≡ count_by (has_number j) hs + count_by (has_number j) made = count_append (has_number j) hs made in
-      let b : count_by (has_number j) made ≡ 0 = count_none (has_number j) made (made_unnumbered 0 node j more) in
+      let b : count_by (has_number j) made ≡ 0 = count_none (has_number j) made (made_unnumbered node j more) in
       let c : count_by (has_number j) hs ≡ 1 = k.once j least most in
       omega (arith, a, b, c)
 

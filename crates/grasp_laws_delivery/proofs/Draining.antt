@@ -29,7 +29,7 @@ use Rattle.grasp_model_network.specs.Setting.{Setting, numbered}
 use Rattle.grasp_model_network.specs.Streams.{StreamEnd, with_number, with_sent, with_ended}
 use Rattle.grasp_model_network.specs.Visits.{no_choice}
 use Rattle.grasp_model_network.specs.World.{Seat, WorldState, end_of, member_of, seat_at, with_seat}
-use Rattle.grasp_laws_delivery.specs.Heads.{heads, first_end}
+use Rattle.grasp_laws_delivery.specs.Heads.{heads}
 use Rattle.grasp_laws_delivery.specs.Kept.{IsArrived, QueueKept, NodeKept, GoodHead, StreamsKept}
 use Rattle.grasp_laws_delivery.specs.Ready.{Every, FarWaits}
 use Rattle.grasp_laws_delivery.proofs.Appending.{put_nodes}
@@ -47,12 +47,7 @@ pub record Goes (s : Setting) (seats : List Seat) (nodes node : ℕ) (core : Nod
   pub sending : AreSending s seats nodes node core (heads w.streams) w.dials qs
   pub waits : Every FarWaits w.streams
 
-module _ (s : Setting) (good : IsGoodSetting s) (seats : List Seat) (nodes node : ℕ) (core : NodeState) (seat : Seat) (first : seat.earlier ≡ []) where
-  end_is : (stream : ℕ) → end_of node seat stream ≡ first_end node stream
-  end_is stream = ap (λ (earlier : List NodeState). made (length earlier)) first where
-    made : ℕ → StreamEnd
-    made life = record { node = node; life = life; number = stream }
-
+module _ (s : Setting) (good : IsGoodSetting s) (seats : List Seat) (nodes node : ℕ) (core : NodeState) where
   goes_datagram : (link to : ℕ) (m : Message) (qs : List Queued) (w : WorldState) (r : Option Route) → Goes s seats nodes node core (datagram link to m ∷ qs) w → Goes s seats nodes node core qs (posted w m r)
   goes_datagram link to m qs w None g = record { sending = sends_datagram s good seats nodes node core (heads w.streams) w.dials link to m qs g.sending; waits = g.waits }
   goes_datagram link to m qs w (Some route) g = record { sending = sends_datagram s good seats nodes node core (heads w.streams) w.dials link to m qs g.sending; waits = g.waits }
@@ -64,33 +59,33 @@ module _ (s : Setting) (good : IsGoodSetting s) (seats : List Seat) (nodes node 
     waits = change_waits (with_sent m) (sent_waits m) e w.streams g.waits;
   }
 
-  goes_dial : (stream : ℕ) (to : Locator) (qs : List Queued) (w : WorldState) → Goes s seats nodes node core (dial stream to ∷ qs) w → Goes s seats nodes node core qs (dialled w (first_end node stream))
+  goes_dial : (stream : ℕ) (to : Locator) (qs : List Queued) (w : WorldState) → Goes s seats nodes node core (dial stream to ∷ qs) w → Goes s seats nodes node core qs (dialled w (end_of node stream))
   goes_dial stream to qs w g = record {
-    sending = subst (λ hs. AreSending s seats nodes node core hs (w.dials + 1) qs) (sym (change_numbers (first_end node stream) (w.dials + 1) w.streams))
+    sending = subst (λ hs. AreSending s seats nodes node core hs (w.dials + 1) qs) (sym (change_numbers (end_of node stream) (w.dials + 1) w.streams))
         (sends_dial s good seats nodes node core (heads w.streams) w.dials stream to qs g.sending);
-    waits = change_waits (with_number (w.dials + 1)) (number_waits (w.dials + 1)) (first_end node stream) w.streams g.waits;
+    waits = change_waits (with_number (w.dials + 1)) (number_waits (w.dials + 1)) (end_of node stream) w.streams g.waits;
   }
 
-  goes_one : (q : Queued) (qs : List Queued) (w : WorldState) → Goes s seats nodes node core (q ∷ qs) w → Goes s seats nodes node core qs (having_sent s node seat w q)
+  goes_one : (q : Queued) (qs : List Queued) (w : WorldState) → Goes s seats nodes node core (q ∷ qs) w → Goes s seats nodes node core qs (having_sent s node w q)
   goes_one (datagram link to m) qs w g = goes_datagram link to m qs w (route_of s (member_of w node) link to) g
-  goes_one (dial stream to) qs w g = subst (λ e. Goes s seats nodes node core qs (dialled w e)) (sym (end_is stream)) (goes_dial stream to qs w g)
-  goes_one (send stream m) qs w g = goes_message (end_of node seat stream) stream m qs w g
+  goes_one (dial stream to) qs w g = goes_dial stream to qs w g
+  goes_one (send stream m) qs w g = goes_message (end_of node stream) stream m qs w g
 
-  pub goes_all : (qs rest : List Queued) (w : WorldState) → Goes s seats nodes node core (qs ++ rest) w → Goes s seats nodes node core rest (fold (having_sent s node seat) w qs)
+  pub goes_all : (qs rest : List Queued) (w : WorldState) → Goes s seats nodes node core (qs ++ rest) w → Goes s seats nodes node core rest (fold (having_sent s node) w qs)
   goes_all [] rest w g = g
-  goes_all (q ∷ qs) rest w g = goes_all qs rest (having_sent s node seat w q) (goes_one q (qs ++ rest) w g)
+  goes_all (q ∷ qs) rest w g = goes_all qs rest (having_sent s node w q) (goes_one q (qs ++ rest) w g)
 
-  pub goes_closed : (qs : List Queued) (streams : List ℕ) (w : WorldState) → Goes s seats nodes node core qs w → Goes s seats nodes node core qs (fold (having_closed node seat) w streams)
+  pub goes_closed : (qs : List Queued) (streams : List ℕ) (w : WorldState) → Goes s seats nodes node core qs w → Goes s seats nodes node core qs (fold (having_closed node) w streams)
   goes_closed qs [] w g = g
   goes_closed qs (stream ∷ streams) w g =
-      goes_closed qs streams (having_closed node seat w stream) (record {
-        sending = subst (λ hs. AreSending s seats nodes node core hs w.dials qs) (sym (change_keeps with_ended ended_keeps (end_of node seat stream) w.streams)) g.sending;
-        waits = change_waits with_ended ended_waits (end_of node seat stream) w.streams g.waits;
+      goes_closed qs streams (having_closed node w stream) (record {
+        sending = subst (λ hs. AreSending s seats nodes node core hs w.dials qs) (sym (change_keeps with_ended ended_keeps (end_of node stream) w.streams)) g.sending;
+        waits = change_waits with_ended ended_waits (end_of node stream) w.streams g.waits;
       })
 
-  pub goes_over : (qs rest : List Queued) (streams : List ℕ) (w : WorldState) → Goes s seats nodes node core (qs ++ rest) w → Goes s seats nodes node core rest (handed_over s w node seat qs streams)
+  pub goes_over : (qs rest : List Queued) (streams : List ℕ) (w : WorldState) → Goes s seats nodes node core (qs ++ rest) w → Goes s seats nodes node core rest (handed_over s w node qs streams)
   unfolding handed_over
-  goes_over qs rest streams w g = goes_closed rest streams (fold (having_sent s node seat) w qs) (goes_all qs rest w g)
+  goes_over qs rest streams w g = goes_closed rest streams (fold (having_sent s node) w qs) (goes_all qs rest w g)
 
 -- ---- a drain
 
@@ -107,10 +102,10 @@ module _ (ties : TiesAreKept) (s : Setting) (good : IsGoodSetting s) (w : WorldS
   records : RecordsKnown (λ n. IsArrived (heads w.streams) node n) core
   records =
       (sends_follow ties (λ n. IsArrived (heads w.streams) node n) seat.core core seat.core.reading (input.Drain max) no_choice.coming (reply.Outputs (drained begun max)) sound tied was.records tt
-      (drain_steps seat.core max no_choice.coming)).records
+      (drain_steps seat.core seat.core.reading max no_choice.coming)).records
 
   facts : (core.streams.dialled ≡ seat.core.streams.dialled) × (core.queue ≡ drop max seat.core.queue)
-  facts = drains_dial_nothing seat.core core seat.core.reading max no_choice.coming (reply.Outputs (drained begun max)) (drain_steps seat.core max no_choice.coming)
+  facts = drains_dial_nothing seat.core core seat.core.reading max no_choice.coming (reply.Outputs (drained begun max)) (drain_steps seat.core seat.core.reading max no_choice.coming)
 
   same_queue : begun.queue ≡ seat.core.queue
   same_queue = (beginnings_end seat.core seat.core.reading).0.queue
@@ -119,7 +114,7 @@ module _ (ties : TiesAreKept) (s : Setting) (good : IsGoodSetting s) (w : WorldS
   whole = sym (ap (λ q. take max q ++ core.queue) same_queue ∙ (ap (λ q. take max seat.core.queue ++ q) facts.1 ∙ take_drop max seat.core.queue))
 
   abbrev put : WorldState
-  put = with_seat w node (seat_with seat core seat.agent)
+  put = with_seat w node (seat_with core seat.agent)
 
   start : Goes s w.seats (length w.seats) node core (take max begun.queue ++ core.queue) put
   start = record {
@@ -136,18 +131,18 @@ module _ (ties : TiesAreKept) (s : Setting) (good : IsGoodSetting s) (w : WorldS
   }
 
   end : Goes s w.seats (length w.seats) node core core.queue (drained_from s w node seat begun max)
-  end = goes_over s good w.seats (length w.seats) node core seat was.life (take max begun.queue) core.queue (closes begun max) put start
+  end = goes_over s good w.seats (length w.seats) node core (take max begun.queue) core.queue (closes begun max) put start
 
-  seats_are : (drained_from s w node seat begun max).seats ≡ slice_set w.seats (node - 1) (seat_with seat core seat.agent)
-  seats_are = sending_keeps_nodes s put node seat (take max begun.queue) (closes begun max)
+  seats_are : (drained_from s w node seat begun max).seats ≡ slice_set w.seats (node - 1) (seat_with core seat.agent)
+  seats_are = sending_keeps_nodes s put node (take max begun.queue) (closes begun max)
 
-  finish : (x : WorldState) → x.seats ≡ slice_set w.seats (node - 1) (seat_with seat core seat.agent) → Goes s w.seats (length w.seats) node core core.queue x → StreamsKept s x
+  finish : (x : WorldState) → x.seats ≡ slice_set w.seats (node - 1) (seat_with core seat.agent) → Goes s w.seats (length w.seats) node core core.queue x → StreamsKept s x
   finish x e g = record {
     kept = record {
       nodes = λ n y there.
-          put_nodes (NodeKept (heads x.streams)) w.seats node (seat_with seat core seat.agent) (numbered_within w.seats node seat here).least
-          (record { life = was.life; queue = g.sending.queue; records = g.sending.records; nears = g.sending.nears }) g.sending.others n y (subst (λ seats. numbered seats n ≡ Some y) e there);
-      ends = subst (λ nodes. Every (GoodHead s nodes x.dials) (heads x.streams)) (sym (ap length e ∙ length-set w.seats (node - 1) (seat_with seat core seat.agent))) g.sending.ends;
+          put_nodes (NodeKept (heads x.streams)) w.seats node (seat_with core seat.agent) (numbered_within w.seats node seat here).least
+          (record { queue = g.sending.queue; records = g.sending.records; nears = g.sending.nears }) g.sending.others n y (subst (λ seats. numbered seats n ≡ Some y) e there);
+      ends = subst (λ nodes. Every (GoodHead s nodes x.dials) (heads x.streams)) (sym (ap length e ∙ length-set w.seats (node - 1) (seat_with core seat.agent))) g.sending.ends;
       once = g.sending.once;
     };
     waits = g.waits;

@@ -1,26 +1,22 @@
 -- Ends of streams, compared.
-use Rattle.std.proofs.Common.{◌≡◌, ◌≢◌, refl, sym, ap, ◌∙◌, ℕ, ◌==◌, ◌&&◌, Bool, true, false, cond, is_some, Option, Some, None}
+use Rattle.std.proofs.Common.{◌≡◌, ◌≢◌, refl, sym, ap, ◌∙◌, ℕ, ◌==◌, Bool, true, false, cond, is_some, Option, Some, None}
 use Rattle.std.proofs.lemmas.Bool.{and_parts, eqb-true, false_from_ne_true}
 use Rattle.grasp_laws_network.proofs.Routing.{is_itself}
 use Rattle.grasp_session.specs.Messages.{Near, Far}
 use Rattle.grasp_model_network.specs.Streams.{StreamEnd, is_same_end, is_at_end}
-use Rattle.grasp_laws_delivery.specs.Heads.{Head, has_head_end, first_end}
+use Rattle.grasp_model_network.specs.World.{end_of}
+use Rattle.grasp_laws_delivery.specs.Heads.{Head, has_head_end}
 
-abbrev end_with : ℕ → ℕ → ℕ → StreamEnd
-end_with node life number = record { node = node; life = life; number = number }
+pub parts_are : (e : StreamEnd) (node number : ℕ) → e.node ≡ node → e.number ≡ number → e ≡ end_of node number
+parts_are e node number a b = ap (λ n. end_of n e.number) a ∙ ap (end_of node) b
 
 pub same_ends : (e f : StreamEnd) → is_same_end e f ≡ true → e ≡ f
 same_ends e f h =
-    let a = and_parts (e.node == f.node) (e.life == f.life && e.number == f.number) h in
-    let b = and_parts (e.life == f.life) (e.number == f.number) a.1 in
-    ap (λ n. end_with n e.life e.number) (eqb-true e.node f.node a.0)
-    ∙ (ap (λ n. end_with f.node n e.number) (eqb-true e.life f.life b.0) ∙ ap (end_with f.node f.life) (eqb-true e.number f.number b.1))
+    let a = and_parts (e.node == f.node) (e.number == f.number) h in
+    parts_are e f.node f.number (eqb-true e.node f.node a.0) (eqb-true e.number f.number a.1)
 
 pub end_itself : (e : StreamEnd) → is_same_end e e ≡ true
-end_itself e = rw (is_itself e.node, is_itself e.life, is_itself e.number) refl
-
-pub parts_are : (e : StreamEnd) (node number : ℕ) → e.node ≡ node → e.life ≡ 0 → e.number ≡ number → e ≡ first_end node number
-parts_are e node number a b c = ap (λ n. end_with n e.life e.number) a ∙ (ap (λ n. end_with node n e.number) b ∙ ap (end_with node 0) c)
+end_itself e = rw (is_itself e.node, is_itself e.number) refl
 
 -- ends whose numbers differ aren't the same
 pub other_numbers : (e f : StreamEnd) → e.number ≢ f.number → is_same_end e f ≡ false

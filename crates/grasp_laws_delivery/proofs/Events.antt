@@ -1,8 +1,7 @@
 -- Each event leaves the streams of a network in order.
-use Rattle.std.proofs.Common.{◌≡◌, refl, sym, ap, subst, ℕ, true, List, [], length, map, Option, Some, None}
+use Rattle.std.proofs.Common.{◌≡◌, refl, sym, subst, ℕ, true, map, Option, Some, None}
 use Rattle.grasp_agent.specs.Replies.{after_reply}
 use Rattle.grasp_agent.specs.States.{AgentState}
-use Rattle.grasp_model_node.specs.Node.{NodeState}
 use Rattle.grasp_laws_node.specs.Consistent.{TiesAreKept}
 use Rattle.grasp_session.specs.Messages.{Side}
 use Rattle.grasp_types.specs.declared.reply.Reply.{Reply}
@@ -10,6 +9,7 @@ use Rattle.grasp_types.specs.declared.traffic.Input.{Input}
 use Rattle.grasp_types.specs.declared.traffic.Input.TheVariants as input
 use Rattle.grasp_laws_node.specs.Sends.{OpensOne}
 use Rattle.grasp_laws_network.proofs.Others.{arrived_keeps, delivered_keeps, told_keeps}
+use Rattle.grasp_model_network.proofs.Facts.{number_is}
 use Rattle.grasp_model_network.specs.EventSteps.{after_agent_call, after_agent, after_arrival, after_clock, after_cut, after_delivery, after_piece}
 use Rattle.grasp_model_network.specs.StreamChanges.{arrival_by, arrived, told, Reached, reached_side, side_named, delivered}
 use Rattle.grasp_model_network.specs.Events.{visit_of, after_visit}
@@ -22,7 +22,7 @@ use Rattle.grasp_model_network.specs.Visits.{Visit, Choice, VisitStep}
 use Rattle.grasp_model_network.specs.World.{WorldState, present_life, seat_at, end_of}
 use Rattle.grasp_model_network.specs.declared.event.Event.{Event}
 use Rattle.grasp_model_network.specs.declared.event.Event.TheVariants as event
-use Rattle.grasp_laws_delivery.specs.Heads.{head_of, heads, first_end}
+use Rattle.grasp_laws_delivery.specs.Heads.{head_of, heads}
 use Rattle.grasp_laws_delivery.specs.Kept.{IsArrived, AreKept, StreamsKept}
 use Rattle.grasp_laws_delivery.specs.Ready.{FarWaits}
 use Rattle.grasp_laws_delivery.proofs.Draining.{AreSound, drained_kept}
@@ -30,7 +30,6 @@ use Rattle.grasp_laws_delivery.proofs.EndMaps as streams
 use Rattle.grasp_laws_delivery.proofs.EndMaps.{KeepsHead, change_keeps, change_opens, opened_head}
 use Rattle.grasp_laws_delivery.proofs.HeadApart.{IsIn}
 use Rattle.grasp_laws_delivery.proofs.FarSides.{KeepsWaiting, delivered_waits, told_waits, opened_waits, reply_opens, change_waits}
-use Rattle.grasp_laws_delivery.proofs.FromReady.{numbered_so}
 use Rattle.grasp_laws_delivery.proofs.Inputs.{IsPlain, clock_input, agent_plain_input, datagram_input, piece_input, cut_input, Arrives, arrives, visit_input}
 use Rattle.grasp_laws_delivery.proofs.Opening.{IsFound, found_in, in_heads, opened, is_arrived}
 use Rattle.grasp_laws_delivery.proofs.Stepping.{TakesNone, IsSteppedAs, as_stepped}
@@ -70,21 +69,13 @@ pub record Opened (s : Setting) (x : WorldState) (node number : ℕ) : Type 0 wh
   pub arrived : IsArrived (heads x.streams) node number
 
 module _ (s : Setting) (good : IsGoodSetting s) (w : WorldState) (kept : StreamsKept s w) (v : Visit) (here : IsHere w v) (k : ℕ) where
-  first : v.seat.earlier ≡ []
-  first = (kept.kept.nodes v.node v.seat here.stands).life
-
-  end_is : end_of v.node v.seat (s.arrives_as v.node k) ≡ first_end v.node (s.arrives_as v.node k)
-  end_is = ap (λ (earlier : List NodeState). made (length earlier)) first where
-    made : ℕ → StreamEnd
-    made life = record { node = v.node; life = life; number = s.arrives_as v.node k }
-
   found_opened : (r : Reply) (t : StreamState) → stream_numbered w.streams k ≡ Some t → is_waiting t.far_side ≡ true
-      → Opened s (record w { streams = change_at_end w.streams t.near (with_far (first_end v.node (s.arrives_as v.node k)) (arrival_by r)) }) v.node (s.arrives_as v.node k)
+      → Opened s (record w { streams = change_at_end w.streams t.near (with_far (end_of v.node (s.arrives_as v.node k)) (arrival_by r)) }) v.node (s.arrives_as v.node k)
   found_opened r t found waits =
-      let far : StreamEnd = first_end v.node (s.arrives_as v.node k) in
+      let far : StreamEnd = end_of v.node (s.arrives_as v.node k) in
       let f : IsFound FarWaits (λ (u : StreamState). is_number k u.number) w.streams t = found_in FarWaits (λ (u : StreamState). is_number k u.number) w.streams t kept.waits found in
       let at : IsIn (head_of t) (heads w.streams) = in_heads t w.streams f.at in
-      let number : t.number ≡ Some k = numbered_so k t.number f.passes in
+      let number : t.number ≡ Some k = number_is k t.number f.passes in
       let same : heads (change_at_end w.streams t.near (with_far far (arrival_by r))) ≡ map (opened_head t.near far) (heads w.streams) = change_opens t.near far (arrival_by r) w.streams in
       record {
         kept = record {
@@ -98,7 +89,7 @@ module _ (s : Setting) (good : IsGoodSetting s) (w : WorldState) (kept : Streams
   pub arrived_kept : (r : Reply) → Arrives s w k v → Opened s (arrived w v (s.arrives_as v.node k) r (stream_numbered w.streams k)) v.node (s.arrives_as v.node k)
   arrived_kept r a =
       subst (λ o. Opened s (arrived w v (s.arrives_as v.node k) r o) v.node (s.arrives_as v.node k)) (sym a.found)
-      (subst (λ e. Opened s (record w { streams = change_at_end w.streams a.talk.near (with_far e (arrival_by r)) }) v.node (s.arrives_as v.node k)) (sym end_is) (found_opened r a.talk a.found a.waits))
+      (found_opened r a.talk a.found a.waits)
 
 -- ---- the step of an event, and what comes of it
 

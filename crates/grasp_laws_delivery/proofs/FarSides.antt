@@ -9,7 +9,7 @@ use Rattle.grasp_types.specs.declared.reply.Reply.TheVariants as reply
 use Rattle.grasp_model_network.specs.StreamChanges.{arrival_by}
 use Rattle.grasp_model_network.specs.Sending.{having_made, streams_made}
 use Rattle.grasp_model_network.specs.Streams.{StreamEnd, StreamState, Arrival, told_closed, is_waiting, fresh_stream, side_of_end, changed_by, change_at_end, with_side, with_said, with_sent, with_ended, with_delivered, with_number, with_far}
-use Rattle.grasp_model_network.specs.World.{Seat, end_of}
+use Rattle.grasp_model_network.specs.World.{end_of}
 use Rattle.grasp_laws_delivery.specs.Ready.{Every, FarWaits}
 use Rattle.grasp_laws_delivery.proofs.Counts.{every_append}
 
@@ -53,15 +53,15 @@ pub change_waits : (f : StreamState → Side → StreamState) → KeepsWaiting f
 change_waits f keeps e [] w = tt
 change_waits f keeps e (t ∷ ts) w = (changed_waits f keeps t (side_of_end e t) w.0, change_waits f keeps e ts w.1)
 
-all_made_wait : (node : ℕ) (seat : Seat) (qs : List Queued) (ts : List StreamState) → Every FarWaits ts → Every FarWaits (fold (having_made node seat) ts qs)
-all_made_wait node seat [] ts w = w
-all_made_wait node seat (datagram link to m ∷ qs) ts w = all_made_wait node seat qs ts w
-all_made_wait node seat (dial stream to ∷ qs) ts w =
-    let t : StreamState = fresh_stream (end_of node seat stream) to in
-    all_made_wait node seat qs (ts ++ t ∷ []) (every_append FarWaits ts (t ∷ []) w ((λ is. refl), tt))
-all_made_wait node seat (send stream m ∷ qs) ts w =
-    all_made_wait node seat qs (change_at_end ts (end_of node seat stream) (with_said m)) (change_waits (with_said m) (said_waits m) (end_of node seat stream) ts w)
+all_made_wait : (node : ℕ) (qs : List Queued) (ts : List StreamState) → Every FarWaits ts → Every FarWaits (fold (having_made node) ts qs)
+all_made_wait node [] ts w = w
+all_made_wait node (datagram link to m ∷ qs) ts w = all_made_wait node qs ts w
+all_made_wait node (dial stream to ∷ qs) ts w =
+    let t : StreamState = fresh_stream (end_of node stream) to in
+    all_made_wait node qs (ts ++ t ∷ []) (every_append FarWaits ts (t ∷ []) w ((λ is. refl), tt))
+all_made_wait node (send stream m ∷ qs) ts w =
+    all_made_wait node qs (change_at_end ts (end_of node stream) (with_said m)) (change_waits (with_said m) (said_waits m) (end_of node stream) ts w)
 
-pub talks_made_wait : (node : ℕ) (seat : Seat) (qs : List Queued) (ts : List StreamState) → Every FarWaits ts → Every FarWaits (streams_made node seat ts qs)
+pub talks_made_wait : (node : ℕ) (qs : List Queued) (ts : List StreamState) → Every FarWaits ts → Every FarWaits (streams_made node ts qs)
 unfolding streams_made
-talks_made_wait node seat qs ts w = all_made_wait node seat qs ts w
+talks_made_wait node qs ts w = all_made_wait node qs ts w

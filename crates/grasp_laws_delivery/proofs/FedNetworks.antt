@@ -115,7 +115,7 @@ fed_keep s good = record {
   steps = λ w e c v r k o is here step. step_fed v.seat.core c.after v.now v.input c.coming c.reply k (brings_bytes s w e v r is) (subst (λ (x : Option Visit). MayCome x c) is o.comes).steps;
   drains = λ w node seat max r here k.
       step_fed seat.core (after_drain (begin seat.core seat.core.reading) max) seat.core.reading (input.Drain max) no_choice.coming
-      (reply.Outputs (drained (begin seat.core seat.core.reading) max)) k tt (drain_steps seat.core max no_choice.coming);
+      (reply.Outputs (drained (begin seat.core seat.core.reading) max)) k tt (drain_steps seat.core seat.core.reading max no_choice.coming);
 }
 
 all_fed : (s : Setting) (w : WorldState) → IsReached s w → OfAll IsSoundFed w

@@ -116,23 +116,23 @@ dialled_can limit e to = record { said = said; sent = sent } where
 
 -- ---- a step
 
-made_can : (limit node : ℕ) (seat : Seat) (qs : List Queued) (ts : List StreamState) → All (CanSend limit) qs → AllCanBeSent limit ts → AllCanBeSent limit (fold (having_made node seat) ts qs)
-made_can limit node seat [] ts can each = each
-made_can limit node seat (datagram link to m ∷ qs) ts can each = made_can limit node seat qs ts (All-tail (CanSend limit) (datagram link to m) qs can) each
-made_can limit node seat (dial stream to ∷ qs) ts can each =
-    made_can limit node seat qs (having_made node seat ts (dial stream to)) (All-tail (CanSend limit) (dial stream to) qs can)
-    (each_push (CanBeSent limit) ts (fresh_stream (end_of node seat stream) to) (dialled_can limit (end_of node seat stream) to) each)
-made_can limit node seat (send stream m ∷ qs) ts can each =
-    made_can limit node seat qs (having_made node seat ts (send stream m)) (All-tail (CanSend limit) (send stream m) qs can)
-    (each_changed (CanBeSent limit) (CanBeSent limit) ts (end_of node seat stream) (with_said m) (λ t k. said_can limit (end_of node seat stream) m t (All-head (CanSend limit) (send stream m) qs can) k) each)
+made_can : (limit node : ℕ) (qs : List Queued) (ts : List StreamState) → All (CanSend limit) qs → AllCanBeSent limit ts → AllCanBeSent limit (fold (having_made node) ts qs)
+made_can limit node [] ts can each = each
+made_can limit node (datagram link to m ∷ qs) ts can each = made_can limit node qs ts (All-tail (CanSend limit) (datagram link to m) qs can) each
+made_can limit node (dial stream to ∷ qs) ts can each =
+    made_can limit node qs (having_made node ts (dial stream to)) (All-tail (CanSend limit) (dial stream to) qs can)
+    (each_push (CanBeSent limit) ts (fresh_stream (end_of node stream) to) (dialled_can limit (end_of node stream) to) each)
+made_can limit node (send stream m ∷ qs) ts can each =
+    made_can limit node qs (having_made node ts (send stream m)) (All-tail (CanSend limit) (send stream m) qs can)
+    (each_changed (CanBeSent limit) (CanBeSent limit) ts (end_of node stream) (with_said m) (λ t k. said_can limit (end_of node stream) m t (All-head (CanSend limit) (send stream m) qs can) k) each)
 
 before_can : (limit : ℕ) (s : Setting) (w : WorldState) (e : Event) (v : Visit) (c : Choice) → AllCanBeSent limit w.streams → AllCanBeSent limit (streams_before s w e v c)
 before_can limit s w (event.Arrive k hold) v c each = by_talk (stream_numbered w.streams k) where
   by_talk : (o : Option StreamState) → AllCanBeSent limit (arrived w v (s.arrives_as v.node k) c.reply o).streams
   by_talk None = each
   by_talk (Some t) =
-      each_changed (CanBeSent limit) (CanBeSent limit) w.streams t.near (with_far (end_of v.node v.seat (s.arrives_as v.node k)) (arrival_by c.reply))
-      (λ u h. opened_can limit t.near (end_of v.node v.seat (s.arrives_as v.node k)) (arrival_by c.reply) u h) each
+      each_changed (CanBeSent limit) (CanBeSent limit) w.streams t.near (with_far (end_of v.node (s.arrives_as v.node k)) (arrival_by c.reply))
+      (λ u h. opened_can limit t.near (end_of v.node (s.arrives_as v.node k)) (arrival_by c.reply) u h) each
 before_can limit s w (event.Bytes k far count hold) v c each = by_side (reached_side w k (side_named far)) where
   by_side : (o : Option Reached) → AllCanBeSent limit (delivered w count o).streams
   by_side None = each
@@ -148,7 +148,7 @@ step_can : (s : Setting) (good : IsGoodSetting s) (w : WorldState) (e : Event) (
 unfolding streams_made
 step_can s good w e c v r o is step each =
     subst (λ ts. AllCanBeSent good.limit ts) (sym (streams_stepped s w e v c step))
-    (made_can good.limit v.node v.seat (gained v.seat.core c.after) (streams_before s w e v c) (All-drop (CanSend good.limit) (length v.seat.core.queue) c.after.queue queue) (before_can good.limit s w e v c each)) where
+    (made_can good.limit v.node (gained v.seat.core c.after) (streams_before s w e v c) (All-drop (CanSend good.limit) (length v.seat.core.queue) c.after.queue queue) (before_can good.limit s w e v c each)) where
       steps : VisitStep v c
       steps = subst (λ (x : Option Visit). MayCome x c) is o.comes
 
@@ -162,23 +162,23 @@ step_can s good w e c v r o is step each =
 
 -- ---- a drain
 
-handed_can : (limit : ℕ) (s : Setting) (node : ℕ) (seat : Seat) (qs : List Queued) (w : WorldState) → All (CanSend limit) qs → AllCanBeSent limit w.streams
-    → AllCanBeSent limit (fold (having_sent s node seat) w qs).streams
-handed_can limit s node seat [] w can each = each
-handed_can limit s node seat (datagram link to m ∷ qs) w can each =
-    handed_can limit s node seat qs (having_sent s node seat w (datagram link to m)) (All-tail (CanSend limit) (datagram link to m) qs can) (posted_each (CanBeSent limit) w m (route_of s (member_of w node) link to) each)
-handed_can limit s node seat (dial stream to ∷ qs) w can each =
-    handed_can limit s node seat qs (having_sent s node seat w (dial stream to)) (All-tail (CanSend limit) (dial stream to) qs can)
-    (each_changed (CanBeSent limit) (CanBeSent limit) w.streams (end_of node seat stream) (with_number (w.dials + 1)) (numbered_can limit (end_of node seat stream) (w.dials + 1)) each)
-handed_can limit s node seat (send stream m ∷ qs) w can each =
-    handed_can limit s node seat qs (having_sent s node seat w (send stream m)) (All-tail (CanSend limit) (send stream m) qs can)
-    (each_changed (CanBeSent limit) (CanBeSent limit) w.streams (end_of node seat stream) (with_sent m) (λ t k. sent_can limit (end_of node seat stream) m t (All-head (CanSend limit) (send stream m) qs can) k) each)
+handed_can : (limit : ℕ) (s : Setting) (node : ℕ) (qs : List Queued) (w : WorldState) → All (CanSend limit) qs → AllCanBeSent limit w.streams
+    → AllCanBeSent limit (fold (having_sent s node) w qs).streams
+handed_can limit s node [] w can each = each
+handed_can limit s node (datagram link to m ∷ qs) w can each =
+    handed_can limit s node qs (having_sent s node w (datagram link to m)) (All-tail (CanSend limit) (datagram link to m) qs can) (posted_each (CanBeSent limit) w m (route_of s (member_of w node) link to) each)
+handed_can limit s node (dial stream to ∷ qs) w can each =
+    handed_can limit s node qs (having_sent s node w (dial stream to)) (All-tail (CanSend limit) (dial stream to) qs can)
+    (each_changed (CanBeSent limit) (CanBeSent limit) w.streams (end_of node stream) (with_number (w.dials + 1)) (numbered_can limit (end_of node stream) (w.dials + 1)) each)
+handed_can limit s node (send stream m ∷ qs) w can each =
+    handed_can limit s node qs (having_sent s node w (send stream m)) (All-tail (CanSend limit) (send stream m) qs can)
+    (each_changed (CanBeSent limit) (CanBeSent limit) w.streams (end_of node stream) (with_sent m) (λ t k. sent_can limit (end_of node stream) m t (All-head (CanSend limit) (send stream m) qs can) k) each)
 
-closed_can : (limit node : ℕ) (seat : Seat) (streams : List ℕ) (w : WorldState) → AllCanBeSent limit w.streams → AllCanBeSent limit (fold (having_closed node seat) w streams).streams
-closed_can limit node seat [] w each = each
-closed_can limit node seat (stream ∷ streams) w each =
-    closed_can limit node seat streams (having_closed node seat w stream)
-    (each_changed (CanBeSent limit) (CanBeSent limit) w.streams (end_of node seat stream) with_ended (ended_can limit (end_of node seat stream)) each)
+closed_can : (limit node : ℕ) (streams : List ℕ) (w : WorldState) → AllCanBeSent limit w.streams → AllCanBeSent limit (fold (having_closed node) w streams).streams
+closed_can limit node [] w each = each
+closed_can limit node (stream ∷ streams) w each =
+    closed_can limit node streams (having_closed node w stream)
+    (each_changed (CanBeSent limit) (CanBeSent limit) w.streams (end_of node stream) with_ended (ended_can limit (end_of node stream)) each)
 
 drained_can : (s : Setting) (good : IsGoodSetting s) (w : WorldState) (node max : ℕ) (o : Option Seat) → IsReached s w → seat_at w node ≡ o → AllCanBeSent good.limit w.streams
     → AllCanBeSent good.limit (drained_at s w node max o).streams
@@ -190,8 +190,8 @@ drained_can s good w node max (Some seat) r here each = from (begin seat.core se
 
   from : (m : NodeState) → m.queue ≡ seat.core.queue → AllCanBeSent good.limit (drained_from s w node seat m max).streams
   from m e =
-      closed_can good.limit node seat (closes m max) (fold (having_sent s node seat) (with_seat w node (seat_with seat (after_drain m max) seat.agent)) (take max m.queue))
-      (handed_can good.limit s node seat (take max m.queue) (with_seat w node (seat_with seat (after_drain m max) seat.agent))
+      closed_can good.limit node (closes m max) (fold (having_sent s node) (with_seat w node (seat_with (after_drain m max) seat.agent)) (take max m.queue))
+      (handed_can good.limit s node (take max m.queue) (with_seat w node (seat_with (after_drain m max) seat.agent))
       (All-take (CanSend good.limit) max m.queue (subst (λ (q : List Queued). All (CanSend good.limit) q) (sym e) queue)) each)
 
 -- ---- every turn

@@ -1,12 +1,12 @@
 -- What follows of this: no two streams have one end, and what is queued can be sent in order.
 use Rattle.std.proofs.Common.{◌≡◌, ◌≢◌, refl, sym, ap, ◌∙◌, subst, arith, ℕ, zero, suc, ◌≤◌, ◌<◌, ◌%◌, ◌==◌, Bool, true, false, cond, is_some, ◌⊎◌, inl, inr, List, [], ◌∷◌, ◌++◌, length, Option, None, Some, slice_get}
-use Rattle.std.proofs.lemmas.Bool.{eqb-true, eq-eqb}
 use Rattle.std.proofs.lemmas.Bool.Decides.{eqb_tells}
 use Rattle.std.proofs.lemmas.Option.{none-some, same_Some as some_same}
 use Rattle.grasp_model_node.specs.Queue.{Queued, datagram, dial, send}
 use Rattle.grasp_session.specs.Messages.{Side, Near, Far}
 use Rattle.grasp_types.specs.declared.address.Locator.{Locator}
 use Rattle.grasp_types.specs.declared.message.Message.{Message}
+use Rattle.grasp_model_network.proofs.Facts.{number_is, number_passes}
 use Rattle.grasp_model_network.specs.EventSteps.{arrival_visit}
 use Rattle.grasp_model_network.specs.Plans.{IsNode}
 use Rattle.grasp_model_network.specs.Runs.{IsReached}
@@ -36,7 +36,6 @@ record IsFarOf (s : Setting) (nodes : ℕ) (number : Option ℕ) (e : StreamEnd)
   is : number ≡ Some k
   least : 1 ≤ k
   member : IsNode nodes e.node
-  life : e.life ≡ 0
   arrives : e.number ≡ s.arrives_as e.node k
 
 far_of : (s : Setting) (nodes dials : ℕ) (number : Option ℕ) (far : Option StreamEnd) (e : StreamEnd) → HasGoodNumber dials number → HasGoodFar s nodes number far → far ≡ Some e → IsFarOf s nodes number e
@@ -44,7 +43,7 @@ far_of s nodes dials None None e n g at = absurd (none-some e at)
 far_of s nodes dials (Some k) None e n g at = absurd (none-some e at)
 far_of s nodes dials None (Some f) e n g at = absurd g
 far_of s nodes dials (Some k) (Some f) e n g at =
-    subst (λ (x : StreamEnd). IsFarOf s nodes (Some k) x) (some_same f e at) (record { k = k; is = refl; least = n.0; member = g.0; life = g.1; arrives = g.2 })
+    subst (λ (x : StreamEnd). IsFarOf s nodes (Some k) x) (some_same f e at) (record { k = k; is = refl; least = n.0; member = g.0; arrives = g.1 })
 
 not_both : (n : ℕ) → n % 2 ≡ 0 → n % 2 ≡ 1 → ⊥
 not_both n a b = omega (arith, a, b)
@@ -58,12 +57,6 @@ distinct ready s w r place t found e far near = by_ends (every_at (λ x. HasGood
         not_both e.number (ap (λ (x : StreamEnd). x.number % 2) (sym near) ∙ g.even)
         (ap (λ n. n % 2) f.arrives ∙ r.good.arrivals_odd e.node f.k f.least)
 
-pub first_lives : StreamsAreReady → (s : Setting) (w : WorldState) → IsReached s w → OfEachStream (λ t. (side : Side) (e : StreamEnd) → end_at t side ≡ Some e → e.life ≡ 0) w.streams
-first_lives ready s w r place t found = by_ends (every_at (λ x. HasGoodEnds s (length w.seats) w.dials x.near x.number x.far) w.streams (ready.ends s w r) place t found) where
-  by_ends : HasGoodEnds s (length w.seats) w.dials t.near t.number t.far → (side : Side) (e : StreamEnd) → end_at t side ≡ Some e → e.life ≡ 0
-  by_ends g Near e at = ap (λ (x : StreamEnd). x.life) (sym (some_same t.near e at)) ∙ g.life
-  by_ends g Far e at = (far_of s (length w.seats) w.dials t.number t.far e g.dialled g.opened at).life
-
 -- each end of a stream is at one of so many lives
 pub good_within : (s : Setting) (nodes dials : ℕ) (t : StreamState) → HasGoodEnds s nodes dials t.near t.number t.far → (side : Side) (e : StreamEnd) → end_at t side ≡ Some e → IsNode nodes e.node
 good_within s nodes dials t g Near e at = subst (λ (x : StreamEnd). IsNode nodes x.node) (some_same t.near e at) g.member
@@ -76,21 +69,14 @@ ends_within ready s w r place t found =
     good_within s (length w.seats) w.dials t (every_at (λ x. HasGoodEnds s (length w.seats) w.dials x.near x.number x.far) w.streams (ready.ends s w r) place t found)
 
 -- so that no stream has one at a life that isn't there
-pub none_beyond : StreamsAreReady → (s : Setting) (w : WorldState) → IsReached s w → (life : ℕ) (seat : Seat) (stream : ℕ) → length w.seats < life
-    → OfEachStream (λ t. (side : Side) → end_at t side ≢ Some (end_of life seat stream)) w.streams
-none_beyond ready s w r life seat stream past place t found side at =
-    let within : IsNode (length w.seats) life = ends_within ready s w r place t found side (end_of life seat stream) at in
+pub none_beyond : StreamsAreReady → (s : Setting) (w : WorldState) → IsReached s w → (life stream : ℕ) → length w.seats < life
+    → OfEachStream (λ t. (side : Side) → end_at t side ≢ Some (end_of life stream)) w.streams
+none_beyond ready s w r life stream past place t found side at =
+    let within : IsNode (length w.seats) life = ends_within ready s w r place t found side (end_of life stream) at in
     let most : life ≤ length w.seats = within.most in
     omega (arith, past, most)
 
 -- ---- a stream that is opened
-
-pub numbered_so : (k : ℕ) (o : Option ℕ) → is_number k o ≡ true → o ≡ Some k
-numbered_so k None e = absurd (cc)
-numbered_so k (Some n) e = ap (λ x. Some x) (eqb-true n k e)
-
-so_numbered : (k : ℕ) (o : Option ℕ) → o ≡ Some k → is_number k o ≡ true
-so_numbered k o e = ap (is_number k) e ∙ eq-eqb k k refl
 
 pub numbered_has : (k : ℕ) (ts : List StreamState) (t : StreamState) → stream_numbered ts k ≡ Some t → is_number k t.number ≡ true
 numbered_has k [] t found = absurd (none-some t found)
@@ -101,28 +87,28 @@ numbered_has k (x ∷ xs) t found = by_test (is_number k x.number) refl found (n
 
 -- no stream has the end at which one is opened
 pub new_end : StreamsAreReady → (s : Setting) (w : WorldState) → IsReached s w → (k : ℕ) (v : Visit) → arrival_visit s w k ≡ Some v
-    → OfEachStream (λ t. (side : Side) → end_at t side ≢ Some (end_of v.node v.seat (s.arrives_as v.node k))) w.streams
+    → OfEachStream (λ t. (side : Side) → end_at t side ≢ Some (end_of v.node (s.arrives_as v.node k))) w.streams
 new_end ready s w r k v is place u found = by_opening (opening_is s w k v is) where
   good : OfEachStream (λ x. HasGoodEnds s (length w.seats) w.dials x.near x.number x.far) w.streams
   good = every_at (λ x. HasGoodEnds s (length w.seats) w.dials x.near x.number x.far) w.streams (ready.ends s w r)
 
-  by_opening : IsOpening s w k v → (side : Side) → end_at u side ≢ Some (end_of v.node v.seat (s.arrives_as v.node k))
+  by_opening : IsOpening s w k v → (side : Side) → end_at u side ≢ Some (end_of v.node (s.arrives_as v.node k))
   by_opening o = by_place (numbered_place k w.streams o.talk o.found) where
     number : is_number k o.talk.number ≡ true
     number = numbered_has k w.streams o.talk o.found
 
-    by_place : Placed w.streams o.talk → (side : Side) → end_at u side ≢ Some (end_of v.node v.seat (s.arrives_as v.node k))
-    by_place here side at = by_number (subst (λ (x : Option ℕ). HasGoodNumber w.dials x) (numbered_so k o.talk.number number) (good here.place o.talk here.stands).dialled) side at where
-      by_number : (1 ≤ k) × (k ≤ w.dials) → (side : Side) → end_at u side ≢ Some (end_of v.node v.seat (s.arrives_as v.node k))
+    by_place : Placed w.streams o.talk → (side : Side) → end_at u side ≢ Some (end_of v.node (s.arrives_as v.node k))
+    by_place here side at = by_number (subst (λ (x : Option ℕ). HasGoodNumber w.dials x) (number_is k o.talk.number number) (good here.place o.talk here.stands).dialled) side at where
+      by_number : (1 ≤ k) × (k ≤ w.dials) → (side : Side) → end_at u side ≢ Some (end_of v.node (s.arrives_as v.node k))
       by_number n Near at =
           not_both (s.arrives_as v.node k)
-          (ap (λ (x : StreamEnd). x.number % 2) (sym (some_same u.near (end_of v.node v.seat (s.arrives_as v.node k)) at)) ∙ (good place u found).even) (r.good.arrivals_odd v.node k n.0)
-      by_number n Far at = by_far (far_of s (length w.seats) w.dials u.number u.far (end_of v.node v.seat (s.arrives_as v.node k)) (good place u found).dialled (good place u found).opened at) where
-        by_far : IsFarOf s (length w.seats) u.number (end_of v.node v.seat (s.arrives_as v.node k)) → ⊥
+          (ap (λ (x : StreamEnd). x.number % 2) (sym (some_same u.near (end_of v.node (s.arrives_as v.node k)) at)) ∙ (good place u found).even) (r.good.arrivals_odd v.node k n.0)
+      by_number n Far at = by_far (far_of s (length w.seats) w.dials u.number u.far (end_of v.node (s.arrives_as v.node k)) (good place u found).dialled (good place u found).opened at) where
+        by_far : IsFarOf s (length w.seats) u.number (end_of v.node (s.arrives_as v.node k)) → ⊥
         by_far f =
             let same : k ≡ f.k = r.good.arrivals_apart v.node k f.k n.0 f.least f.arrives in
-            let one : u ≡ o.talk = one_passing (λ x. is_number k x.number) w.streams place here.place u o.talk (ready.once s w r k n.0 n.1) found (so_numbered k u.number (f.is ∙ ap (λ x. Some x) (sym same))) here.stands number in
-            none-some (end_of v.node v.seat (s.arrives_as v.node k)) (sym ((sane s w r here.place o.talk here.stands).waiting o.waiting) ∙ (ap (λ (x : StreamState). x.far) (sym one) ∙ at))
+            let one : u ≡ o.talk = one_passing (λ x. is_number k x.number) w.streams place here.place u o.talk (ready.once s w r k n.0 n.1) found (number_passes k u.number (f.is ∙ ap (λ x. Some x) (sym same))) here.stands number in
+            none-some (end_of v.node (s.arrives_as v.node k)) (sym ((sane s w r here.place o.talk here.stands).waiting o.waiting) ∙ (ap (λ (x : StreamState). x.far) (sym one) ∙ at))
 
 -- ---- what is queued
 
@@ -146,21 +132,21 @@ none_changed e by f ts same each =
 not_one : {A : Type 0} (n : ℕ) → n ≡ 0 → n ≡ 1 → A
 not_one n a b = absurd (omega (arith, a, b))
 
-nothing_for : (node : ℕ) (seat : Seat) (stream : ℕ) (qs : List Queued) (ts : List StreamState) → AreReady node seat qs ts → OfEachStream (NoEnd (end_of node seat stream)) ts → queued_for stream qs ≡ []
-nothing_for node seat stream [] ts h none = refl
-nothing_for node seat stream (datagram link to m ∷ qs) ts h none = nothing_for node seat stream qs ts h none
-nothing_for node seat stream (dial other to ∷ qs) ts h none =
-    nothing_for node seat stream qs (change_at_end ts (end_of node seat other) (with_number 0)) (h.1 0) (none_changed (end_of node seat stream) (end_of node seat other) (with_number 0) ts (number_ends 0) none)
-nothing_for node seat stream (send other m ∷ qs) ts h none = by_test (eqb_tells other stream) (nothing_for node seat stream qs (change_at_end ts (end_of node seat other) (with_sent m)) h.2) where
+nothing_for : (node stream : ℕ) (qs : List Queued) (ts : List StreamState) → AreReady node qs ts → OfEachStream (NoEnd (end_of node stream)) ts → queued_for stream qs ≡ []
+nothing_for node stream [] ts h none = refl
+nothing_for node stream (datagram link to m ∷ qs) ts h none = nothing_for node stream qs ts h none
+nothing_for node stream (dial other to ∷ qs) ts h none =
+    nothing_for node stream qs (change_at_end ts (end_of node other) (with_number 0)) (h.1 0) (none_changed (end_of node stream) (end_of node other) (with_number 0) ts (number_ends 0) none)
+nothing_for node stream (send other m ∷ qs) ts h none = by_test (eqb_tells other stream) (nothing_for node stream qs (change_at_end ts (end_of node other) (with_sent m)) h.2) where
   by_test : (((other == stream) ≡ true) × (other ≡ stream)) ⊎ (((other == stream) ≡ false) × (other ≢ stream))
-      → (OfEachStream (NoEnd (end_of node seat stream)) (change_at_end ts (end_of node seat other) (with_sent m)) → queued_for stream qs ≡ []) → queued_for stream (send other m ∷ qs) ≡ []
+      → (OfEachStream (NoEnd (end_of node stream)) (change_at_end ts (end_of node other) (with_sent m)) → queued_for stream qs ≡ []) → queued_for stream (send other m ∷ qs) ≡ []
   by_test (inl t) rest =
-      not_one (count_at_end ts (end_of node seat other)) (none_counted (end_of node seat other) ts (subst (λ n. OfEachStream (NoEnd (end_of node seat n)) ts) (sym t.1) none)) h.0
-  by_test (inr t) rest = let differs = t.0 in rw differs (rest (none_changed (end_of node seat stream) (end_of node seat other) (with_sent m) ts (sent_ends m) none))
+      not_one (count_at_end ts (end_of node other)) (none_counted (end_of node other) ts (subst (λ n. OfEachStream (NoEnd (end_of node n)) ts) (sym t.1) none)) h.0
+  by_test (inr t) rest = let differs = t.0 in rw differs (rest (none_changed (end_of node stream) (end_of node other) (with_sent m) ts (sent_ends m) none))
 
 pub unqueued : StreamsAreReady → (s : Setting) (w : WorldState) → IsReached s w → (node : ℕ) (seat : Seat) → seat_at w node ≡ Some seat → (stream : ℕ)
-    → OfEachStream (λ t. (side : Side) → end_at t side ≢ Some (end_of node seat stream)) w.streams → queued_for stream seat.core.queue ≡ []
-unqueued ready s w r node seat here stream none = nothing_for node seat stream seat.core.queue w.streams (ready.ready s w r node seat here) none
+    → OfEachStream (λ t. (side : Side) → end_at t side ≢ Some (end_of node stream)) w.streams → queued_for stream seat.core.queue ≡ []
+unqueued ready s w r node seat here stream none = nothing_for node stream seat.core.queue w.streams (ready.ready s w r node seat here) none
 
 -- ---- dials come first
 
@@ -174,8 +160,8 @@ record WasDialled (ts : List StreamState) (e : StreamEnd) : Type 0 where
   number : talk.number ≡ Some k
 
 -- each stream for which something is queued was dialled
-abbrev WereDialled : ℕ → Seat → List Queued → List StreamState → Type 0
-WereDialled node seat before ts = (stream : ℕ) → (queued_for stream before ≡ []) ⊎ WasDialled ts (end_of node seat stream)
+abbrev WereDialled : ℕ → List Queued → List StreamState → Type 0
+WereDialled node before ts = (stream : ℕ) → (queued_for stream before ≡ []) ⊎ WasDialled ts (end_of node stream)
 
 -- a change that leaves the ends, and the numbers of those that have one
 record KeepsDials (f : StreamState → Side → StreamState) : Type 0 where
@@ -213,18 +199,18 @@ still_dialled f ts by e keeps d = from (has_side e d.talk d.has) where
           number = m.1.1;
         }
 
-all_dialled : (node : ℕ) (seat : Seat) (before : List Queued) (ts : List StreamState) (f : StreamState → Side → StreamState) (by : StreamEnd) → KeepsDials f → WereDialled node seat before ts
-    → WereDialled node seat before (change_at_end ts by f)
-all_dialled node seat before ts f by keeps were stream = by_case (were stream) where
-  by_case : (queued_for stream before ≡ []) ⊎ WasDialled ts (end_of node seat stream) → (queued_for stream before ≡ []) ⊎ WasDialled (change_at_end ts by f) (end_of node seat stream)
+all_dialled : (node : ℕ) (before : List Queued) (ts : List StreamState) (f : StreamState → Side → StreamState) (by : StreamEnd) → KeepsDials f → WereDialled node before ts
+    → WereDialled node before (change_at_end ts by f)
+all_dialled node before ts f by keeps were stream = by_case (were stream) where
+  by_case : (queued_for stream before ≡ []) ⊎ WasDialled ts (end_of node stream) → (queued_for stream before ≡ []) ⊎ WasDialled (change_at_end ts by f) (end_of node stream)
   by_case (inl none) = inl none
-  by_case (inr d) = inr (still_dialled f ts by (end_of node seat stream) keeps d)
+  by_case (inr d) = inr (still_dialled f ts by (end_of node stream) keeps d)
 
 -- an output that is for no stream
-no_more_for : (node : ℕ) (seat : Seat) (before : List Queued) (q : Queued) (ts : List StreamState) → ((stream : ℕ) → queued_for stream (q ∷ []) ≡ []) → WereDialled node seat before ts
-    → WereDialled node seat (before ++ q ∷ []) ts
-no_more_for node seat before q ts none were stream = by_case (were stream) where
-  by_case : (queued_for stream before ≡ []) ⊎ WasDialled ts (end_of node seat stream) → (queued_for stream (before ++ q ∷ []) ≡ []) ⊎ WasDialled ts (end_of node seat stream)
+no_more_for : (node : ℕ) (before : List Queued) (q : Queued) (ts : List StreamState) → ((stream : ℕ) → queued_for stream (q ∷ []) ≡ []) → WereDialled node before ts
+    → WereDialled node (before ++ q ∷ []) ts
+no_more_for node before q ts none were stream = by_case (were stream) where
+  by_case : (queued_for stream before ≡ []) ⊎ WasDialled ts (end_of node stream) → (queued_for stream (before ++ q ∷ []) ≡ []) ⊎ WasDialled ts (end_of node stream)
   by_case (inl e) = inl (queued_append stream before (q ∷ []) ∙ (ap (λ ms. ms ++ queued_for stream (q ∷ [])) e ∙ none stream))
   by_case (inr d) = inr d
 
@@ -243,33 +229,33 @@ dial_fresh : (ts : List StreamState) (e : StreamEnd) (to : Locator) → IsDialOf
 dial_fresh ts e to d was =
     none-some was.k (sym (every_at (WaitsFor e to) ts d.waits was.place was.talk was.stands was.has).0 ∙ was.number)
 
-were_fresh : (node : ℕ) (seat : Seat) (qs before : List Queued) (ts : List StreamState) → AreReady node seat qs ts → WereDialled node seat before ts → DialsAreFresh before qs
-were_fresh node seat [] before ts h were = tt
-were_fresh node seat (datagram link to m ∷ qs) before ts h were =
-    (tt, were_fresh node seat qs (before ++ datagram link to m ∷ []) ts h (no_more_for node seat before (datagram link to m) ts (λ stream. refl) were))
-were_fresh node seat (dial stream to ∷ qs) before ts h were = (
+were_fresh : (node : ℕ) (qs before : List Queued) (ts : List StreamState) → AreReady node qs ts → WereDialled node before ts → DialsAreFresh before qs
+were_fresh node [] before ts h were = tt
+were_fresh node (datagram link to m ∷ qs) before ts h were =
+    (tt, were_fresh node qs (before ++ datagram link to m ∷ []) ts h (no_more_for node before (datagram link to m) ts (λ stream. refl) were))
+were_fresh node (dial stream to ∷ qs) before ts h were = (
   first (were stream),
-  were_fresh node seat qs (before ++ dial stream to ∷ []) (change_at_end ts (end_of node seat stream) (with_number 0)) (h.1 0)
-      (no_more_for node seat before (dial stream to) (change_at_end ts (end_of node seat stream) (with_number 0)) (λ other. refl)
-      (all_dialled node seat before ts (with_number 0) (end_of node seat stream) (numbers_keep 0) were)),
+  were_fresh node qs (before ++ dial stream to ∷ []) (change_at_end ts (end_of node stream) (with_number 0)) (h.1 0)
+      (no_more_for node before (dial stream to) (change_at_end ts (end_of node stream) (with_number 0)) (λ other. refl)
+      (all_dialled node before ts (with_number 0) (end_of node stream) (numbers_keep 0) were)),
 ) where
-  first : (queued_for stream before ≡ []) ⊎ WasDialled ts (end_of node seat stream) → queued_for stream before ≡ []
+  first : (queued_for stream before ≡ []) ⊎ WasDialled ts (end_of node stream) → queued_for stream before ≡ []
   first (inl none) = none
-  first (inr was) = absurd (dial_fresh ts (end_of node seat stream) to h.0 was)
-were_fresh node seat (send stream m ∷ qs) before ts h were =
-    (tt, were_fresh node seat qs (before ++ send stream m ∷ []) (change_at_end ts (end_of node seat stream) (with_sent m)) h.2 more) where
-      more : WereDialled node seat (before ++ send stream m ∷ []) (change_at_end ts (end_of node seat stream) (with_sent m))
+  first (inr was) = absurd (dial_fresh ts (end_of node stream) to h.0 was)
+were_fresh node (send stream m ∷ qs) before ts h were =
+    (tt, were_fresh node qs (before ++ send stream m ∷ []) (change_at_end ts (end_of node stream) (with_sent m)) h.2 more) where
+      more : WereDialled node (before ++ send stream m ∷ []) (change_at_end ts (end_of node stream) (with_sent m))
       more other = by_test (eqb_tells stream other) where
         by_test : (((stream == other) ≡ true) × (stream ≡ other)) ⊎ (((stream == other) ≡ false) × (stream ≢ other))
-            → (queued_for other (before ++ send stream m ∷ []) ≡ []) ⊎ WasDialled (change_at_end ts (end_of node seat stream) (with_sent m)) (end_of node seat other)
+            → (queued_for other (before ++ send stream m ∷ []) ≡ []) ⊎ WasDialled (change_at_end ts (end_of node stream) (with_sent m)) (end_of node other)
         by_test (inl t) = inr
-            (subst (λ n. WasDialled (change_at_end ts (end_of node seat stream) (with_sent m)) (end_of node seat n)) t.1
-            (still_dialled (with_sent m) ts (end_of node seat stream) (end_of node seat stream) (sends_keep m) (sent_dialled ts (end_of node seat stream) h.0 h.1)))
-        by_test (inr t) = by_case (all_dialled node seat before ts (with_sent m) (end_of node seat stream) (sends_keep m) were other) where
-          by_case : (queued_for other before ≡ []) ⊎ WasDialled (change_at_end ts (end_of node seat stream) (with_sent m)) (end_of node seat other)
-              → (queued_for other (before ++ send stream m ∷ []) ≡ []) ⊎ WasDialled (change_at_end ts (end_of node seat stream) (with_sent m)) (end_of node seat other)
+            (subst (λ n. WasDialled (change_at_end ts (end_of node stream) (with_sent m)) (end_of node n)) t.1
+            (still_dialled (with_sent m) ts (end_of node stream) (end_of node stream) (sends_keep m) (sent_dialled ts (end_of node stream) h.0 h.1)))
+        by_test (inr t) = by_case (all_dialled node before ts (with_sent m) (end_of node stream) (sends_keep m) were other) where
+          by_case : (queued_for other before ≡ []) ⊎ WasDialled (change_at_end ts (end_of node stream) (with_sent m)) (end_of node other)
+              → (queued_for other (before ++ send stream m ∷ []) ≡ []) ⊎ WasDialled (change_at_end ts (end_of node stream) (with_sent m)) (end_of node other)
           by_case (inl none) = inl (queued_append other before (send stream m ∷ []) ∙ (ap (λ ms. ms ++ queued_for other (send stream m ∷ [])) none ∙ queued_elsewhere other stream m t.1))
           by_case (inr d) = inr d
 
 pub fresh : StreamsAreReady → (s : Setting) (w : WorldState) → IsReached s w → (node : ℕ) (seat : Seat) → seat_at w node ≡ Some seat → DialsAreFresh [] seat.core.queue
-fresh ready s w r node seat here = were_fresh node seat seat.core.queue [] w.streams (ready.ready s w r node seat here) (λ stream. inl refl)
+fresh ready s w r node seat here = were_fresh node seat.core.queue [] w.streams (ready.ready s w r node seat here) (λ stream. inl refl)

@@ -30,7 +30,7 @@ use Rattle.grasp_model_network.specs.declared.event.Event.TheVariants as event
 use Rattle.grasp_laws_delivery.specs.Ready.{StreamsAreReady}
 use Rattle.grasp_laws_delivery.proofs.FromReady as needs
 use Rattle.grasp_laws_delivery.proofs.Fronts.{fronts_are_cut, pieces_add}
-use Rattle.grasp_laws_delivery.proofs.Heard.Networks.{HeardOn, all_hear, end_there, records_hold_what_came}
+use Rattle.grasp_laws_delivery.proofs.Heard.Networks.{HeardOn, all_hear, records_hold_what_came}
 use Rattle.grasp_laws_delivery.proofs.Heard.Steps.{IsReachedSide, reached_is, come_at}
 use Rattle.grasp_laws_delivery.proofs.Heard.Talks.{IsHeard}
 use Rattle.grasp_laws_delivery.proofs.Came.Inputs.{IsReaching, piece_is}
@@ -60,9 +60,9 @@ few_limit limit most = omega arith
 module _ (ready : StreamsAreReady) where
   pub given_first : (s : Setting) (w : WorldState) (r : IsReached s w) → AllCanBeSent r.good.limit w.streams → (node : ℕ) (seat : Seat) → seat_at w node ≡ Some seat
       → (stream : ℕ) (past : Past) → past_of seat.core.streams stream ≡ Some past
-      → OfEachStream (λ t. (side : Side) → end_at t side ≡ Some (end_of node seat stream) → IsLonger past.given (sent_by t (other side)).sent) w.streams
+      → OfEachStream (λ t. (side : Side) → end_at t side ≡ Some (end_of node stream) → IsLonger past.given (sent_by t (other side)).sent) w.streams
   given_first s w r fits node seat here stream past e place t found side at = from (records_hold_what_came ready s w r node seat here stream past e) where
-    from : IsOpenStream w (end_of node seat stream) seat.core.plan.limit past → IsLonger past.given (sent_by t (other side)).sent
+    from : IsOpenStream w (end_of node stream) seat.core.plan.limit past → IsLonger past.given (sent_by t (other side)).sent
     from o =
         (fronts_are_cut r.good.limit (sent_by t (other side)).delivered (sent_by t (other side)).sent past.given o.waits.rest waiting (some_limit r.good.limit r.good.least_limit)
         (few_limit r.good.limit r.good.most_limit) ((fits place t found).sent (other side))
@@ -85,9 +85,9 @@ module _ (ready : StreamsAreReady) where
 
     heard : v.node ≡ x.at.node → IsHeard w.streams x.at v.seat.core.plan.limit past
     heard same =
-        subst (λ (end : StreamEnd). IsHeard w.streams end v.seat.core.plan.limit past) (end_there ready s w r v x x.talk (side_named far) place.place place.stands side_is.ends here same)
-        (open_has (HeardOn w.streams v.node v.seat v.seat.core.plan.limit) (begin v.seat.core v.now) x.at.number past
-        (begin_holds (HeardOn w.streams v.node v.seat v.seat.core.plan.limit) v.seat.core v.now (all_hear ready s w r v.node v.seat here)) e)
+        subst (λ (end : StreamEnd). IsHeard w.streams end v.seat.core.plan.limit past) (ap (λ n. end_of n x.at.number) same)
+        (open_has (HeardOn w.streams v.node v.seat.core.plan.limit) (begin v.seat.core v.now) x.at.number past
+        (begin_holds (HeardOn w.streams v.node v.seat.core.plan.limit) v.seat.core v.now (all_hear ready s w r v.node v.seat here)) e)
 
     from : IsReaching w k (side_named far) v (λ y. input.Bytes y.at.number (next_bytes y.talk (other (side_named far)) count))
         → IsCutInFront (sent_by x.talk (other (side_named far))).sent (past.given ++ c.coming.added.messages) c.coming.added.kind

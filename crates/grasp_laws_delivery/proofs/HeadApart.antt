@@ -9,12 +9,12 @@ use Rattle.grasp_model_network.specs.GoodSetting.{IsGoodSetting}
 use Rattle.grasp_model_network.specs.Plans.{IsNode}
 use Rattle.grasp_model_network.specs.Setting.{Setting, numbered}
 use Rattle.grasp_model_network.specs.Streams.{StreamEnd}
-use Rattle.grasp_model_network.specs.World.{Seat}
-use Rattle.grasp_laws_delivery.specs.Heads.{Head, has_head_end, first_end, nears_at}
+use Rattle.grasp_model_network.specs.World.{Seat, end_of}
+use Rattle.grasp_laws_delivery.specs.Heads.{Head, has_head_end, nears_at}
 use Rattle.grasp_laws_delivery.specs.Kept.{IsArrived, NodeKept, AreKept}
 use Rattle.grasp_laws_delivery.specs.Ready.{Every}
 use Rattle.grasp_laws_delivery.proofs.Counts.{count_first, count_yes}
-use Rattle.grasp_laws_delivery.proofs.HeadCounts.{none_near, even_most, odd_most, first_most, known_once}
+use Rattle.grasp_laws_delivery.proofs.HeadCounts.{none_near, even_most, odd_most, known_once}
 
 -- ---- places
 
@@ -41,20 +41,14 @@ module _ (s : Setting) (good : IsGoodSetting s) (seats : List Seat) (hs : List H
   near_by node None none = inl (none_near s good (length seats) dials node (none_there seats node none) hs k.ends)
   near_by node (Some seat) here = inr (seat.core.streams.dialled, (k.nodes node seat here).nears)
 
-  first_apart : (node number : ℕ) → count_by (has_head_end (first_end node number)) hs ≤ 1
-  first_apart node number = by_parity (even_or_odd number) where
-    by_parity : (number % 2 ≡ 0) ⊎ (number % 2 ≡ 1) → count_by (has_head_end (first_end node number)) hs ≤ 1
-    by_parity (inl even) = even_most s good (length seats) dials node number even hs k.ends (near_by node (numbered seats node) refl)
-    by_parity (inr odd) = odd_most s good (length seats) dials (first_end node number) odd hs k.ends k.once
-
   pub kept_apart : (e : StreamEnd) → count_by (has_head_end e) hs ≤ 1
-  kept_apart e =
-      let a : count_by (has_head_end e) hs ≤ count_by (has_head_end (first_end e.node e.number)) hs = first_most s good (length seats) dials e hs k.ends in
-      let b : count_by (has_head_end (first_end e.node e.number)) hs ≤ 1 = first_apart e.node e.number in
-      omega (arith, a, b)
+  kept_apart e = by_parity (even_or_odd e.number) where
+    by_parity : (e.number % 2 ≡ 0) ⊎ (e.number % 2 ≡ 1) → count_by (has_head_end e) hs ≤ 1
+    by_parity (inl even) = even_most s good (length seats) dials e.node e.number even hs k.ends (near_by e.node (numbered seats e.node) refl)
+    by_parity (inr odd) = odd_most s good (length seats) dials e odd hs k.ends k.once
 
   pub kept_known : (node : ℕ) (seat : Seat) (number : ℕ) → NodeKept hs node seat → IsKnown (λ n. IsArrived hs node n) seat.core.streams.dialled number
-      → count_by (has_head_end (first_end node number)) hs ≡ 1
+      → count_by (has_head_end (end_of node number)) hs ≡ 1
   kept_known node seat number n known = known_once s good (length seats) dials hs k.ends k.once node seat.core.streams.dialled number n.nears known
 
 -- ---- what has an end that one alone has

@@ -2,18 +2,20 @@
 use Rattle.std.proofs.Common.{◌≡◌, ◌≤◌, ◌<◌, ◌+◌, ◌*◌, ◌%◌, ◌==◌, ◌⊎◌, inl, inr, refl, sym, ap, ◌∙◌, subst, arith, ℕ, zero, suc, Bool, true, false, cond, List, [], ◌∷◌, Option, Some, None}
 use Rattle.std.specs.List.{count_by}
 use Rattle.std.proofs.lemmas.Bool.{cases_Bool, cases_lt, eqb-true, eqb-false}
-use Rattle.grasp_laws_network.proofs.Routing.{not_equal, is_itself}
+use Rattle.grasp_laws_network.proofs.Routing.{not_equal}
 use Rattle.grasp_laws_node.specs.Dials.{evens_from}
 use Rattle.grasp_laws_node.specs.Sends.{IsKnown}
+use Rattle.grasp_model_network.proofs.Facts.{number_passes}
 use Rattle.grasp_model_network.specs.GoodSetting.{IsGoodSetting}
 use Rattle.grasp_model_network.specs.Plans.{IsNode}
 use Rattle.grasp_model_network.specs.Setting.{Setting}
-use Rattle.grasp_model_network.specs.Streams.{StreamEnd, is_same_end, is_at_end, is_number}
-use Rattle.grasp_laws_delivery.specs.Heads.{Head, has_head_end, has_number, first_end, HasFar, nears_at}
+use Rattle.grasp_model_network.specs.Streams.{StreamEnd, is_same_end, is_at_end}
+use Rattle.grasp_model_network.specs.World.{end_of}
+use Rattle.grasp_laws_delivery.specs.Heads.{Head, has_head_end, has_number, HasFar, nears_at}
 use Rattle.grasp_laws_delivery.specs.Kept.{IsArrived, GoodHead}
 use Rattle.grasp_laws_delivery.specs.Ready.{Every, HasGoodNumber, HasGoodFar}
 use Rattle.grasp_laws_delivery.proofs.Counts.{every_weaker, count_first, count_yes, count_no, count_at_most, Found, none_or_one}
-use Rattle.grasp_laws_delivery.proofs.Ends.{same_ends, end_itself, parts_are, other_numbers, other_nodes, some_end, at_far, far_here, not_far, near_alone, far_alone}
+use Rattle.grasp_laws_delivery.proofs.Ends.{end_itself, parts_are, other_numbers, other_nodes, some_end, at_far, far_here, not_far, near_alone, far_alone}
 
 -- ---- even numbers
 
@@ -49,9 +51,8 @@ evens_in (suc c) a number even least most = elim (cases_Bool ((2 * a) == number)
 
 -- ---- the ends of one stream
 
--- the near end has an even number of a first life, the far end an odd one; and a stream whose dial isn't sent was opened nowhere
+-- the near end has an even number, the far end an odd one; and a stream whose dial isn't sent was opened nowhere
 pub record EndsApart (h : Head) : Type 0 where
-  pub life : h.near.life ≡ 0
   pub even : h.near.number % 2 ≡ 0
   pub odd : (e : StreamEnd) → h.far ≡ Some e → e.number % 2 ≡ 1
   pub unopened : h.number ≡ None → h.far ≡ None
@@ -70,7 +71,6 @@ pub record ArrivedAs (s : Setting) (nodes dials : ℕ) (e : StreamEnd) (number :
   pub least : 1 ≤ k
   pub most : k ≤ dials
   pub member : IsNode nodes e.node
-  pub life : e.life ≡ 0
   pub arrived : e.number ≡ s.arrives_as e.node k
 
 module _ (s : Setting) (good : IsGoodSetting s) (nodes dials : ℕ) where
@@ -82,7 +82,7 @@ module _ (s : Setting) (good : IsGoodSetting s) (nodes dials : ℕ) where
   arrived_parts e None (Some f) d o is = absurd o
   arrived_parts e (Some k) (Some f) d o is =
       subst (λ (x : StreamEnd). ArrivedAs s nodes dials x (Some k)) (some_end f e is)
-      (record { k = k; number_is = refl; least = d.0; most = d.1; member = o.0; life = o.1; arrived = o.2 })
+      (record { k = k; number_is = refl; least = d.0; most = d.1; member = o.0; arrived = o.1 })
 
   pub arrived_as : (e : StreamEnd) (h : Head) → Good h → h.far ≡ Some e → ArrivedAs s nodes dials e h.number
   arrived_as e h g is = arrived_parts e h.number h.far g.dialled g.opened is
@@ -97,41 +97,31 @@ module _ (s : Setting) (good : IsGoodSetting s) (nodes dials : ℕ) where
   none_opened (Some k) (Some f) o is = absurd (cc)
 
   pub good_apart : (h : Head) → Good h → EndsApart h
-  good_apart h g = record { life = g.life; even = g.even; odd = λ e is. far_is_odd e h g is; unopened = none_opened h.number h.far g.opened }
-
-  -- every end is one of a first life
-  end_life : (e : StreamEnd) (h : Head) → Good h → has_head_end e h ≡ true → e.life ≡ 0
-  end_life e h g has = elim (cases_Bool (is_same_end e h.near)) [
-    | inl near ↦ ap (λ (x : StreamEnd). x.life) (same_ends e h.near near) ∙ g.life
-    | inr not ↦ (arrived_as e h g (at_far e h.far (sym (far_alone e h not) ∙ has))).life
-  ]
-
-  first_has : (e : StreamEnd) (h : Head) → Good h → has_head_end e h ≡ true → has_head_end (first_end e.node e.number) h ≡ true
-  first_has e h g has = subst (λ (life : ℕ). has_head_end (record { node = e.node; life = life; number = e.number }) h ≡ true) (end_life e h g has) has
+  good_apart h g = record { even = g.even; odd = λ e is. far_is_odd e h g is; unopened = none_opened h.number h.far g.opened }
 
   -- ---- near ends
 
-  same_near : (node number : ℕ) (h : Head) → Good h → h.near.node ≡ node → is_same_end (first_end node number) h.near ≡ (h.near.number == number)
-  same_near node number h g at = elim (cases_Bool (h.near.number == number)) [
+  same_near : (node number : ℕ) (h : Head) → h.near.node ≡ node → is_same_end (end_of node number) h.near ≡ (h.near.number == number)
+  same_near node number h at = elim (cases_Bool (h.near.number == number)) [
     | inl is ↦
-        subst (λ (x : StreamEnd). is_same_end x h.near ≡ (h.near.number == number)) (parts_are h.near node number at g.life (eqb-true h.near.number number is)) (end_itself h.near ∙ sym is)
-    | inr not ↦ other_numbers (first_end node number) h.near (λ same. eqb-false h.near.number number not (sym same)) ∙ sym not
+        subst (λ (x : StreamEnd). is_same_end x h.near ≡ (h.near.number == number)) (parts_are h.near node number at (eqb-true h.near.number number is)) (end_itself h.near ∙ sym is)
+    | inr not ↦ other_numbers (end_of node number) h.near (λ same. eqb-false h.near.number number not (sym same)) ∙ sym not
   ]
 
-  pub near_count : (node number : ℕ) → number % 2 ≡ 0 → (hs : List Head) → Every Good hs → count_by (has_head_end (first_end node number)) hs ≡ count_by (is_it number) (nears_at node hs)
+  pub near_count : (node number : ℕ) → number % 2 ≡ 0 → (hs : List Head) → Every Good hs → count_by (has_head_end (end_of node number)) hs ≡ count_by (is_it number) (nears_at node hs)
   near_count node number even [] g = refl
   near_count node number even (h ∷ hs) g = by_node (h.near.node == node) refl (near_count node number even hs g.1) where
-    by_node : (b : Bool) → (h.near.node == node) ≡ b → count_by (has_head_end (first_end node number)) hs ≡ count_by (is_it number) (nears_at node hs)
-        → count_by (has_head_end (first_end node number)) (h ∷ hs) ≡ count_by (is_it number) (cond b (h.near.number ∷ nears_at node hs) (nears_at node hs))
+    by_node : (b : Bool) → (h.near.node == node) ≡ b → count_by (has_head_end (end_of node number)) hs ≡ count_by (is_it number) (nears_at node hs)
+        → count_by (has_head_end (end_of node number)) (h ∷ hs) ≡ count_by (is_it number) (cond b (h.near.number ∷ nears_at node hs) (nears_at node hs))
     by_node true is rest =
-        let here : has_head_end (first_end node number) h ≡ (h.near.number == number) =
-        even_end (first_end node number) even h (good_apart h g.0) ∙ same_near node number h g.0 (eqb-true h.near.node node is) in
-        count_first (has_head_end (first_end node number)) h hs
-        ∙ (ap (λ b. cond b 1 0 + count_by (has_head_end (first_end node number)) hs) here
+        let here : has_head_end (end_of node number) h ≡ (h.near.number == number) =
+        even_end (end_of node number) even h (good_apart h g.0) ∙ same_near node number h (eqb-true h.near.node node is) in
+        count_first (has_head_end (end_of node number)) h hs
+        ∙ (ap (λ b. cond b 1 0 + count_by (has_head_end (end_of node number)) hs) here
         ∙ (ap (λ n. cond (h.near.number == number) 1 0 + n) rest ∙ sym (count_first (is_it number) h.near.number (nears_at node hs))))
     by_node false is rest =
-        count_no (has_head_end (first_end node number)) h hs
-        (even_end (first_end node number) even h (good_apart h g.0) ∙ other_nodes (first_end node number) h.near (λ same. eqb-false h.near.node node is (sym same)))
+        count_no (has_head_end (end_of node number)) h hs
+        (even_end (end_of node number) even h (good_apart h g.0) ∙ other_nodes (end_of node number) h.near (λ same. eqb-false h.near.node node is (sym same)))
         ∙ rest
 
   -- ---- far ends
@@ -156,16 +146,13 @@ module _ (s : Setting) (good : IsGoodSetting s) (nodes dials : ℕ) where
   abbrev Once : List Head → Type 0
   Once hs = (k : ℕ) → 1 ≤ k → k ≤ dials → count_by (has_number k) hs ≡ 1
 
-  same_number : (k : ℕ) (o : Option ℕ) → o ≡ Some k → is_number k o ≡ true
-  same_number k o is = ap (is_number k) is ∙ is_itself k
-
   pub odd_most : (e : StreamEnd) → e.number % 2 ≡ 1 → (hs : List Head) → Every Good hs → Once hs → count_by (has_head_end e) hs ≤ 1
   odd_most e odd hs g once = by_found (none_or_one Good (has_head_end e) hs g) where
     of_one : (k : ℕ) → 1 ≤ k → e.number ≡ s.arrives_as e.node k → (h : Head) → Good h → has_head_end e h ≡ true → has_number k h ≡ true
     of_one k least is h g has =
         let a = arrived_as e h g (at_far e h.far (sym (odd_end e odd h (good_apart h g)) ∙ has)) in
         let same : a.k ≡ k = good.arrivals_apart e.node a.k k a.least least (sym a.arrived ∙ is) in
-        same_number k h.number (a.number_is ∙ ap (λ (x : ℕ). Some x) same)
+        number_passes k h.number (a.number_is ∙ ap (λ (x : ℕ). Some x) same)
 
     by_found : (count_by (has_head_end e) hs ≡ 0) ⊎ Found Good (has_head_end e) → count_by (has_head_end e) hs ≤ 1
     by_found (inl none) = omega (arith, none)
@@ -179,11 +166,11 @@ module _ (s : Setting) (good : IsGoodSetting s) (nodes dials : ℕ) where
   -- ---- what a node knows
 
   pub known_once : (hs : List Head) → Every Good hs → Once hs → (node dialled number : ℕ) → nears_at node hs ≡ evens_from 0 dialled → IsKnown (λ n. IsArrived hs node n) dialled number
-      → count_by (has_head_end (first_end node number)) hs ≡ 1
+      → count_by (has_head_end (end_of node number)) hs ≡ 1
   known_once hs g once node dialled number nears (inl f) =
-      let odd : number % 2 ≡ 1 = far_odd (first_end node number) hs g f in
-      let least : 1 ≤ count_by (has_head_end (first_end node number)) hs = far_least (first_end node number) hs g f in
-      let most : count_by (has_head_end (first_end node number)) hs ≤ 1 = odd_most (first_end node number) odd hs g once in
+      let odd : number % 2 ≡ 1 = far_odd (end_of node number) hs g f in
+      let least : 1 ≤ count_by (has_head_end (end_of node number)) hs = far_least (end_of node number) hs g f in
+      let most : count_by (has_head_end (end_of node number)) hs ≤ 1 = odd_most (end_of node number) odd hs g once in
       omega (arith, least, most)
   known_once hs g once node dialled number nears (inr k) =
       near_count node number k.0 hs g ∙ (ap (count_by (is_it number)) nears ∙ evens_in dialled 0 number k.0 (omega arith) (omega (arith, k.1)))
@@ -203,15 +190,10 @@ module _ (s : Setting) (good : IsGoodSetting s) (nodes dials : ℕ) where
   ]
 
   pub even_most : (node number : ℕ) → number % 2 ≡ 0 → (hs : List Head) → Every Good hs → (nears_at node hs ≡ []) ⊎ ((dialled : ℕ) × (nears_at node hs ≡ evens_from 0 dialled))
-      → count_by (has_head_end (first_end node number)) hs ≤ 1
+      → count_by (has_head_end (end_of node number)) hs ≤ 1
   even_most node number even hs g (inl none) =
-      let e : count_by (has_head_end (first_end node number)) hs ≡ 0 = near_count node number even hs g ∙ ap (count_by (is_it number)) none in omega (arith, e)
+      let e : count_by (has_head_end (end_of node number)) hs ≡ 0 = near_count node number even hs g ∙ ap (count_by (is_it number)) none in omega (arith, e)
   even_most node number even hs g (inr some) =
-      let e : count_by (has_head_end (first_end node number)) hs ≡ count_by (is_it number) (evens_from 0 some.0) = near_count node number even hs g ∙ ap (count_by (is_it number)) some.1 in
+      let e : count_by (has_head_end (end_of node number)) hs ≡ count_by (is_it number) (evens_from 0 some.0) = near_count node number even hs g ∙ ap (count_by (is_it number)) some.1 in
       let m : count_by (is_it number) (evens_from 0 some.0) ≤ 1 = evens_most number some.0 even in
       omega (arith, e, m)
-
-  pub first_most : (e : StreamEnd) (hs : List Head) → Every Good hs → count_by (has_head_end e) hs ≤ count_by (has_head_end (first_end e.node e.number)) hs
-  first_most e hs g =
-      count_at_most (has_head_end e) (has_head_end (first_end e.node e.number)) hs
-      (every_weaker Good (λ h. has_head_end e h ≡ true → has_head_end (first_end e.node e.number) h ≡ true) (first_has e) hs g)

@@ -57,7 +57,7 @@ module _ (e far : StreamEnd) where
   opened_good s nodes dials [] new good = tt
   opened_good s nodes dials (h ∷ hs) new good = (same (has_head_end e h) refl, opened_good s nodes dials hs new.1 good.1) where
     same : (b : Bool) → has_head_end e h ≡ b → GoodHead s nodes dials (cond b (record h { far = Some far }) h)
-    same true has = record { member = good.0.member; life = good.0.life; even = good.0.even; dialled = good.0.dialled; opened = new.0 has }
+    same true has = record { member = good.0.member; even = good.0.even; dialled = good.0.dialled; opened = new.0 has }
     same false has = good.0
 
 -- ---- a number
@@ -104,9 +104,8 @@ module _ (e : StreamEnd) (k : ℕ) where
     same : (b : Bool) → has_head_end e h ≡ b → GoodHead s nodes (dials + 1) (cond b (record h { number = Some k }) h)
     same true has = record {
       member = good.0.member;
-      life = good.0.life;
       even = good.0.even;
       dialled = (omega (arith, next), omega (arith, next));
       opened = subst (HasGoodFar s nodes (Some k)) (sym (none.0 has)) tt;
     }
-    same false has = record { member = good.0.member; life = good.0.life; even = good.0.even; dialled = more_good dials h.number good.0.dialled; opened = good.0.opened }
+    same false has = record { member = good.0.member; even = good.0.even; dialled = more_good dials h.number good.0.dialled; opened = good.0.opened }

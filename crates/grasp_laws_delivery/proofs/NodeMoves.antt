@@ -7,8 +7,8 @@ use Rattle.grasp_model_node.specs.Streams.{StreamRecord}
 use Rattle.grasp_types.specs.declared.address.Locator.{Locator}
 use Rattle.grasp_laws_node.specs.Sends.{IsKnown, Follows, RecordsKnown}
 use Rattle.grasp_model_network.specs.Streams.{StreamEnd}
-use Rattle.grasp_model_network.specs.World.{Seat}
-use Rattle.grasp_laws_delivery.specs.Heads.{Head, first_end, HasFar, nears_at}
+use Rattle.grasp_model_network.specs.World.{Seat, end_of}
+use Rattle.grasp_laws_delivery.specs.Heads.{Head, HasFar, nears_at}
 use Rattle.grasp_laws_delivery.specs.Kept.{IsArrived, IsQueuedDial, WaitsBehind, HeadWaits, QueueKept, NodeKept}
 use Rattle.grasp_laws_delivery.specs.Ready.{Every}
 use Rattle.grasp_laws_delivery.proofs.Counts.{every_weaker}
@@ -64,7 +64,7 @@ WaitsStay node hs ks = (sent : ℕ) (queue : List Queued) → Every (HeadWaits n
 
 module _ (hs ks : List Head) (fars : FarsStay hs ks) where
   pub arrived_stays : (node number : ℕ) → IsArrived hs node number → IsArrived ks node number
-  arrived_stays node number a = fars (first_end node number) a
+  arrived_stays node number a = fars (end_of node number) a
 
   pub queue_moved : (node : ℕ) (queue : List Queued) (dialled : ℕ) → WaitsStay node hs ks → QueueKept hs node queue dialled → QueueKept ks node queue dialled
   queue_moved node queue dialled waits k = record {
@@ -75,7 +75,6 @@ module _ (hs ks : List Head) (fars : FarsStay hs ks) where
 
   pub node_moved : (node : ℕ) (seat : Seat) → nears_at node ks ≡ nears_at node hs → WaitsStay node hs ks → NodeKept hs node seat → NodeKept ks node seat
   node_moved node seat nears waits k = record {
-    life = k.life;
     queue = queue_moved node seat.core.queue seat.core.streams.dialled waits k.queue;
     records = records_wider (λ number. IsArrived hs node number) (λ number. IsArrived ks node number) (arrived_stays node) seat.core k.records;
     nears = nears ∙ k.nears;

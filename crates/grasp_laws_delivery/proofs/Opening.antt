@@ -5,8 +5,8 @@ use Rattle.grasp_model_network.specs.GoodSetting.{IsGoodSetting}
 use Rattle.grasp_model_network.specs.Plans.{IsNode}
 use Rattle.grasp_model_network.specs.Setting.{Setting}
 use Rattle.grasp_model_network.specs.Streams.{StreamEnd, StreamState, is_number}
-use Rattle.grasp_model_network.specs.World.{Seat}
-use Rattle.grasp_laws_delivery.specs.Heads.{Head, head_of, heads, has_head_end, has_number, first_end}
+use Rattle.grasp_model_network.specs.World.{Seat, end_of}
+use Rattle.grasp_laws_delivery.specs.Heads.{Head, head_of, heads, has_head_end, has_number}
 use Rattle.grasp_laws_delivery.specs.Kept.{IsArrived, GoodHead, AreKept}
 use Rattle.grasp_laws_delivery.specs.Ready.{Every, HasGoodFar}
 use Rattle.grasp_laws_delivery.proofs.Counts.{every_weaker, count_same, count_map}
@@ -43,7 +43,7 @@ every_in P (y ∷ xs) x h (inr at) = every_in P xs x h.1 at
 module _ (s : Setting) (good : IsGoodSetting s) (seats : List Seat) (hs : List Head) (dials : ℕ) (kept : AreKept s seats hs dials) (h : Head) (at : IsIn h hs) (k : ℕ) (number : h.number ≡ Some k)
     (waits : h.far ≡ None) (node : ℕ) (member : IsNode (length seats) node) where
   abbrev far : StreamEnd
-  far = first_end node (s.arrives_as node k)
+  far = end_of node (s.arrives_as node k)
 
   abbrev after : List Head
   after = map (opened_head h.near far) hs
@@ -63,7 +63,7 @@ module _ (s : Setting) (good : IsGoodSetting s) (seats : List Seat) (hs : List H
 
   new : Every (λ x. has_head_end h.near x ≡ true → HasGoodFar s (length seats) x.number (Some far)) hs
   new = every_weaker (λ x. has_head_end h.near x ≡ true → x ≡ h) (λ x. has_head_end h.near x ≡ true → HasGoodFar s (length seats) x.number (Some far))
-      (λ x same e. subst (λ o. HasGoodFar s (length seats) o (Some far)) (sym (ap (λ (y : Head). y.number) (same e) ∙ number)) (member, refl, refl)) hs alike
+      (λ x same e. subst (λ o. HasGoodFar s (length seats) o (Some far)) (sym (ap (λ (y : Head). y.number) (same e) ∙ number)) (member, refl)) hs alike
 
   fars : FarsStay hs after
   fars f there = opened_fars h.near far hs none f there

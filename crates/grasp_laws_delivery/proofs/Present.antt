@@ -179,20 +179,20 @@ module _ (w : WorldState) where
 
   -- ---- a step
 
-  made_at : (node : ℕ) (seat : Seat) → is_present w node ≡ true → (qs : List Queued) (ts : List StreamState) → AreAtPresent w ts → AreAtPresent w (fold (having_made node seat) ts qs)
-  made_at node seat here [] ts each = each
-  made_at node seat here (datagram link to m ∷ qs) ts each = made_at node seat here qs ts each
-  made_at node seat here (dial stream to ∷ qs) ts each =
-      made_at node seat here qs (having_made node seat ts (dial stream to)) (each_push (IsAtPresent w) ts (fresh_stream (end_of node seat stream) to) (fresh_at (end_of node seat stream) to here) each)
-  made_at node seat here (send stream m ∷ qs) ts each =
-      made_at node seat here qs (having_made node seat ts (send stream m))
-      (each_changed (IsAtPresent w) (IsAtPresent w) ts (end_of node seat stream) (with_said m) (kept_at (with_said m) (said_sides m) (end_of node seat stream)) each)
+  made_at : (node : ℕ) → is_present w node ≡ true → (qs : List Queued) (ts : List StreamState) → AreAtPresent w ts → AreAtPresent w (fold (having_made node) ts qs)
+  made_at node here [] ts each = each
+  made_at node here (datagram link to m ∷ qs) ts each = made_at node here qs ts each
+  made_at node here (dial stream to ∷ qs) ts each =
+      made_at node here qs (having_made node ts (dial stream to)) (each_push (IsAtPresent w) ts (fresh_stream (end_of node stream) to) (fresh_at (end_of node stream) to here) each)
+  made_at node here (send stream m ∷ qs) ts each =
+      made_at node here qs (having_made node ts (send stream m))
+      (each_changed (IsAtPresent w) (IsAtPresent w) ts (end_of node stream) (with_said m) (kept_at (with_said m) (said_sides m) (end_of node stream)) each)
 
   arrived_at : (v : Visit) (number : ℕ) (r : Reply) (o : Option StreamState) → is_present w v.node ≡ true → AreAtPresent w w.streams → AreAtPresent w (arrived w v number r o).streams
   arrived_at v number r None here each = each
   arrived_at v number r (Some t) here each =
-      each_changed (IsAtPresent w) (IsAtPresent w) w.streams t.near (with_far (end_of v.node v.seat number) (arrival_by r))
-      (λ u k. at_end_has (IsAtPresent w) t.near (with_far (end_of v.node v.seat number) (arrival_by r)) u (λ none. k) (λ by at. far_at (end_of v.node v.seat number) (arrival_by r) u by here k)) each
+      each_changed (IsAtPresent w) (IsAtPresent w) w.streams t.near (with_far (end_of v.node number) (arrival_by r))
+      (λ u k. at_end_has (IsAtPresent w) t.near (with_far (end_of v.node number) (arrival_by r)) u (λ none. k) (λ by at. far_at (end_of v.node number) (arrival_by r) u by here k)) each
 
   delivered_at : (count : ℕ) (o : Option Reached) → AreAtPresent w w.streams → AreAtPresent w (delivered w count o).streams
   delivered_at count None each = each
@@ -214,27 +214,27 @@ module _ (w : WorldState) where
   step_at : (s : Setting) (e : Event) (v : Visit) (c : Choice) → IsStep e → is_present w v.node ≡ true → AreAtPresent w w.streams → AreAtPresent w (after_visit s w e v c).streams
   unfolding streams_made
   step_at s e v c is here each =
-      subst (AreAtPresent w) (sym (streams_stepped s w e v c is)) (made_at v.node v.seat here (gained v.seat.core c.after) (streams_before s w e v c) (before_at s e v c here each))
+      subst (AreAtPresent w) (sym (streams_stepped s w e v c is)) (made_at v.node here (gained v.seat.core c.after) (streams_before s w e v c) (before_at s e v c here each))
 
   -- ---- a drain
 
-  handed_at : (s : Setting) (node : ℕ) (seat : Seat) (qs : List Queued) (x : WorldState) → AreAtPresent w x.streams → AreAtPresent w (fold (having_sent s node seat) x qs).streams
-  handed_at s node seat [] x each = each
-  handed_at s node seat (datagram link to m ∷ qs) x each =
-      handed_at s node seat qs (having_sent s node seat x (datagram link to m)) (posted_each (IsAtPresent w) x m (route_of s (member_of x node) link to) each)
-  handed_at s node seat (dial stream to ∷ qs) x each =
-      handed_at s node seat qs (having_sent s node seat x (dial stream to))
-      (each_changed (IsAtPresent w) (IsAtPresent w) x.streams (end_of node seat stream) (with_number (x.dials + 1))
-      (kept_at (with_number (x.dials + 1)) (number_sides (x.dials + 1)) (end_of node seat stream)) each)
-  handed_at s node seat (send stream m ∷ qs) x each =
-      handed_at s node seat qs (having_sent s node seat x (send stream m))
-      (each_changed (IsAtPresent w) (IsAtPresent w) x.streams (end_of node seat stream) (with_sent m) (kept_at (with_sent m) (sent_sides m) (end_of node seat stream)) each)
+  handed_at : (s : Setting) (node : ℕ) (qs : List Queued) (x : WorldState) → AreAtPresent w x.streams → AreAtPresent w (fold (having_sent s node) x qs).streams
+  handed_at s node [] x each = each
+  handed_at s node (datagram link to m ∷ qs) x each =
+      handed_at s node qs (having_sent s node x (datagram link to m)) (posted_each (IsAtPresent w) x m (route_of s (member_of x node) link to) each)
+  handed_at s node (dial stream to ∷ qs) x each =
+      handed_at s node qs (having_sent s node x (dial stream to))
+      (each_changed (IsAtPresent w) (IsAtPresent w) x.streams (end_of node stream) (with_number (x.dials + 1))
+      (kept_at (with_number (x.dials + 1)) (number_sides (x.dials + 1)) (end_of node stream)) each)
+  handed_at s node (send stream m ∷ qs) x each =
+      handed_at s node qs (having_sent s node x (send stream m))
+      (each_changed (IsAtPresent w) (IsAtPresent w) x.streams (end_of node stream) (with_sent m) (kept_at (with_sent m) (sent_sides m) (end_of node stream)) each)
 
-  ended_at : (node : ℕ) (seat : Seat) (streams : List ℕ) (x : WorldState) → AreAtPresent w x.streams → AreAtPresent w (fold (having_closed node seat) x streams).streams
-  ended_at node seat [] x each = each
-  ended_at node seat (stream ∷ streams) x each =
-      ended_at node seat streams (having_closed node seat x stream)
-      (each_changed (IsAtPresent w) (IsAtPresent w) x.streams (end_of node seat stream) with_ended (kept_at with_ended ended_sides (end_of node seat stream)) each)
+  ended_at : (node : ℕ) (streams : List ℕ) (x : WorldState) → AreAtPresent w x.streams → AreAtPresent w (fold (having_closed node) x streams).streams
+  ended_at node [] x each = each
+  ended_at node (stream ∷ streams) x each =
+      ended_at node streams (having_closed node x stream)
+      (each_changed (IsAtPresent w) (IsAtPresent w) x.streams (end_of node stream) with_ended (kept_at with_ended ended_sides (end_of node stream)) each)
 
   drained_by_at : (s : Setting) (node max : ℕ) (o : Option Seat) → AreAtPresent w w.streams → AreAtPresent w (drained_at s w node max o).streams
   unfolding handed_over
@@ -242,8 +242,8 @@ module _ (w : WorldState) where
   drained_by_at s node max (Some seat) each = from (begin seat.core seat.core.reading) where
     from : (m : NodeState) → AreAtPresent w (drained_from s w node seat m max).streams
     from m =
-        ended_at node seat (closes m max) (fold (having_sent s node seat) (with_seat w node (seat_with seat (after_drain m max) seat.agent)) (take max m.queue))
-        (handed_at s node seat (take max m.queue) (with_seat w node (seat_with seat (after_drain m max) seat.agent)) each)
+        ended_at node (closes m max) (fold (having_sent s node) (with_seat w node (seat_with (after_drain m max) seat.agent)) (take max m.queue))
+        (handed_at s node (take max m.queue) (with_seat w node (seat_with (after_drain m max) seat.agent)) each)
 
 -- ---- networks with the same lives
 

@@ -101,19 +101,19 @@ posted_ranged : (w : WorldState) (m : Message) (route : Option Route) → IsMess
 posted_ranged w m None is all = all
 posted_ranged w m (Some route) is all = All-push IsSentRanged w.datagrams (record { route = route; message = m }) all is
 
-sent_ranged : (s : Setting) (node : ℕ) (seat : Seat) (w : WorldState) (q : Queued) → IsRanged q → AllSentRanged w → AllSentRanged (having_sent s node seat w q)
-sent_ranged s node seat w (datagram link to m) is all = posted_ranged w m (route_of s (member_of w node) link to) is all
-sent_ranged s node seat w (dial stream to) is all = all
-sent_ranged s node seat w (send stream m) is all = all
+sent_ranged : (s : Setting) (node : ℕ) (w : WorldState) (q : Queued) → IsRanged q → AllSentRanged w → AllSentRanged (having_sent s node w q)
+sent_ranged s node w (datagram link to m) is all = posted_ranged w m (route_of s (member_of w node) link to) is all
+sent_ranged s node w (dial stream to) is all = all
+sent_ranged s node w (send stream m) is all = all
 
-handed_ranged : (s : Setting) (node : ℕ) (seat : Seat) (qs : List Queued) (w : WorldState) → All IsRanged qs → AllSentRanged w → AllSentRanged (fold (having_sent s node seat) w qs)
-handed_ranged s node seat [] w ranged all = all
-handed_ranged s node seat (q ∷ qs) w ranged all =
-    handed_ranged s node seat qs (having_sent s node seat w q) (All-tail IsRanged q qs ranged) (sent_ranged s node seat w q (All-head IsRanged q qs ranged) all)
+handed_ranged : (s : Setting) (node : ℕ) (qs : List Queued) (w : WorldState) → All IsRanged qs → AllSentRanged w → AllSentRanged (fold (having_sent s node) w qs)
+handed_ranged s node [] w ranged all = all
+handed_ranged s node (q ∷ qs) w ranged all =
+    handed_ranged s node qs (having_sent s node w q) (All-tail IsRanged q qs ranged) (sent_ranged s node w q (All-head IsRanged q qs ranged) all)
 
-closed_ranged : (node : ℕ) (seat : Seat) (streams : List ℕ) (w : WorldState) → AllSentRanged w → AllSentRanged (fold (having_closed node seat) w streams)
-closed_ranged node seat [] w all = all
-closed_ranged node seat (stream ∷ streams) w all = closed_ranged node seat streams (having_closed node seat w stream) all
+closed_ranged : (node : ℕ) (streams : List ℕ) (w : WorldState) → AllSentRanged w → AllSentRanged (fold (having_closed node) w streams)
+closed_ranged node [] w all = all
+closed_ranged node (stream ∷ streams) w all = closed_ranged node streams (having_closed node w stream) all
 
 drained_ranged : (s : Setting) (w : WorldState) (node max : ℕ) (o : Option Seat) → IsReached s w → seat_at w node ≡ o → AllSentRanged w → AllSentRanged (drained_at s w node max o)
 unfolding handed_over
@@ -121,8 +121,8 @@ drained_ranged s w node max None r here all = all
 drained_ranged s w node max (Some seat) r here all = from (begin seat.core seat.core.reading) (begun_ranged seat.core seat.core.reading (queues_ranged s w r node seat here)) where
   from : (m : NodeState) → IsQueueRanged m → AllSentRanged (drained_from s w node seat m max)
   from m q =
-      let put = with_seat w node (seat_with seat (after_drain m max) seat.agent) in
-      closed_ranged node seat (closes m max) (fold (having_sent s node seat) put (take max m.queue)) (handed_ranged s node seat (take max m.queue) put (All-take IsRanged max m.queue q) all)
+      let put = with_seat w node (seat_with (after_drain m max) seat.agent) in
+      closed_ranged node (closes m max) (fold (having_sent s node) put (take max m.queue)) (handed_ranged s node (take max m.queue) put (All-take IsRanged max m.queue q) all)
 
 -- another agent sends nothing
 one_sent : (w x : WorldState) → OneAgent w x → AllSentRanged w → AllSentRanged x

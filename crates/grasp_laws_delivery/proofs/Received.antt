@@ -58,18 +58,18 @@ module _ (s : Setting) (good : IsGoodSetting s) where
   posted_go w m None goes all = all
   posted_go w m (Some r) goes all = All-push (GoesToMember s) w.datagrams (record { route = r; message = m }) all (goes r refl)
 
-  sent_go : (node : ℕ) (seat : Seat) (w : WorldState) (q : Queued) → AllGo s w → AllGo s (having_sent s node seat w q)
-  sent_go node seat w (datagram link to m) all = posted_go w m (route_of s (member_of w node) link to) (λ r is. route_member s (member_of w node) link to r good.lines is) all
-  sent_go node seat w (dial stream to) all = all
-  sent_go node seat w (send stream m) all = all
+  sent_go : (node : ℕ) (w : WorldState) (q : Queued) → AllGo s w → AllGo s (having_sent s node w q)
+  sent_go node w (datagram link to m) all = posted_go w m (route_of s (member_of w node) link to) (λ r is. route_member s (member_of w node) link to r good.lines is) all
+  sent_go node w (dial stream to) all = all
+  sent_go node w (send stream m) all = all
 
-  handed_go : (node : ℕ) (seat : Seat) (qs : List Queued) (w : WorldState) → AllGo s w → AllGo s (fold (having_sent s node seat) w qs)
-  handed_go node seat [] w all = all
-  handed_go node seat (q ∷ qs) w all = handed_go node seat qs (having_sent s node seat w q) (sent_go node seat w q all)
+  handed_go : (node : ℕ) (qs : List Queued) (w : WorldState) → AllGo s w → AllGo s (fold (having_sent s node) w qs)
+  handed_go node [] w all = all
+  handed_go node (q ∷ qs) w all = handed_go node qs (having_sent s node w q) (sent_go node w q all)
 
-  closed_go : (node : ℕ) (seat : Seat) (streams : List ℕ) (w : WorldState) → AllGo s w → AllGo s (fold (having_closed node seat) w streams)
-  closed_go node seat [] w all = all
-  closed_go node seat (stream ∷ streams) w all = closed_go node seat streams (having_closed node seat w stream) all
+  closed_go : (node : ℕ) (streams : List ℕ) (w : WorldState) → AllGo s w → AllGo s (fold (having_closed node) w streams)
+  closed_go node [] w all = all
+  closed_go node (stream ∷ streams) w all = closed_go node streams (having_closed node w stream) all
 
   drained_go : (w : WorldState) (node max : ℕ) (o : Option Seat) → AllGo s w → AllGo s (drained_at s w node max o)
   unfolding handed_over
@@ -77,8 +77,8 @@ module _ (s : Setting) (good : IsGoodSetting s) where
   drained_go w node max (Some seat) all = from (begin seat.core seat.core.reading) where
     from : (m : NodeState) → AllGo s (drained_from s w node seat m max)
     from m =
-        let put : WorldState = with_seat w node (seat_with seat (after_drain m max) seat.agent) in
-        closed_go node seat (closes m max) (fold (having_sent s node seat) put (take max m.queue)) (handed_go node seat (take max m.queue) put all)
+        let put : WorldState = with_seat w node (seat_with (after_drain m max) seat.agent) in
+        closed_go node (closes m max) (fold (having_sent s node) put (take max m.queue)) (handed_go node (take max m.queue) put all)
 
   one_go : (w x : WorldState) → OneAgent w x → AllGo s w → AllGo s x
   one_go w x o all = subst (AllGo s) (sym o.after) all

@@ -33,13 +33,13 @@ AreSane ts = OfEachStream IsSane ts
 
 -- ---- a step
 
-made_sane : (node : ℕ) (seat : Seat) (qs : List Queued) (ts : List StreamState) → AreSane ts → AreSane (fold (having_made node seat) ts qs)
-made_sane node seat [] ts each = each
-made_sane node seat (datagram link to m ∷ qs) ts each = made_sane node seat qs ts each
-made_sane node seat (dial stream to ∷ qs) ts each =
-    made_sane node seat qs (having_made node seat ts (dial stream to)) (each_push IsSane ts (fresh_stream (end_of node seat stream) to) (dialled_sane (end_of node seat stream) to) each)
-made_sane node seat (send stream m ∷ qs) ts each =
-    made_sane node seat qs (having_made node seat ts (send stream m)) (each_changed IsSane IsSane ts (end_of node seat stream) (with_said m) (said_sane (end_of node seat stream) m) each)
+made_sane : (node : ℕ) (qs : List Queued) (ts : List StreamState) → AreSane ts → AreSane (fold (having_made node) ts qs)
+made_sane node [] ts each = each
+made_sane node (datagram link to m ∷ qs) ts each = made_sane node qs ts each
+made_sane node (dial stream to ∷ qs) ts each =
+    made_sane node qs (having_made node ts (dial stream to)) (each_push IsSane ts (fresh_stream (end_of node stream) to) (dialled_sane (end_of node stream) to) each)
+made_sane node (send stream m ∷ qs) ts each =
+    made_sane node qs (having_made node ts (send stream m)) (each_changed IsSane IsSane ts (end_of node stream) (with_said m) (said_sane (end_of node stream) m) each)
 
 gone : (r : Reply) → is_waiting (arrival_by r) ≡ false
 gone reply.Turned = refl
@@ -48,7 +48,7 @@ gone _ = refl
 arrived_sane : (w : WorldState) (v : Visit) (number : ℕ) (r : Reply) (o : Option StreamState) → AreSane w.streams → AreSane (arrived w v number r o).streams
 arrived_sane w v number r None each = each
 arrived_sane w v number r (Some t) each =
-    each_changed IsSane IsSane w.streams t.near (with_far (end_of v.node v.seat number) (arrival_by r)) (λ u k. opened_sane t.near (end_of v.node v.seat number) (arrival_by r) u (gone r) k) each
+    each_changed IsSane IsSane w.streams t.near (with_far (end_of v.node number) (arrival_by r)) (λ u k. opened_sane t.near (end_of v.node number) (arrival_by r) u (gone r) k) each
 
 delivered_all_sane : (w : WorldState) (count : ℕ) (o : Option Reached) → AreSane w.streams → AreSane (delivered w count o).streams
 delivered_all_sane w count None each = each
@@ -66,23 +66,23 @@ before_sane s w _ v c each = each
 
 step_sane : (s : Setting) (w : WorldState) (e : Event) (v : Visit) (c : Choice) → IsStep e → AreSane w.streams → AreSane (after_visit s w e v c).streams
 unfolding streams_made
-step_sane s w e v c is each = subst AreSane (sym (streams_stepped s w e v c is)) (made_sane v.node v.seat (gained v.seat.core c.after) (streams_before s w e v c) (before_sane s w e v c each))
+step_sane s w e v c is each = subst AreSane (sym (streams_stepped s w e v c is)) (made_sane v.node (gained v.seat.core c.after) (streams_before s w e v c) (before_sane s w e v c each))
 
 -- ---- a drain
 
-handed_sane : (s : Setting) (node : ℕ) (seat : Seat) (qs : List Queued) (w : WorldState) → AreSane w.streams → AreSane (fold (having_sent s node seat) w qs).streams
-handed_sane s node seat [] w each = each
-handed_sane s node seat (datagram link to m ∷ qs) w each = handed_sane s node seat qs (having_sent s node seat w (datagram link to m)) (posted_each IsSane w m (route_of s (member_of w node) link to) each)
-handed_sane s node seat (dial stream to ∷ qs) w each =
-    handed_sane s node seat qs (having_sent s node seat w (dial stream to))
-    (each_changed IsSane IsSane w.streams (end_of node seat stream) (with_number (w.dials + 1)) (numbered_sane (end_of node seat stream) (w.dials + 1)) each)
-handed_sane s node seat (send stream m ∷ qs) w each =
-    handed_sane s node seat qs (having_sent s node seat w (send stream m)) (each_changed IsSane IsSane w.streams (end_of node seat stream) (with_sent m) (sent_sane (end_of node seat stream) m) each)
+handed_sane : (s : Setting) (node : ℕ) (qs : List Queued) (w : WorldState) → AreSane w.streams → AreSane (fold (having_sent s node) w qs).streams
+handed_sane s node [] w each = each
+handed_sane s node (datagram link to m ∷ qs) w each = handed_sane s node qs (having_sent s node w (datagram link to m)) (posted_each IsSane w m (route_of s (member_of w node) link to) each)
+handed_sane s node (dial stream to ∷ qs) w each =
+    handed_sane s node qs (having_sent s node w (dial stream to))
+    (each_changed IsSane IsSane w.streams (end_of node stream) (with_number (w.dials + 1)) (numbered_sane (end_of node stream) (w.dials + 1)) each)
+handed_sane s node (send stream m ∷ qs) w each =
+    handed_sane s node qs (having_sent s node w (send stream m)) (each_changed IsSane IsSane w.streams (end_of node stream) (with_sent m) (sent_sane (end_of node stream) m) each)
 
-closed_sane : (node : ℕ) (seat : Seat) (streams : List ℕ) (w : WorldState) → AreSane w.streams → AreSane (fold (having_closed node seat) w streams).streams
-closed_sane node seat [] w each = each
-closed_sane node seat (stream ∷ streams) w each =
-    closed_sane node seat streams (having_closed node seat w stream) (each_changed IsSane IsSane w.streams (end_of node seat stream) with_ended (ended_sane (end_of node seat stream)) each)
+closed_sane : (node : ℕ) (streams : List ℕ) (w : WorldState) → AreSane w.streams → AreSane (fold (having_closed node) w streams).streams
+closed_sane node [] w each = each
+closed_sane node (stream ∷ streams) w each =
+    closed_sane node streams (having_closed node w stream) (each_changed IsSane IsSane w.streams (end_of node stream) with_ended (ended_sane (end_of node stream)) each)
 
 drained_sane : (s : Setting) (w : WorldState) (node max : ℕ) (o : Option Seat) → AreSane w.streams → AreSane (drained_at s w node max o).streams
 unfolding handed_over
@@ -90,8 +90,8 @@ drained_sane s w node max None each = each
 drained_sane s w node max (Some seat) each = from (begin seat.core seat.core.reading) where
   from : (m : NodeState) → AreSane (drained_from s w node seat m max).streams
   from m =
-      closed_sane node seat (closes m max) (fold (having_sent s node seat) (with_seat w node (seat_with seat (after_drain m max) seat.agent)) (take max m.queue))
-      (handed_sane s node seat (take max m.queue) (with_seat w node (seat_with seat (after_drain m max) seat.agent)) each)
+      closed_sane node (closes m max) (fold (having_sent s node) (with_seat w node (seat_with (after_drain m max) seat.agent)) (take max m.queue))
+      (handed_sane s node (take max m.queue) (with_seat w node (seat_with (after_drain m max) seat.agent)) each)
 
 -- ---- every turn
 

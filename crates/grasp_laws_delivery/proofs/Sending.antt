@@ -13,8 +13,8 @@ use Rattle.grasp_laws_node.proofs.Addressed.Streams.{follows_rise}
 use Rattle.grasp_model_network.specs.GoodSetting.{IsGoodSetting}
 use Rattle.grasp_model_network.specs.Setting.{Setting, numbered}
 use Rattle.grasp_model_network.specs.Streams.{StreamEnd, is_same_end, is_number}
-use Rattle.grasp_model_network.specs.World.{Seat}
-use Rattle.grasp_laws_delivery.specs.Heads.{Head, has_head_end, has_number, first_end, nears_at}
+use Rattle.grasp_model_network.specs.World.{Seat, end_of}
+use Rattle.grasp_laws_delivery.specs.Heads.{Head, has_head_end, has_number, nears_at}
 use Rattle.grasp_laws_delivery.specs.Kept.{IsArrived, IsQueuedDial, WaitsBehind, HeadWaits, QueueKept, NodeKept, GoodHead}
 use Rattle.grasp_laws_delivery.specs.Ready.{Every, HasGoodNumber}
 use Rattle.grasp_laws_delivery.proofs.Counts.{every_map, every_weaker, every_both, count_same, count_map}
@@ -81,7 +81,7 @@ pub record IsNextDial (node stream : ℕ) (to : Locator) (h : Head) : Type 0 whe
 
 module _ (node : ℕ) (hs : List Head) (stream : ℕ) (to : Locator) (qs : List Queued) (dialled : ℕ) (k : QueueKept hs node (dial stream to ∷ qs) dialled) (ends : Every EndsApart hs) where
   abbrev e : StreamEnd
-  e = first_end node stream
+  e = end_of node stream
 
   pub stream_even : stream % 2 ≡ 0
   stream_even = omega (arith, k.follows.0)
@@ -132,7 +132,7 @@ module _ (node : ℕ) (hs : List Head) (stream : ℕ) (to : Locator) (qs : List 
   wait_on number h p = by_test (has_head_end e h) refl where
     not_near : has_head_end e h ≡ false → h.near.node ≡ node → h.near.number ≢ stream
     not_near not at is =
-        true≢false (sym (even_end e stream_even h p.0 ∙ subst (λ (x : StreamEnd). is_same_end x h.near ≡ true) (parts_are h.near node stream at p.0.life is) (end_itself h.near)) ∙ not)
+        true≢false (sym (even_end e stream_even h p.0 ∙ subst (λ (x : StreamEnd). is_same_end x h.near ≡ true) (parts_are h.near node stream at is) (end_itself h.near)) ∙ not)
 
     by_test : (b : Bool) → has_head_end e h ≡ b → HeadWaits node (k.sent + 1) qs (cond b (record h { number = Some number }) h)
     by_test true has at = let n = next_of h p has in omega (arith, n.number, k.follows.0)
@@ -141,7 +141,7 @@ module _ (node : ℕ) (hs : List Head) (stream : ℕ) (to : Locator) (qs : List 
   pub dial_kept : (number : ℕ) → QueueKept (map (numbered_head e number) hs) node qs dialled
   dial_kept number = record {
     sent = k.sent + 1;
-    follows = follows_wider (λ n. IsArrived hs node n) (λ n. IsArrived (map (numbered_head e number) hs) node n) (λ n a. numbered_fars e number hs (first_end node n) a) qs (k.sent + 1) dialled k.follows.1;
+    follows = follows_wider (λ n. IsArrived hs node n) (λ n. IsArrived (map (numbered_head e number) hs) node n) (λ n a. numbered_fars e number hs (end_of node n) a) qs (k.sent + 1) dialled k.follows.1;
     waits = every_map (λ h. EndsApart h × Waits h) (HeadWaits node (k.sent + 1) qs) (numbered_head e number) (wait_on number) hs (every_both EndsApart Waits hs ends k.waits);
   }
 
@@ -192,7 +192,7 @@ module _ (s : Setting) (good : IsGoodSetting s) (seats : List Seat) (nodes node 
 
   module _ (stream : ℕ) (to : Locator) (qs : List Queued) (a : AreSending s seats nodes node core hs dials (dial stream to ∷ qs)) where
     abbrev at : StreamEnd
-    at = first_end node stream
+    at = end_of node stream
 
     abbrev after : List Head
     after = map (numbered_head at (dials + 1)) hs

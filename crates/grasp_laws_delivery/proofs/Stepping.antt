@@ -1,5 +1,5 @@
 -- A network stays in order where a node makes a step that isn't a drain.
-use Rattle.std.proofs.Common.{◌≡◌, ◌++◌, ◌-◌, refl, sym, ap, ◌∙◌, subst, ℕ, [], length, drop, Some, slice_set, append-nil}
+use Rattle.std.proofs.Common.{◌≡◌, ◌++◌, ◌-◌, sym, ap, ◌∙◌, subst, ℕ, [], length, drop, Some, slice_set, append-nil}
 use Rattle.std.proofs.Math.Seq.{drop-append_seam}
 use Rattle.grasp_agent.specs.States.{AgentState}
 use Rattle.grasp_model_node.specs.Node.{NodeState}
@@ -87,11 +87,11 @@ module _ (ties : TiesAreKept) (s : Setting) (w x : WorldState) (v : Visit) (c : 
   pub stepped_kept : StreamsKept s (stepped w v c.after agent)
   unfolding stepped
   stepped_kept = record {
-    kept = subst (λ hs. AreKept s (slice_set w.seats (v.node - 1) (seat_with v.seat c.after agent)) hs w.dials)
-        (sym (talks_made_heads v.node v.seat (gained v.seat.core c.after) w.streams (kept.kept.nodes v.node v.seat here).life))
-        (appended s w.seats (heads w.streams) w.dials kept.kept v.node v.seat (seat_with v.seat c.after agent) (gained v.seat.core c.after) (numbered_within w.seats v.node v.seat here) here refl
+    kept = subst (λ hs. AreKept s (slice_set w.seats (v.node - 1) (seat_with c.after agent)) hs w.dials)
+        (sym (talks_made_heads v.node (gained v.seat.core c.after) w.streams))
+        (appended s w.seats (heads w.streams) w.dials kept.kept v.node v.seat (seat_with c.after agent) (gained v.seat.core c.after) (numbered_within w.seats v.node v.seat here) here
         gains.queued gains.records gains.follows);
-    waits = talks_made_wait v.node v.seat (gained v.seat.core c.after) w.streams kept.waits;
+    waits = talks_made_wait v.node (gained v.seat.core c.after) w.streams kept.waits;
   }
 
   pub as_stepped : IsSteppedAs w x v c.after agent → StreamsKept s x

@@ -11,7 +11,7 @@ use Rattle.grasp_model_network.specs.GoodSetting.{IsGoodSetting}
 use Rattle.grasp_model_network.specs.Setting.{Setting}
 use Rattle.grasp_model_network.specs.Streams.{StreamEnd, StreamState, count_at_end}
 use Rattle.grasp_model_network.specs.World.{Seat, WorldState, seat_at, end_of}
-use Rattle.grasp_laws_delivery.specs.Heads.{Head, head_of, heads, first_end}
+use Rattle.grasp_laws_delivery.specs.Heads.{Head, head_of, heads}
 use Rattle.grasp_laws_delivery.specs.Kept.{IsArrived, IsQueuedDial, WaitsBehind, HeadWaits, NodeKept, GoodHead, StreamsKept}
 use Rattle.grasp_laws_delivery.specs.Ready.{Every, AreReady, StreamsAreReady}
 use Rattle.grasp_laws_delivery.proofs.Counts.{every_weaker, every_of}
@@ -19,7 +19,7 @@ use Rattle.grasp_laws_delivery.proofs.EndMaps.{count_heads, count_numbers}
 use Rattle.grasp_laws_delivery.proofs.HeadApart.{kept_apart, kept_known}
 use Rattle.grasp_laws_delivery.proofs.HeadCounts.{EndsApart, good_apart}
 use Rattle.grasp_laws_delivery.proofs.Present.{sides_present}
-use Rattle.grasp_laws_delivery.proofs.Readying.{end_is, queue_ready}
+use Rattle.grasp_laws_delivery.proofs.Readying.{queue_ready}
 use Rattle.grasp_laws_delivery.proofs.Worlds.{reached_in_order}
 
 -- a dial that is queued is below the next one
@@ -41,23 +41,21 @@ module _ (s : Setting) (w : WorldState) (good : IsGoodSetting s) (k : StreamsKep
     its : NodeKept (heads w.streams) node seat
     its = k.kept.nodes node seat here
 
-    pub node_ready : AreReady node seat seat.core.queue w.streams
+    pub node_ready : AreReady node seat.core.queue w.streams
     node_ready =
-        queue_ready node seat its.life seat.core.streams.dialled seat.core.queue w.streams apart_ends
+        queue_ready node seat.core.streams.dialled seat.core.queue w.streams apart_ends
         (λ number known. kept_known s good w.seats (heads w.streams) w.dials k.kept node seat number its known) its.queue
 
-    pub records_once : All (λ (x : StreamRecord). count_at_end w.streams (end_of node seat x.number) ≡ 1) seat.core.streams.records
+    pub records_once : All (λ (x : StreamRecord). count_at_end w.streams (end_of node x.number) ≡ 1) seat.core.streams.records
     records_once =
-        All-weaker (λ (x : StreamRecord). IsKnown (λ n. IsArrived (heads w.streams) node n) seat.core.streams.dialled x.number) (λ (x : StreamRecord). count_at_end w.streams (end_of node seat x.number) ≡ 1)
+        All-weaker (λ (x : StreamRecord). IsKnown (λ n. IsArrived (heads w.streams) node n) seat.core.streams.dialled x.number) (λ (x : StreamRecord). count_at_end w.streams (end_of node x.number) ≡ 1)
         (λ x known.
-        subst (λ e. count_at_end w.streams e ≡ 1) (end_is node seat its.life seat.core.streams.dialled x.number)
-        (count_heads (first_end node x.number) w.streams ∙ kept_known s good w.seats (heads w.streams) w.dials k.kept node seat x.number its known))
+        count_heads (end_of node x.number) w.streams ∙ kept_known s good w.seats (heads w.streams) w.dials k.kept node seat x.number its known)
         seat.core.streams.records its.records
 
-    pub near_once : (d : ℕ) → d < seat.core.streams.dialled → count_at_end w.streams (end_of node seat (2 * d)) ≡ 1
+    pub near_once : (d : ℕ) → d < seat.core.streams.dialled → count_at_end w.streams (end_of node (2 * d)) ≡ 1
     near_once d low =
-        subst (λ e. count_at_end w.streams e ≡ 1) (end_is node seat its.life seat.core.streams.dialled (2 * d))
-        (count_heads (first_end node (2 * d)) w.streams ∙ kept_known s good w.seats (heads w.streams) w.dials k.kept node seat (2 * d) its (inr (omega arith, omega (arith, low))))
+        count_heads (end_of node (2 * d)) w.streams ∙ kept_known s good w.seats (heads w.streams) w.dials k.kept node seat (2 * d) its (inr (omega arith, omega (arith, low)))
 
     below_next : (h : Head) → HeadWaits node its.queue.sent seat.core.queue h → h.near.node ≡ node → h.near.number < 2 * seat.core.streams.dialled
     below_next h waits at = by_number h.number (waits at) where
@@ -78,7 +76,6 @@ streams_ready ties = record {
   ready = λ s w r node seat here. node_ready s w r.good (reached_in_order ties s w r).streams node seat here;
   ends = λ s w r. every_of (GoodHead s (length w.seats) w.dials) head_of w.streams (reached_in_order ties s w r).streams.kept.ends;
   once = λ s w r k least most. count_numbers k w.streams ∙ (reached_in_order ties s w r).streams.kept.once k least most;
-  lives = λ s w r node seat here. ((reached_in_order ties s w r).streams.kept.nodes node seat here).life;
   records = λ s w r node seat here. records_once s w r.good (reached_in_order ties s w r).streams node seat here;
   next = λ s w r node seat here. all_below s w r.good (reached_in_order ties s w r).streams node seat here;
   nears = λ s w r node seat here. near_once s w r.good (reached_in_order ties s w r).streams node seat here;

@@ -15,7 +15,7 @@ use Rattle.grasp_types.specs.declared.reply.Reply.{Reply}
 use Rattle.grasp_types.specs.declared.traffic.Input.{Input}
 use Rattle.grasp_laws_node.specs.Dials.{evens_from}
 use Rattle.grasp_laws_node.specs.Sends.{IsKnown}
-use Rattle.grasp_laws_network.proofs.Begun.{begun_earlier, begun_streams, begun_queue}
+use Rattle.grasp_laws_network.proofs.Begun.{begun_streams, begun_queue}
 use Rattle.grasp_laws_network.proofs.EachNode.{IsMade, is_made, reached_each}
 use Rattle.grasp_laws_network.proofs.Here.{visits_are_here}
 use Rattle.grasp_laws_network.proofs.Restarted.{Restarting, restart_seats, begun_seat}
@@ -55,9 +55,9 @@ pub record IsInOrder (s : Setting) (w : WorldState) : Type 0 where
 one_kept : (s : Setting) (w x : WorldState) → OneAgent w x → StreamsKept s w → StreamsKept s x
 one_kept s w x o k = subst (λ (y : WorldState). StreamsKept s y) (sym o.after) (record {
   kept = record {
-    nodes = put_nodes (NodeKept (heads w.streams)) w.seats o.node (seat_with o.seat o.seat.core o.agent) (one_least w x o)
-        (record { life = was.life; queue = was.queue; records = was.records; nears = was.nears }) (λ n y apart there. k.kept.nodes n y there);
-    ends = subst (λ nodes. Every (GoodHead s nodes w.dials) (heads w.streams)) (sym (length-set w.seats (o.node - 1) (seat_with o.seat o.seat.core o.agent))) k.kept.ends;
+    nodes = put_nodes (NodeKept (heads w.streams)) w.seats o.node (seat_with o.seat.core o.agent) (one_least w x o)
+        (record { queue = was.queue; records = was.records; nears = was.nears }) (λ n y apart there. k.kept.nodes n y there);
+    ends = subst (λ nodes. Every (GoodHead s nodes w.dials) (heads w.streams)) (sym (length-set w.seats (o.node - 1) (seat_with o.seat.core o.agent))) k.kept.ends;
     once = k.kept.once;
   };
   waits = k.waits;
@@ -68,10 +68,9 @@ one_kept s w x o k = subst (λ (y : WorldState). StreamsKept s y) (sym o.after) 
 -- ---- a life that begins
 
 -- a node that has dialled nothing and queued nothing, where no stream was dialled by it
-quiet_kept : (hs : List Head) (node : ℕ) (seat : Seat) → seat.earlier ≡ [] → seat.core.queue ≡ [] → seat.core.streams ≡ no_streams → nears_at node hs ≡ [] → Every (λ (h : Head). h.near.node ≢ node) hs
+quiet_kept : (hs : List Head) (node : ℕ) (seat : Seat) → seat.core.queue ≡ [] → seat.core.streams ≡ no_streams → nears_at node hs ≡ [] → Every (λ (h : Head). h.near.node ≢ node) hs
     → NodeKept hs node seat
-quiet_kept hs node seat life queue streams none apart = record {
-  life = life;
+quiet_kept hs node seat queue streams none apart = record {
   queue = subst (λ q. QueueKept hs node q seat.core.streams.dialled) (sym queue) (record {
     sent = seat.core.streams.dialled;
     follows = refl;
@@ -89,12 +88,11 @@ more_node nodes node is = record { least = is.least; most = omega (arith, is.mos
 more_far : (s : Setting) (nodes : ℕ) (number : Option ℕ) (far : Option StreamEnd) → HasGoodFar s nodes number far → HasGoodFar s (nodes + 1) number far
 more_far s nodes number None good = tt
 more_far s nodes None (Some e) good = absurd good
-more_far s nodes (Some k) (Some e) good = (more_node nodes e.node good.0, good.1, good.2)
+more_far s nodes (Some k) (Some e) good = (more_node nodes e.node good.0, good.1)
 
 more_ends : (s : Setting) (nodes dials : ℕ) (h : Head) → GoodHead s nodes dials h → GoodHead s (nodes + 1) dials h
 more_ends s nodes dials h good = record {
   member = more_node nodes h.near.node good.member;
-  life = good.life;
   even = good.even;
   dialled = good.dialled;
   opened = more_far s nodes h.number h.far good.opened;
@@ -114,7 +112,7 @@ module _ (s : Setting) (good : IsGoodSetting s) (w x : WorldState) (node : ℕ) 
 
   begins : NodeKept (heads w.streams) (length w.seats + 1) (begun_seat t.member image)
   begins =
-      quiet_kept (heads w.streams) (length w.seats + 1) (begun_seat t.member image) (begun_earlier t.member.plan (pool_of_image image)) (begun_queue t.member.plan (pool_of_image image))
+      quiet_kept (heads w.streams) (length w.seats + 1) (begun_seat t.member image) (begun_queue t.member.plan (pool_of_image image))
       (begun_streams t.member.plan (pool_of_image image)) (none_near s good (length w.seats) w.dials (length w.seats + 1) absent (heads w.streams) k.kept.ends) elsewhere
 
   heads_stay : heads x.streams ≡ heads w.streams
@@ -123,7 +121,7 @@ module _ (s : Setting) (good : IsGoodSetting s) (w x : WorldState) (node : ℕ) 
   restarted_kept : StreamsKept s x
   restarted_kept = record {
     kept = subst (λ dials. AreKept s x.seats (heads x.streams) dials) (sym (ap (λ (y : WorldState). y.dials) t.rest)) (subst (λ hs. AreKept s x.seats hs w.dials) (sym heads_stay) (record {
-      nodes = restart_seats (NodeKept (heads w.streams)) s w node image x t (record { life = was.life; queue = was.queue; records = was.records; nears = was.nears }) begins k.kept.nodes;
+      nodes = restart_seats (NodeKept (heads w.streams)) s w node image x t (record { queue = was.queue; records = was.records; nears = was.nears }) begins k.kept.nodes;
       ends = subst (λ nodes. Every (GoodHead s nodes w.dials) (heads w.streams)) (sym t.count)
           (every_weaker (GoodHead s (length w.seats) w.dials) (GoodHead s (length w.seats + 1) w.dials) (more_ends s (length w.seats) w.dials) (heads w.streams) k.kept.ends);
       once = k.kept.once;
@@ -138,7 +136,7 @@ first_nodes s node seat found = by_zero (node == 0) refl where
   of_member : IsMade first_seat s.members (node - 1) seat → NodeKept [] node seat
   of_member m =
       subst (NodeKept [] node) m.made
-      (quiet_kept [] node (first_seat m.of) (begun_earlier m.of.plan (pool_of m.of.roots)) (begun_queue m.of.plan (pool_of m.of.roots)) (begun_streams m.of.plan (pool_of m.of.roots)) refl tt)
+      (quiet_kept [] node (first_seat m.of) (begun_queue m.of.plan (pool_of m.of.roots)) (begun_streams m.of.plan (pool_of m.of.roots)) refl tt)
 
   by_zero : (b : Bool) → (node == 0) ≡ b → NodeKept [] node seat
   by_zero true is = absurd (none-some seat (subst (λ z. cond z None (slice_get (map first_seat s.members) (node - 1)) ≡ Some seat) is found))

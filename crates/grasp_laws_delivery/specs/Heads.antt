@@ -24,10 +24,6 @@ has_head_end e h = is_some (cond (is_same_end e h.near) (Some Near) (cond (is_at
 abbrev pub has_number : ℕ → Head → Bool
 has_number k h = is_number k h.number
 
--- the stream of this number at a node in this life
-abbrev pub first_end : ℕ → ℕ → StreamEnd
-first_end node number = record { node = node; life = 0; number = number }
-
 -- one of these streams was opened at this end
 abbrev pub HasFar : StreamEnd → List Head → Type 0
 HasFar e [] = ⊥

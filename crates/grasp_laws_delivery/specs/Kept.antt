@@ -5,15 +5,15 @@ use Rattle.grasp_types.specs.declared.address.Locator.{Locator}
 use Rattle.grasp_laws_node.specs.Dials.{evens_from}
 use Rattle.grasp_laws_node.specs.Sends.{Follows, RecordsKnown}
 use Rattle.grasp_model_network.specs.Setting.{Setting, numbered}
-use Rattle.grasp_model_network.specs.World.{Seat, WorldState}
-use Rattle.grasp_laws_delivery.specs.Heads.{Head, heads, has_number, first_end, HasFar, nears_at}
+use Rattle.grasp_model_network.specs.World.{Seat, WorldState, end_of}
+use Rattle.grasp_laws_delivery.specs.Heads.{Head, heads, has_number, HasFar, nears_at}
 use Rattle.grasp_laws_delivery.specs.Ready.{Every, HasGoodEnds, FarWaits}
 
 -- ---- a node
 
 -- a stream was opened at this node under this number
 abbrev pub IsArrived : List Head → ℕ → ℕ → Type 0
-IsArrived hs node number = HasFar (first_end node number) hs
+IsArrived hs node number = HasFar (end_of node number) hs
 
 -- the dial of this stream is queued, and goes there
 abbrev pub IsQueuedDial : ℕ → Locator → List Queued → Type 0
@@ -36,9 +36,8 @@ pub record QueueKept (hs : List Head) (node : ℕ) (queue : List Queued) (dialle
   pub follows : Follows (λ number. IsArrived hs node number) sent queue dialled
   pub waits : Every (HeadWaits node sent queue) hs
 
--- the life is a seat of its own, its records are those of streams, and the streams that it dialled are there, in order
+-- a life's records are those of streams, and the streams that it dialled are there, in order
 pub record NodeKept (hs : List Head) (node : ℕ) (seat : Seat) : Type 0 where
-  pub life : seat.earlier ≡ []
   pub queue : QueueKept hs node seat.core.queue seat.core.streams.dialled
   pub records : RecordsKnown (λ number. IsArrived hs node number) seat.core
   pub nears : nears_at node hs ≡ evens_from 0 seat.core.streams.dialled

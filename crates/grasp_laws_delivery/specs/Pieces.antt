@@ -40,7 +40,7 @@ PiecesAdd = (limit count : ℕ) (t : StreamState) (side : Side) (past : Past) (a
 pub record WhatWasSaidIsGiven : Type 0 where
   pub given : (s : Setting) (w : WorldState) → IsReached s w → (node : ℕ) (seat : Seat) → seat_at w node ≡ Some seat
       → (stream : ℕ) (past : Past) → past_of seat.core.streams stream ≡ Some past
-      → OfEachStream (λ t. (side : Side) → end_at t side ≡ Some (end_of node seat stream) → IsLonger past.given (sent_by t (other side)).sent) w.streams
+      → OfEachStream (λ t. (side : Side) → end_at t side ≡ Some (end_of node stream) → IsLonger past.given (sent_by t (other side)).sent) w.streams
   pub added : (s : Setting) (w : WorldState) → IsReached s w → (k count : ℕ) (far hold : Bool) (x : Reached) (v : Visit) (c : Choice)
       → reached_side w k (side_named far) ≡ Some x → visit_of s w (event.Bytes k far count hold) ≡ Some v → VisitStep v c
       → (past : Past) → past_of (begin v.seat.core v.now).streams x.at.number ≡ Some past

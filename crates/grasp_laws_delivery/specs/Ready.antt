@@ -39,13 +39,13 @@ abbrev pub AreSent : List StreamState → StreamEnd → Type 0
 AreSent ts e = Every (λ t. has_end e t ≡ true → IsSent t.number) ts
 
 -- the queued outputs of a node can be sent one after the other
-abbrev pub AreReady : ℕ → Seat → List Queued → List StreamState → Type 0
-AreReady node seat [] ts = Unit {0}
-AreReady node seat (datagram link to m ∷ qs) ts = AreReady node seat qs ts
-AreReady node seat (dial stream to ∷ qs) ts =
-    IsDialOf ts (end_of node seat stream) to × ((k : ℕ) → AreReady node seat qs (change_at_end ts (end_of node seat stream) (with_number k)))
-AreReady node seat (send stream m ∷ qs) ts =
-    (count_at_end ts (end_of node seat stream) ≡ 1) × AreSent ts (end_of node seat stream) × AreReady node seat qs (change_at_end ts (end_of node seat stream) (with_sent m))
+abbrev pub AreReady : ℕ → List Queued → List StreamState → Type 0
+AreReady node [] ts = Unit {0}
+AreReady node (datagram link to m ∷ qs) ts = AreReady node qs ts
+AreReady node (dial stream to ∷ qs) ts =
+    IsDialOf ts (end_of node stream) to × ((k : ℕ) → AreReady node qs (change_at_end ts (end_of node stream) (with_number k)))
+AreReady node (send stream m ∷ qs) ts =
+    (count_at_end ts (end_of node stream) ≡ 1) × AreSent ts (end_of node stream) × AreReady node qs (change_at_end ts (end_of node stream) (with_sent m))
 
 -- ---- the ends of a stream
 
@@ -58,12 +58,11 @@ HasGoodNumber dials (Some k) = (1 ≤ k) × (k ≤ dials)
 abbrev pub HasGoodFar : Setting → ℕ → Option ℕ → Option StreamEnd → Type 0
 HasGoodFar s nodes number None = Unit {0}
 HasGoodFar s nodes None (Some e) = ⊥
-HasGoodFar s nodes (Some k) (Some e) = IsNode nodes e.node × (e.life ≡ 0) × (e.number ≡ s.arrives_as e.node k)
+HasGoodFar s nodes (Some k) (Some e) = IsNode nodes e.node × (e.number ≡ s.arrives_as e.node k)
 
 -- among so many lives: the near end is at one of them, and has an even number
 pub record HasGoodEnds (s : Setting) (nodes dials : ℕ) (near : StreamEnd) (number : Option ℕ) (far : Option StreamEnd) : Type 0 where
   pub member : IsNode nodes near.node
-  pub life : near.life ≡ 0
   pub even : near.number % 2 ≡ 0
   pub dialled : HasGoodNumber dials number
   pub opened : HasGoodFar s nodes number far
@@ -96,22 +95,20 @@ pub record StreamsAreReady : Type 0 where
   -- no two streams have one end
   pub apart : (s : Setting) (w : WorldState) → IsReached s w → (e : StreamEnd) → count_at_end w.streams e ≤ 1
   -- what each node has queued can be sent in order
-  pub ready : (s : Setting) (w : WorldState) → IsReached s w → (node : ℕ) (seat : Seat) → seat_at w node ≡ Some seat → AreReady node seat seat.core.queue w.streams
+  pub ready : (s : Setting) (w : WorldState) → IsReached s w → (node : ℕ) (seat : Seat) → seat_at w node ≡ Some seat → AreReady node seat.core.queue w.streams
   -- the near end of each stream has an even number; the far end is that with which it arrived
   pub ends : (s : Setting) (w : WorldState) → IsReached s w → Every (λ t. HasGoodEnds s (length w.seats) w.dials t.near t.number t.far) w.streams
   -- the dials that were sent have the numbers from 1 on, each that of one stream
   pub once : (s : Setting) (w : WorldState) → IsReached s w → (k : ℕ) → 1 ≤ k → k ≤ w.dials → count_numbered w.streams k ≡ 1
-  -- each life is a seat of its own
-  pub lives : (s : Setting) (w : WorldState) → IsReached s w → (node : ℕ) (seat : Seat) → seat_at w node ≡ Some seat → seat.earlier ≡ []
   -- each record of a node is that of a stream
   pub records : (s : Setting) (w : WorldState) → IsReached s w → (node : ℕ) (seat : Seat) → seat_at w node ≡ Some seat
-      → All (λ (x : StreamRecord). count_at_end w.streams (end_of node seat x.number) ≡ 1) seat.core.streams.records
+      → All (λ (x : StreamRecord). count_at_end w.streams (end_of node x.number) ≡ 1) seat.core.streams.records
   -- a stream that a node dialled has a number below that of the next one
   pub next : (s : Setting) (w : WorldState) → IsReached s w → (node : ℕ) (seat : Seat) → seat_at w node ≡ Some seat
       → Every (λ t. t.near.node ≡ node → t.near.number < 2 * seat.core.streams.dialled) w.streams
   -- each stream that a node dialled is there
   pub nears : (s : Setting) (w : WorldState) → IsReached s w → (node : ℕ) (seat : Seat) → seat_at w node ≡ Some seat → (d : ℕ) → d < seat.core.streams.dialled
-      → count_at_end w.streams (end_of node seat (2 * d)) ≡ 1
+      → count_at_end w.streams (end_of node (2 * d)) ≡ 1
   -- a side that lives is at the present life of its node
   pub present : (s : Setting) (w : WorldState) → IsReached s w → SidesArePresent w
   -- a stream that waits to be opened was opened nowhere

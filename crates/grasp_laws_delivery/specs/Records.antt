@@ -37,4 +37,4 @@ pub record IsOpenStream (w : WorldState) (e : StreamEnd) (limit : ℕ) (past : P
 -- each open stream of each node of a network that turns lead to is a stream of the network, and holds what came on it
 abbrev pub RecordsHoldWhatCame : Type 0
 RecordsHoldWhatCame = (s : Setting) (w : WorldState) → IsReached s w → (node : ℕ) (seat : Seat) → seat_at w node ≡ Some seat
-    → (stream : ℕ) (past : Past) → past_of seat.core.streams stream ≡ Some past → IsOpenStream w (end_of node seat stream) seat.core.plan.limit past
+    → (stream : ℕ) (past : Past) → past_of seat.core.streams stream ≡ Some past → IsOpenStream w (end_of node stream) seat.core.plan.limit past

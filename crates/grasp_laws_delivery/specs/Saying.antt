@@ -27,7 +27,7 @@ said_by t side = reverse (spoken side t.said)
 
 -- a side whose end is this stream of a node, as the node stands now, said what it sent, and then what is queued there for the stream
 abbrev pub IsSentOrQueued : ℕ → Seat → StreamState → Type 0
-IsSentOrQueued node seat t = (side : Side) (stream : ℕ) → end_at t side ≡ Some (end_of node seat stream)
+IsSentOrQueued node seat t = (side : Side) (stream : ℕ) → end_at t side ≡ Some (end_of node stream)
     → said_by t side ≡ (sent_by t side).sent ++ queued_for stream seat.core.queue
 
 -- a side that isn't there yet said nothing and sent nothing, and nothing came there
@@ -44,6 +44,4 @@ IsDeliveredWithin t = (side : Side) → (sent_by t side).delivered ≤ length (e
 pub record SaidIsSentOrQueued : Type 0 where
   pub said : (s : Setting) (w : WorldState) → IsReached s w → (node : ℕ) (seat : Seat) → seat_at w node ≡ Some seat → OfEachStream (IsSentOrQueued node seat) w.streams
   pub unopened : (s : Setting) (w : WorldState) → IsReached s w → OfEachStream SaysNothingUnopened w.streams
-  -- each life is a seat of its own
-  pub lives : (s : Setting) (w : WorldState) → IsReached s w → (node : ℕ) (seat : Seat) → seat_at w node ≡ Some seat → seat.earlier ≡ []
   pub within : (s : Setting) (w : WorldState) → IsReached s w → OfEachStream IsDeliveredWithin w.streams

@@ -176,18 +176,18 @@ module _ (real : DiscoveriesAreReal) (messages : DatagramsAreMessages) (s : Sett
   same_posted w m None = refl
   same_posted w m (Some route) = refl
 
-  same_sent : (node : ℕ) (seat : Seat) (w : WorldState) (q : Queued) → (having_sent s node seat w q).answers ≡ w.answers
-  same_sent node seat w (datagram link to m) = same_posted w m (route_of s (member_of w node) link to)
-  same_sent node seat w (dial stream to) = refl
-  same_sent node seat w (send stream m) = refl
+  same_sent : (node : ℕ) (w : WorldState) (q : Queued) → (having_sent s node w q).answers ≡ w.answers
+  same_sent node w (datagram link to m) = same_posted w m (route_of s (member_of w node) link to)
+  same_sent node w (dial stream to) = refl
+  same_sent node w (send stream m) = refl
 
-  same_handed : (node : ℕ) (seat : Seat) (qs : List Queued) (w : WorldState) → (fold (having_sent s node seat) w qs).answers ≡ w.answers
-  same_handed node seat [] w = refl
-  same_handed node seat (q ∷ qs) w = same_handed node seat qs (having_sent s node seat w q) ∙ same_sent node seat w q
+  same_handed : (node : ℕ) (qs : List Queued) (w : WorldState) → (fold (having_sent s node) w qs).answers ≡ w.answers
+  same_handed node [] w = refl
+  same_handed node (q ∷ qs) w = same_handed node qs (having_sent s node w q) ∙ same_sent node w q
 
-  same_closed : (node : ℕ) (seat : Seat) (streams : List ℕ) (w : WorldState) → (fold (having_closed node seat) w streams).answers ≡ w.answers
-  same_closed node seat [] w = refl
-  same_closed node seat (stream ∷ streams) w = same_closed node seat streams (having_closed node seat w stream)
+  same_closed : (node : ℕ) (streams : List ℕ) (w : WorldState) → (fold (having_closed node) w streams).answers ≡ w.answers
+  same_closed node [] w = refl
+  same_closed node (stream ∷ streams) w = same_closed node streams (having_closed node w stream)
 
   same_drained : (w : WorldState) (node most : ℕ) (o : Option Seat) → (drained_at s w node most o).answers ≡ w.answers
   unfolding handed_over
@@ -195,8 +195,8 @@ module _ (real : DiscoveriesAreReal) (messages : DatagramsAreMessages) (s : Sett
   same_drained w node most (Some seat) = from (begin seat.core seat.core.reading) where
     from : (m : NodeState) → (network.drained_from s w node seat m most).answers ≡ w.answers
     from m =
-        let put = with_seat w node (seat_with seat (after_drain m most) seat.agent) in
-        same_closed node seat (closes m most) (fold (having_sent s node seat) put (take most m.queue)) ∙ same_handed node seat (take most m.queue) put
+        let put = with_seat w node (seat_with (after_drain m most) seat.agent) in
+        same_closed node (closes m most) (fold (having_sent s node) put (take most m.queue)) ∙ same_handed node (take most m.queue) put
 
   -- ---- every turn
 

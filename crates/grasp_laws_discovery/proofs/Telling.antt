@@ -93,19 +93,19 @@ module _ (s : Setting) (w : WorldState) where
 
   -- ---- a step
 
-  made_real : (node : ℕ) (seat : Seat) (qs : List Queued) (ts : List StreamState) → All (IsQueuedReal s w) qs → TalksReal s w ts → TalksReal s w (fold (having_made node seat) ts qs)
-  made_real node seat [] ts are each = each
-  made_real node seat (datagram link to m ∷ qs) ts are each = made_real node seat qs ts (All-tail (IsQueuedReal s w) (datagram link to m) qs are) each
-  made_real node seat (dial stream to ∷ qs) ts are each =
-      made_real node seat qs (having_made node seat ts (dial stream to)) (All-tail (IsQueuedReal s w) (dial stream to) qs are)
-      (each_push (TalkReal s w) ts (fresh_stream (end_of node seat stream) to) (new_real (end_of node seat stream) to) each)
-  made_real node seat (send stream m ∷ qs) ts are each =
-      made_real node seat qs (having_made node seat ts (send stream m)) (All-tail (IsQueuedReal s w) (send stream m) qs are)
-      (changed (with_said m) (said_stays m (All-head (IsQueuedReal s w) (send stream m) qs are)) ts (end_of node seat stream) each)
+  made_real : (node : ℕ) (qs : List Queued) (ts : List StreamState) → All (IsQueuedReal s w) qs → TalksReal s w ts → TalksReal s w (fold (having_made node) ts qs)
+  made_real node [] ts are each = each
+  made_real node (datagram link to m ∷ qs) ts are each = made_real node qs ts (All-tail (IsQueuedReal s w) (datagram link to m) qs are) each
+  made_real node (dial stream to ∷ qs) ts are each =
+      made_real node qs (having_made node ts (dial stream to)) (All-tail (IsQueuedReal s w) (dial stream to) qs are)
+      (each_push (TalkReal s w) ts (fresh_stream (end_of node stream) to) (new_real (end_of node stream) to) each)
+  made_real node (send stream m ∷ qs) ts are each =
+      made_real node qs (having_made node ts (send stream m)) (All-tail (IsQueuedReal s w) (send stream m) qs are)
+      (changed (with_said m) (said_stays m (All-head (IsQueuedReal s w) (send stream m) qs are)) ts (end_of node stream) each)
 
   arrived_real : (v : WorldState) (at : Visit) (number : ℕ) (r : Reply) (o : Option StreamState) → TalksReal s w v.streams → TalksReal s w (arrived v at number r o).streams
   arrived_real v at number r None each = each
-  arrived_real v at number r (Some t) each = changed (with_far (end_of at.node at.seat number) (arrival_by r)) (far_stays (end_of at.node at.seat number) (arrival_by r)) v.streams t.near each
+  arrived_real v at number r (Some t) each = changed (with_far (end_of at.node number) (arrival_by r)) (far_stays (end_of at.node number) (arrival_by r)) v.streams t.near each
 
   delivered_real : (v : WorldState) (count : ℕ) (o : Option Reached) → TalksReal s w v.streams → TalksReal s w (delivered v count o).streams
   delivered_real v count None each = each
@@ -125,7 +125,7 @@ module _ (s : Setting) (w : WorldState) where
   pub step_talks : (v : WorldState) (e : Event) (at : Visit) (c : Choice) → IsStep e → All (IsQueuedReal s w) (gained at.seat.core c.after) → TalksReal s w v.streams → TalksReal s w (after_visit s v e at c).streams
   unfolding streams_made
   step_talks v e at c is are each =
-      subst (TalksReal s w) (sym (streams_stepped s v e at c is)) (made_real at.node at.seat (gained at.seat.core c.after) (streams_before s v e at c) are (before_real v e at c each))
+      subst (TalksReal s w) (sym (streams_stepped s v e at c is)) (made_real at.node (gained at.seat.core c.after) (streams_before s v e at c) are (before_real v e at c each))
 
   -- ---- a restart
 
@@ -136,23 +136,23 @@ module _ (s : Setting) (w : WorldState) where
 
   -- ---- a drain
 
-  handed_real : (node : ℕ) (seat : Seat) (qs : List Queued) (v : WorldState) → All (IsQueuedReal s w) qs → TalksReal s w v.streams → TalksReal s w (fold (having_sent s node seat) v qs).streams
-  handed_real node seat [] v are each = each
-  handed_real node seat (datagram link to m ∷ qs) v are each =
-      handed_real node seat qs (having_sent s node seat v (datagram link to m)) (All-tail (IsQueuedReal s w) (datagram link to m) qs are) (posted_each (TalkReal s w) v m (route_of s (member_of v node) link to) each)
-  handed_real node seat (dial stream to ∷ qs) v are each =
-      handed_real node seat qs (having_sent s node seat v (dial stream to)) (All-tail (IsQueuedReal s w) (dial stream to) qs are)
-      (changed (with_number (v.dials + 1)) (number_stays (v.dials + 1)) v.streams (end_of node seat stream) each)
-  handed_real node seat (send stream m ∷ qs) v are each =
-      handed_real node seat qs (having_sent s node seat v (send stream m)) (All-tail (IsQueuedReal s w) (send stream m) qs are)
-      (changed (with_sent m) (sent_stays m (All-head (IsQueuedReal s w) (send stream m) qs are)) v.streams (end_of node seat stream) each)
+  handed_real : (node : ℕ) (qs : List Queued) (v : WorldState) → All (IsQueuedReal s w) qs → TalksReal s w v.streams → TalksReal s w (fold (having_sent s node) v qs).streams
+  handed_real node [] v are each = each
+  handed_real node (datagram link to m ∷ qs) v are each =
+      handed_real node qs (having_sent s node v (datagram link to m)) (All-tail (IsQueuedReal s w) (datagram link to m) qs are) (posted_each (TalkReal s w) v m (route_of s (member_of v node) link to) each)
+  handed_real node (dial stream to ∷ qs) v are each =
+      handed_real node qs (having_sent s node v (dial stream to)) (All-tail (IsQueuedReal s w) (dial stream to) qs are)
+      (changed (with_number (v.dials + 1)) (number_stays (v.dials + 1)) v.streams (end_of node stream) each)
+  handed_real node (send stream m ∷ qs) v are each =
+      handed_real node qs (having_sent s node v (send stream m)) (All-tail (IsQueuedReal s w) (send stream m) qs are)
+      (changed (with_sent m) (sent_stays m (All-head (IsQueuedReal s w) (send stream m) qs are)) v.streams (end_of node stream) each)
 
-  closed_real : (node : ℕ) (seat : Seat) (streams : List ℕ) (v : WorldState) → TalksReal s w v.streams → TalksReal s w (fold (having_closed node seat) v streams).streams
-  closed_real node seat [] v each = each
-  closed_real node seat (stream ∷ streams) v each = closed_real node seat streams (having_closed node seat v stream) (changed with_ended ended_stays v.streams (end_of node seat stream) each)
+  closed_real : (node : ℕ) (streams : List ℕ) (v : WorldState) → TalksReal s w v.streams → TalksReal s w (fold (having_closed node) v streams).streams
+  closed_real node [] v each = each
+  closed_real node (stream ∷ streams) v each = closed_real node streams (having_closed node v stream) (changed with_ended ended_stays v.streams (end_of node stream) each)
 
   pub drained_talks : (v : WorldState) (node : ℕ) (seat : Seat) (m : NodeState) (max : ℕ) → All (IsQueuedReal s w) (take max m.queue) → TalksReal s w v.streams → TalksReal s w (drained_from s v node seat m max).streams
   unfolding handed_over
   drained_talks v node seat m max are each =
-      closed_real node seat (closes m max) (fold (having_sent s node seat) (with_seat v node (seat_with seat (after_drain m max) seat.agent)) (take max m.queue))
-      (handed_real node seat (take max m.queue) (with_seat v node (seat_with seat (after_drain m max) seat.agent)) are each)
+      closed_real node (closes m max) (fold (having_sent s node) (with_seat v node (seat_with (after_drain m max) seat.agent)) (take max m.queue))
+      (handed_real node (take max m.queue) (with_seat v node (seat_with (after_drain m max) seat.agent)) are each)

@@ -29,7 +29,7 @@ use Rattle.grasp_model_network.specs.Sending.{stepped}
 use Rattle.grasp_model_network.specs.Setting.{Member, Setting, numbered}
 use Rattle.grasp_model_network.specs.Streams.{StreamState, stream_numbered}
 use Rattle.grasp_model_network.specs.Visits.{Visit, Choice, MayCome, VisitStep}
-use Rattle.grasp_model_network.specs.World.{FloodCall, SearchCall, WorldState, life_of}
+use Rattle.grasp_model_network.specs.World.{FloodCall, SearchCall, WorldState}
 use Rattle.grasp_model_network.specs.declared.event.Event.{Event}
 use Rattle.grasp_model_network.specs.declared.event.Event.TheVariants as event
 use Rattle.grasp_types.specs.Message.{IsMessage}
@@ -218,7 +218,7 @@ new_begun : (ms : List Member) (calls : List FloodCall) (v : Visit) (it : Call) 
 unfolding searches_in
 new_begun ms calls v it r n = by_test (is_searching (answer_in r)) where
   x : SearchCall
-  x = record { node = v.node; address = v.seat.core.plan.address; life = life_of v.seat; session = next_session (begin v.seat.core v.now) }
+  x = record { node = v.node; address = v.seat.core.plan.address; session = next_session (begin v.seat.core v.now) }
 
   by_test : (b : Bool) → All (IsBegunBy ms) (map (sought_as (topic_for it)) (cond b (x ∷ []) []))
   by_test true =

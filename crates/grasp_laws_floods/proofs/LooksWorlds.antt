@@ -41,7 +41,7 @@ pub record DrainedLooks (xs : List Sought) (w x : WorldState) : Type 0 where
 drain_node : (xs : List Sought) (node max : ℕ) (n : NodeState) → NodeLooks xs node n → NodeLooks xs node (after_drain (begin n n.reading) max)
 drain_node xs node max n k =
     step_looks xs node n (after_drain (begin n n.reading) max) n.reading (input.Drain max) no_choice.coming (reply.Outputs (drained (begin n n.reading) max))
-    (drain_steps n max no_choice.coming) tt tt k
+    (drain_steps n n.reading max no_choice.coming) tt tt k
 
 looks_drain : (xs : List Sought) → Draining (MessageLooks xs) (NodeLooks xs)
 looks_drain xs = record { begins = λ node n k. begin_looks xs node n n.reading k; drains = drain_node xs; queue = λ node n k. k.queue }

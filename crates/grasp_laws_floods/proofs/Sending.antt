@@ -62,28 +62,28 @@ module _ (P : Message → Type 0) where
     searches = refl;
   }
 
-  one_sent : (s : Setting) (node : ℕ) (seat : Seat) (w : WorldState) (q : Queued) → QueuedIs P q → Sends P w (having_sent s node seat w q)
-  one_sent s node seat w (datagram link to m) k = posting w m (route_of s (member_of w node) link to) k
-  one_sent s node seat w (dial stream to) k = record { sent = λ all. all; flood_calls = refl; floods_read = refl; searches = refl }
-  one_sent s node seat w (send stream m) k = record { sent = λ all. all; flood_calls = refl; floods_read = refl; searches = refl }
+  one_sent : (s : Setting) (node : ℕ) (w : WorldState) (q : Queued) → QueuedIs P q → Sends P w (having_sent s node w q)
+  one_sent s node w (datagram link to m) k = posting w m (route_of s (member_of w node) link to) k
+  one_sent s node w (dial stream to) k = record { sent = λ all. all; flood_calls = refl; floods_read = refl; searches = refl }
+  one_sent s node w (send stream m) k = record { sent = λ all. all; flood_calls = refl; floods_read = refl; searches = refl }
 
-  all_sent : (s : Setting) (node : ℕ) (seat : Seat) (qs : List Queued) (w : WorldState) → All (QueuedIs P) qs → Sends P w (fold (having_sent s node seat) w qs)
-  all_sent s node seat [] w k = none_sent w
-  all_sent s node seat (q ∷ qs) w k =
-      then_sent w (having_sent s node seat w q) (fold (having_sent s node seat) (having_sent s node seat w q) qs) (one_sent s node seat w q (All-head (QueuedIs P) q qs k))
-      (all_sent s node seat qs (having_sent s node seat w q) (All-tail (QueuedIs P) q qs k))
+  all_sent : (s : Setting) (node : ℕ) (qs : List Queued) (w : WorldState) → All (QueuedIs P) qs → Sends P w (fold (having_sent s node) w qs)
+  all_sent s node [] w k = none_sent w
+  all_sent s node (q ∷ qs) w k =
+      then_sent w (having_sent s node w q) (fold (having_sent s node) (having_sent s node w q) qs) (one_sent s node w q (All-head (QueuedIs P) q qs k))
+      (all_sent s node qs (having_sent s node w q) (All-tail (QueuedIs P) q qs k))
 
-  closings_sent : (node : ℕ) (seat : Seat) (streams : List ℕ) (w : WorldState) → Sends P w (fold (having_closed node seat) w streams)
-  closings_sent node seat [] w = none_sent w
-  closings_sent node seat (stream ∷ streams) w =
-      then_sent w (having_closed node seat w stream) (fold (having_closed node seat) (having_closed node seat w stream) streams)
-      (record { sent = λ all. all; flood_calls = refl; floods_read = refl; searches = refl }) (closings_sent node seat streams (having_closed node seat w stream))
+  closings_sent : (node : ℕ) (streams : List ℕ) (w : WorldState) → Sends P w (fold (having_closed node) w streams)
+  closings_sent node [] w = none_sent w
+  closings_sent node (stream ∷ streams) w =
+      then_sent w (having_closed node w stream) (fold (having_closed node) (having_closed node w stream) streams)
+      (record { sent = λ all. all; flood_calls = refl; floods_read = refl; searches = refl }) (closings_sent node streams (having_closed node w stream))
 
-  handed : (s : Setting) (w : WorldState) (node : ℕ) (seat : Seat) (qs : List Queued) (streams : List ℕ) → All (QueuedIs P) qs → Sends P w (handed_over s w node seat qs streams)
+  handed : (s : Setting) (w : WorldState) (node : ℕ) (qs : List Queued) (streams : List ℕ) → All (QueuedIs P) qs → Sends P w (handed_over s w node qs streams)
   unfolding handed_over
-  handed s w node seat qs streams k =
-      then_sent w (fold (having_sent s node seat) w qs) (fold (having_closed node seat) (fold (having_sent s node seat) w qs) streams) (all_sent s node seat qs w k)
-      (closings_sent node seat streams (fold (having_sent s node seat) w qs))
+  handed s w node qs streams k =
+      then_sent w (fold (having_sent s node) w qs) (fold (having_closed node) (fold (having_sent s node) w qs) streams) (all_sent s node qs w k)
+      (closings_sent node streams (fold (having_sent s node) w qs))
 
 -- ---- drains
 
@@ -93,14 +93,14 @@ module _ (P : Message → Type 0) (N : ℕ → NodeState → Type 0) (d : Draini
 
   from_drained : (w : WorldState) (node max : ℕ) (seat : Seat) (m : NodeState) → 1 ≤ node → OfEachNode N w → All (SentIs P) w.datagrams → All (QueuedIs P) m.queue → N node (after_drain m max)
       → DrainedIs P N w (drained_from s w node seat m max)
-  from_drained w node max seat m least each sent queue after = so (handed P s put node seat (take max m.queue) (closes m max) (All-take (QueuedIs P) max m.queue queue)) where
+  from_drained w node max seat m least each sent queue after = so (handed P s put node (take max m.queue) (closes m max) (All-take (QueuedIs P) max m.queue queue)) where
     put : WorldState
-    put = with_seat w node (seat_with seat (after_drain m max) seat.agent)
+    put = with_seat w node (seat_with (after_drain m max) seat.agent)
 
     so : Sends P put (drained_from s w node seat m max) → DrainedIs P N w (drained_from s w node seat m max)
     so sends = record {
-      nodes = put_each N w (drained_from s w node seat m max) node (seat_with seat (after_drain m max) seat.agent) least
-          (sending_keeps_nodes s put node seat (take max m.queue) (closes m max)) after each;
+      nodes = put_each N w (drained_from s w node seat m max) node (seat_with (after_drain m max) seat.agent) least
+          (sending_keeps_nodes s put node (take max m.queue) (closes m max)) after each;
       sent = sends.sent sent;
       flood_calls = sends.flood_calls;
       floods_read = sends.floods_read;

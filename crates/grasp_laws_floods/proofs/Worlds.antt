@@ -66,7 +66,7 @@ pub record Drained (ms : List Member) (calls : List FloodCall) (w x : WorldState
 drain_node : (ms : List Member) (calls : List FloodCall) (node max : ℕ) (n : NodeState) → NodeMade ms calls node n → NodeMade ms calls node (after_drain (begin n n.reading) max)
 drain_node ms calls node max n k =
     step_made ms calls node n (after_drain (begin n n.reading) max) n.reading (input.Drain max) no_choice.coming (reply.Outputs (drained (begin n n.reading) max))
-    (drain_steps n max no_choice.coming) tt k
+    (drain_steps n n.reading max no_choice.coming) tt k
 
 made_drains : (ms : List Member) (calls : List FloodCall) → Draining (MessageMade ms calls) (NodeMade ms calls)
 made_drains ms calls = record { begins = λ node n k. begin_made ms calls node n n.reading k; drains = drain_node ms calls; queue = λ node n k. k.queue }

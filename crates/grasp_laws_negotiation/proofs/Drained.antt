@@ -34,16 +34,16 @@ use Rattle.grasp_model_network.specs.Sending.{seat_with, drained_at, drained_fro
 use Rattle.grasp_model_network.specs.Setting.{Member, Setting, numbered}
 use Rattle.grasp_model_network.specs.Streams.{StreamEnd, StreamState, is_same_end}
 use Rattle.grasp_model_network.specs.Visits.{no_choice}
-use Rattle.grasp_model_network.specs.World.{Seat, WorldState, present_life, seat_at, with_seat, end_of, life_of}
+use Rattle.grasp_model_network.specs.World.{Seat, WorldState, present_life, seat_at, with_seat, end_of}
 use Rattle.grasp_pool.specs.Functions.{pool_of, pool_of_image}
 use Rattle.grasp_pool.specs.declared.image.PoolImage.{PoolImage}
 use Rattle.grasp_laws_delivery.proofs.AfterSteps.{agent_keeps}
 use Rattle.grasp_laws_negotiation.proofs.Events.{like_ends}
-use Rattle.grasp_laws_negotiation.proofs.Harmless.{IsLike, like_itself, like_end, Was, Harmless, handed_harmless}
+use Rattle.grasp_laws_negotiation.proofs.Harmless.{IsLike, like_itself, Was, Harmless, handed_harmless}
 use Rattle.grasp_laws_negotiation.proofs.Left.{begun_unseen, begun_closed, begun_clear, one_looked, restart_looked, restart_harmless}
 use Rattle.grasp_laws_negotiation.proofs.NodeMoves.{FromOld, NodeMove, move_stands, move_goes}
 use Rattle.grasp_laws_negotiation.proofs.Standing.{view_seat, OpenStands, EndStands, SideStands, Stands, GoesTo, NoStream, NetworkStands}
-use Rattle.grasp_laws_negotiation.proofs.Steps.{story_of, clear_of, comes_of, nothing_added, is_recorded, life_is, ends_apart}
+use Rattle.grasp_laws_negotiation.proofs.Steps.{story_of, clear_of, comes_of, nothing_added, is_recorded, ends_apart}
 use Rattle.grasp_laws_negotiation.specs.Grounds.{Grounds}
 use Rattle.grasp_laws_negotiation.proofs.TalkRuns.{joined}
 use Rattle.grasp_laws_negotiation.proofs.TalkSteps.{Fits}
@@ -63,13 +63,13 @@ module _ (l : Grounds) (s : Setting) (w : WorldState) (r : IsReached s w) (k : N
   core = after_drain (begin seat.core seat.core.reading) max
 
   abbrev new : Seat
-  new = seat_with seat (after_drain (begin seat.core seat.core.reading) max) seat.agent
+  new = seat_with (after_drain (begin seat.core seat.core.reading) max) seat.agent
 
   abbrev y : WorldState
   y = drained_from s w node seat (begin seat.core seat.core.reading) max
 
   step : NodeStep seat.core seat.core.reading (input.Drain max) no_choice.coming (Outputs (drained (begin seat.core seat.core.reading) max)) (after_drain (begin seat.core seat.core.reading) max)
-  step = drain_steps seat.core max no_choice.coming
+  step = drain_steps seat.core seat.core.reading max no_choice.coming
 
   dials : (core.streams.dialled ≡ seat.core.streams.dialled) × (core.queue ≡ drop max seat.core.queue)
   dials = drains_dial_nothing seat.core core seat.core.reading max no_choice.coming (Outputs (drained now_core max)) step
@@ -82,19 +82,19 @@ module _ (l : Grounds) (s : Setting) (w : WorldState) (r : IsReached s w) (k : N
       drop_of_length-le core.queue (omega (arith, b, c))
 
   put : y.seats ≡ slice_set w.seats (node - 1) new
-  put = sending_keeps_nodes s (with_seat w node new) node seat (take max now_core.queue) (closes now_core max)
+  put = sending_keeps_nodes s (with_seat w node new) node (take max now_core.queue) (closes now_core max)
 
   harmless : Harmless w.streams y.streams
-  harmless = handed_harmless s (with_seat w node new) node seat (take max now_core.queue) (closes now_core max)
+  harmless = handed_harmless s (with_seat w node new) node (take max now_core.queue) (closes now_core max)
 
-  old : (place : ℕ) (u : StreamState) → slice_get y.streams place ≡ Some u → FromOld w node seat (input.Drain max) (gained seat.core core) place u
+  old : (place : ℕ) (u : StreamState) → slice_get y.streams place ≡ Some u → FromOld w node (input.Drain max) (gained seat.core core) place u
   old place u is =
       let m = harmless.back place u is in
       record {
         before = m.before;
         stands = m.stands;
         near = m.like.near;
-        said = m.like.said ∙ sym (ap (λ q. joined (voices node seat u.near u.far q) m.before.said) gains_nothing);
+        said = m.like.said ∙ sym (ap (λ q. joined (voices node u.near u.far q) m.before.said) gains_nothing);
         far = inl m.like.far;
       }
 
@@ -110,7 +110,6 @@ module _ (l : Grounds) (s : Setting) (w : WorldState) (r : IsReached s w) (k : N
     here = here;
     there = ap (λ z. numbered z node) put ∙ put_here w.seats node seat new here;
     others = λ n apart. ap (λ z. numbered z n) put ∙ put_elsewhere w.seats node n new least apart;
-    life = refl;
     story = story_of l s w r k node seat here core seat.core.reading (input.Drain max) no_choice.coming (Outputs (drained now_core max)) step;
     clear = clear_of l s w r k node seat here core seat.core.reading (input.Drain max) no_choice.coming (Outputs (drained now_core max)) step;
     comes = comes_of l s w r k node seat here core seat.core.reading (input.Drain max) no_choice.coming (Outputs (drained now_core max)) step
@@ -121,8 +120,6 @@ module _ (l : Grounds) (s : Setting) (w : WorldState) (r : IsReached s w) (k : N
     recorded = is_recorded l s w r k node seat here core seat.core.reading (input.Drain max) no_choice.coming (Outputs (drained now_core max)) step;
     ends_stay = λ e none place t is side at. let m = harmless.forth place t is in none place m.after m.stands side (like_ends t m.after m.like side e at);
     stays = λ place t is. let m = harmless.forth place t is in (m.after, m.stands, m.like.near);
-    lives = λ place u is side e at here_node. let m = harmless.back place u is in life_is l s w r place m.before m.stands side e (sym (like_end m.before u m.like side) ∙ at)
-        ∙ sym (ap (λ (x : List NodeState). length x) (l.ready.lives s w r node seat here));
     apart = λ place u is e at. let m = harmless.back place u is in ap (λ n. is_same_end e n) m.like.near ∙ ends_apart l s w r place m.before m.stands e (sym m.like.far ∙ at);
     comes_from = λ place u is. inl (old place u is);
   } where
@@ -193,10 +190,10 @@ module _ (w x : WorldState) (same_view : (n stream : ℕ) → view_seat stream (
 
 module _ (w x : WorldState) (o : OneAgent w x) where
   -- each node has the core that it had
-  pub had : (n : ℕ) (other : Seat) → seat_at x n ≡ Some other → (before : Seat) × (seat_at w n ≡ Some before) × (other.core ≡ before.core) × (life_of other ≡ life_of before)
+  pub had : (n : ℕ) (other : Seat) → seat_at x n ≡ Some other → (before : Seat) × (seat_at w n ≡ Some before) × (other.core ≡ before.core)
   had =
-      agent_keeps (λ ts n other. (before : Seat) × (seat_at w n ≡ Some before) × (other.core ≡ before.core) × (life_of other ≡ life_of before)) w x o (λ k. (o.seat, o.here, refl, refl))
-      (λ n seat there. (seat, there, refl, refl))
+      agent_keeps (λ ts n other. (before : Seat) × (seat_at w n ≡ Some before) × (other.core ≡ before.core)) w x o (λ k. (o.seat, o.here, refl))
+      (λ n seat there. (seat, there, refl))
 
   -- and each stream is there that was
   pub had_stream : (place : ℕ) (t : StreamState) → slice_get x.streams place ≡ Some t → slice_get w.streams place ≡ Some t
@@ -215,9 +212,8 @@ module _ (w x : WorldState) (o : OneAgent w x) where
   one_stands k = record {
     clear = λ n other found stream. let h = had n other found in subst (λ (z : NodeState). IsClear z stream) (sym h.2) (k.clear n h.0 h.1 stream);
     unseen = λ n other found stream none. let h = had n other found in
-        let before = subst (λ (y : WorldState). NoStream y.streams (record { node = n; life = life_of other; number = stream })) o.after none in
-        subst (λ (z : NodeState). view_on z stream ≡ None) (sym h.2)
-        (k.unseen n h.0 h.1 stream (subst (λ life. NoStream w.streams (record { node = n; life = life; number = stream })) h.3 before));
+        let before = subst (λ (y : WorldState). NoStream y.streams (end_of n stream)) o.after none in
+        subst (λ (z : NodeState). view_on z stream ≡ None) (sym h.2) (k.unseen n h.0 h.1 stream before);
     streams = λ place t is negotiation. one_still t (k.streams place t (had_stream place t is) negotiation);
   }
 
@@ -241,9 +237,9 @@ module _ (s : Setting) (w : WorldState) (node : ℕ) (image : PoolImage) (x : Wo
   pub restart_stands : NetworkStands w → NetworkStands x
   restart_stands k = record {
     clear = restart_seats (λ n z. (stream : ℕ) → IsClear z.core stream) s w node image x r (k.clear (present_life w node) r.seat r.here) (begun_clear r.member.plan (pool_of_image image)) k.clear;
-    unseen = restart_seats (λ n z. (stream : ℕ) → NoStream x.streams (end_of n z stream) → view_on z.core stream ≡ None) s w node image x r
-        (λ stream none. k.unseen (present_life w node) r.seat r.here stream (none_before (end_of (present_life w node) r.seat stream) none))
-        (λ stream none. begun_unseen r.member.plan (pool_of_image image) stream) (λ n z here stream none. k.unseen n z here stream (none_before (end_of n z stream) none));
+    unseen = restart_seats (λ n z. (stream : ℕ) → NoStream x.streams (end_of n stream) → view_on z.core stream ≡ None) s w node image x r
+        (λ stream none. k.unseen (present_life w node) r.seat r.here stream (none_before (end_of (present_life w node) stream) none))
+        (λ stream none. begun_unseen r.member.plan (pool_of_image image) stream) (λ n z here stream none. k.unseen n z here stream (none_before (end_of n stream) none));
     streams = λ place u is negotiation. by_before place u negotiation ((restart_harmless s w node image x r).back place u is);
   } where
     by_before : (place : ℕ) (u : StreamState) → IsNegotiation u → Was w.streams place u → Stands x u

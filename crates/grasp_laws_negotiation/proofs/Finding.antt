@@ -1,6 +1,6 @@
 -- The stream of each session that a node has made.
 use Rattle.std.proofs.Common.{◌≡◌, refl, sym, ap, ◌∙◌, subst, ℕ, zero, suc, ◌==◌, ◌⊎◌, inl, inr, Bool, true, false, cond, List, [], ◌∷◌, ◌++◌, Option, None, Some, Contains, slice_get, slice_index_or}
-use Rattle.std.proofs.lemmas.Bool.{eqb-true, eq-eqb}
+use Rattle.std.proofs.lemmas.Bool.{eqb-true}
 use Rattle.std.proofs.lemmas.Option.{none-some}
 use Rattle.std.specs.Prelude.{find, filter_map, flat_map, option_to_list, option_map}
 use Rattle.grasp_model_node.specs.BoundedNodes.{IsBoundedNode}
@@ -17,8 +17,8 @@ use Rattle.grasp_laws_network.proofs.EachNode.{nodes_are_sound}
 use Rattle.grasp_model_network.specs.Runs.{IsReached}
 use Rattle.grasp_model_network.specs.Setting.{Setting}
 use Rattle.grasp_model_network.specs.Streams.{StreamEnd, StreamState, end_at, side_of_end}
-use Rattle.grasp_laws_network.specs.Views.{session_on, session_in, session_of_end}
-use Rattle.grasp_model_network.specs.World.{Seat, WorldState, life_of, seat_at, end_of}
+use Rattle.grasp_laws_network.specs.Views.{session_in, session_of_end}
+use Rattle.grasp_model_network.specs.World.{Seat, WorldState, seat_at, end_of}
 use Rattle.grasp_laws_delivery.proofs.Sides.{end_found, none_there}
 use Rattle.grasp_laws_negotiation.proofs.Networks.{network_stands}
 use Rattle.grasp_laws_negotiation.proofs.Standing.{NoStream}
@@ -79,11 +79,10 @@ same_list [] = refl
 same_list (None ∷ xs) = same_list xs
 same_list (Some x ∷ xs) = ap (λ (l : List SessionState). x ∷ l) (same_list xs)
 
-looked_up : (w : WorldState) (node : ℕ) (seat : Seat) (stream : ℕ) → seat_at w node ≡ Some seat → session_of_end w (Some (end_of node seat stream)) ≡ on_stream_made seat.core.sessions stream
+looked_up : (w : WorldState) (node : ℕ) (seat : Seat) (stream : ℕ) → seat_at w node ≡ Some seat → session_of_end w (Some (end_of node stream)) ≡ on_stream_made seat.core.sessions stream
 looked_up w node seat stream here =
-    ap (λ o. session_in (end_of node seat stream) o) here
-    ∙ (ap (λ b. session_on stream (cond b (Some seat.core) (slice_get seat.earlier (life_of seat)))) (eq-eqb (life_of seat) (life_of seat) refl)
-    ∙ ap (λ (l : List SessionState). find (λ x. x.stream == stream) (l ++ seat.core.sessions.gone)) (same_list seat.core.sessions.places))
+    ap (λ o. session_in (end_of node stream) o) here
+    ∙ ap (λ (l : List SessionState). find (λ x. x.stream == stream) (l ++ seat.core.sessions.gone)) (same_list seat.core.sessions.places)
 
 -- ---- the stream of an end
 
@@ -126,9 +125,9 @@ module _ (l : Grounds) (s : Setting) (w : WorldState) (r : IsReached s w) (node 
   seen : view_on seat.core x.stream ≡ Some x.view
   seen = ap (option_map (λ (y : SessionState). y.view)) one
 
-  stream_is : Ends w.streams (end_of node seat x.stream)
-  stream_is = by_case (find_end w.streams (end_of node seat x.stream)) where
-    by_case : Ends w.streams (end_of node seat x.stream) ⊎ NoStream w.streams (end_of node seat x.stream) → Ends w.streams (end_of node seat x.stream)
+  stream_is : Ends w.streams (end_of node x.stream)
+  stream_is = by_case (find_end w.streams (end_of node x.stream)) where
+    by_case : Ends w.streams (end_of node x.stream) ⊎ NoStream w.streams (end_of node x.stream) → Ends w.streams (end_of node x.stream)
     by_case (inl h) = h
     by_case (inr none) = absurd (none-some x.view (sym ((network_stands l s w r).unseen node seat here x.stream none) ∙ seen))
 
@@ -136,20 +135,20 @@ module _ (l : Grounds) (s : Setting) (w : WorldState) (r : IsReached s w) (node 
   some_end a b e = cc
 
   -- the side is that of the session, and where this is a negotiation near asked for one
-  side_is : (place : ℕ) (t : StreamState) → slice_get w.streams place ≡ Some t → (side : Side) → end_at t side ≡ Some (end_of node seat x.stream) → (x.view.role ≡ side) × (x.view.kind ≡ Negotiation → IsNegotiation t)
+  side_is : (place : ℕ) (t : StreamState) → slice_get w.streams place ≡ Some t → (side : Side) → end_at t side ≡ Some (end_of node x.stream) → (x.view.role ≡ side) × (x.view.kind ≡ Negotiation → IsNegotiation t)
   side_is place t is Near at =
-      let near : t.near ≡ end_of node seat x.stream = some_end t.near (end_of node seat x.stream) at in
+      let near : t.near ≡ end_of node x.stream = some_end t.near (end_of node x.stream) at in
       let a : NearAt seat.core x.stream (near_said t) = subst (λ (e : StreamEnd). NearAt seat.core e.number (near_said t)) near ((talks_seen l s w r place t is).near seat (ap (λ (e : StreamEnd). seat_at w e.node) near ∙ here)) in
       let k = a.asked x.view seen in
       (k.0, asked_is t x.view.kind k.1)
   side_is place t is Far at =
-      let a : FarAt seat.core x.stream (near_said t) = (talks_seen l s w r place t is).far (end_of node seat x.stream) at seat here in
+      let a : FarAt seat.core x.stream (near_said t) = (talks_seen l s w r place t is).far (end_of node x.stream) at seat here in
       let k = a.asked x.view seen in
       (k.0, λ e. asked_is t Negotiation k.1 refl)
 
-  pub has_stream : HasItsStream w node seat x
+  pub has_stream : HasItsStream w node x
   has_stream =
-      let h : Ends w.streams (end_of node seat x.stream) = stream_is in
+      let h : Ends w.streams (end_of node x.stream) = stream_is in
       let k = side_is h.place h.talk h.stands h.side h.ends in
       record {
         place = h.place;

@@ -9,7 +9,7 @@ use Rattle.grasp_model_network.specs.Routes.{Route, route_of}
 use Rattle.grasp_model_network.specs.Sending.{posted, having_sent, having_closed, handed_over}
 use Rattle.grasp_model_network.specs.Setting.{Setting}
 use Rattle.grasp_model_network.specs.Streams.{StreamEnd, StreamState, Arrival, told_closed, end_at, with_side, with_sent, with_ended, with_delivered, with_number, side_of_end, changed_by, at_end, change_at_end}
-use Rattle.grasp_model_network.specs.World.{Seat, WorldState, end_of, member_of}
+use Rattle.grasp_model_network.specs.World.{WorldState, end_of, member_of}
 use Rattle.grasp_laws_delivery.proofs.Sides.{place_changed}
 
 -- a stream has the same ends, and the same was said on it
@@ -109,24 +109,24 @@ posted_harmless : (w : WorldState) (m : Message) (route : Option Route) → Harm
 posted_harmless w m None = same_talks w.streams
 posted_harmless w m (Some route) = same_talks w.streams
 
-sent_harmless : (s : Setting) (node : ℕ) (seat : Seat) (w : WorldState) (q : Queued) → Harmless w.streams (having_sent s node seat w q).streams
-sent_harmless s node seat w (datagram link to m) = posted_harmless w m (route_of s (member_of w node) link to)
-sent_harmless s node seat w (dial stream to) = change_harmless (with_number (w.dials + 1)) (number_like (w.dials + 1)) (end_of node seat stream) w.streams
-sent_harmless s node seat w (send stream m) = change_harmless (with_sent m) (sent_like m) (end_of node seat stream) w.streams
+sent_harmless : (s : Setting) (node : ℕ) (w : WorldState) (q : Queued) → Harmless w.streams (having_sent s node w q).streams
+sent_harmless s node w (datagram link to m) = posted_harmless w m (route_of s (member_of w node) link to)
+sent_harmless s node w (dial stream to) = change_harmless (with_number (w.dials + 1)) (number_like (w.dials + 1)) (end_of node stream) w.streams
+sent_harmless s node w (send stream m) = change_harmless (with_sent m) (sent_like m) (end_of node stream) w.streams
 
-all_sent_harmless : (s : Setting) (node : ℕ) (seat : Seat) (qs : List Queued) (w : WorldState) → Harmless w.streams (fold (having_sent s node seat) w qs).streams
-all_sent_harmless s node seat [] w = same_talks w.streams
-all_sent_harmless s node seat (q ∷ qs) w =
-    harmless_then w.streams (having_sent s node seat w q).streams (fold (having_sent s node seat) (having_sent s node seat w q) qs).streams (sent_harmless s node seat w q) (all_sent_harmless s node seat qs (having_sent s node seat w q))
+all_sent_harmless : (s : Setting) (node : ℕ) (qs : List Queued) (w : WorldState) → Harmless w.streams (fold (having_sent s node) w qs).streams
+all_sent_harmless s node [] w = same_talks w.streams
+all_sent_harmless s node (q ∷ qs) w =
+    harmless_then w.streams (having_sent s node w q).streams (fold (having_sent s node) (having_sent s node w q) qs).streams (sent_harmless s node w q) (all_sent_harmless s node qs (having_sent s node w q))
 
-all_closed_harmless : (node : ℕ) (seat : Seat) (streams : List ℕ) (w : WorldState) → Harmless w.streams (fold (having_closed node seat) w streams).streams
-all_closed_harmless node seat [] w = same_talks w.streams
-all_closed_harmless node seat (stream ∷ streams) w =
-    harmless_then w.streams (having_closed node seat w stream).streams (fold (having_closed node seat) (having_closed node seat w stream) streams).streams
-    (change_harmless with_ended ended_like (end_of node seat stream) w.streams) (all_closed_harmless node seat streams (having_closed node seat w stream))
+all_closed_harmless : (node : ℕ) (streams : List ℕ) (w : WorldState) → Harmless w.streams (fold (having_closed node) w streams).streams
+all_closed_harmless node [] w = same_talks w.streams
+all_closed_harmless node (stream ∷ streams) w =
+    harmless_then w.streams (having_closed node w stream).streams (fold (having_closed node) (having_closed node w stream) streams).streams
+    (change_harmless with_ended ended_like (end_of node stream) w.streams) (all_closed_harmless node streams (having_closed node w stream))
 
-pub handed_harmless : (s : Setting) (w : WorldState) (node : ℕ) (seat : Seat) (qs : List Queued) (streams : List ℕ) → Harmless w.streams (handed_over s w node seat qs streams).streams
+pub handed_harmless : (s : Setting) (w : WorldState) (node : ℕ) (qs : List Queued) (streams : List ℕ) → Harmless w.streams (handed_over s w node qs streams).streams
 unfolding handed_over
-handed_harmless s w node seat qs streams =
-    let x = fold (having_sent s node seat) w qs in
-    harmless_then w.streams x.streams (fold (having_closed node seat) x streams).streams (all_sent_harmless s node seat qs w) (all_closed_harmless node seat streams x)
+handed_harmless s w node qs streams =
+    let x = fold (having_sent s node) w qs in
+    harmless_then w.streams x.streams (fold (having_closed node) x streams).streams (all_sent_harmless s node qs w) (all_closed_harmless node streams x)

@@ -1,17 +1,17 @@
 -- What a settling and a restart leave: what is looked up at the lives of nodes, and the streams.
-use Rattle.std.proofs.Common.{◌≡◌, ◌≢◌, refl, sym, ap, ◌∙◌, subst, ℕ, ◌+◌, ◌==◌, Bool, true, false, cond, length, find, slice_get, Option, Some, None, inr}
+use Rattle.std.proofs.Common.{◌≡◌, ◌≢◌, refl, sym, ap, ◌∙◌, subst, ℕ, ◌+◌, ◌==◌, Bool, true, false, length, find, Option, Some, None, inr}
 use Rattle.std.proofs.lemmas.Bool.{eqb-true, eqb-false}
 use Rattle.std.proofs.lemmas.Option.{none-some, same_Some}
 use Rattle.std.specs.Prelude.{option_map}
 use Rattle.grasp_laws_network.proofs.Appended.{not_next}
-use Rattle.grasp_laws_network.proofs.Begun.{begun_sessions, begun_streams, begun_earlier}
+use Rattle.grasp_laws_network.proofs.Begun.{begun_sessions, begun_streams}
 use Rattle.grasp_laws_network.proofs.Others.{put_elsewhere}
 use Rattle.grasp_laws_network.proofs.Restarted.{IsSameStream, Restarting, retired_seat, begun_seat, restarting_is}
 use Rattle.grasp_laws_network.proofs.Settled.{Settling, settling_is}
 use Rattle.grasp_laws_network.proofs.Staying.{put_here}
 use Rattle.grasp_laws_network.proofs.Telling.{one_least}
 use Rattle.grasp_laws_network.specs.Telling.{OneAgent}
-use Rattle.grasp_laws_network.specs.Views.{all_sessions, session_on, session_in, session_of_end, view_in}
+use Rattle.grasp_laws_network.specs.Views.{all_sessions, session_in, session_of_end, view_in}
 use Rattle.grasp_laws_node_stories.specs.Stories.{IsClear}
 use Rattle.grasp_laws_node_stories.specs.StreamMoves.{view_on}
 use Rattle.grasp_model_network.specs.Openings.{opened_seat}
@@ -46,21 +46,18 @@ module _ (plan : NodePlan) (h : Holding) where
   begun_clear stream = record { opens = λ past e. absurd (none-some past (sym (begun_closed stream) ∙ e)); unborn = inr (begun_unseen stream) }
 
   begun_none : (e : StreamEnd) → session_in e (Some (opened_seat plan h)) ≡ None
-  begun_none e = by_life (e.life == length (opened_seat plan h).earlier) where
-    by_life : (b : Bool) → session_on e.number (cond b (Some (opened_seat plan h).core) (slice_get (opened_seat plan h).earlier e.life)) ≡ None
-    by_life true = ap (λ (z : Sessions). find (λ x. x.stream == e.number) (all_sessions z)) (begun_sessions plan h)
-    by_life false = ap (λ z. session_on e.number (slice_get z e.life)) (begun_earlier plan h)
+  begun_none e = ap (λ (z : Sessions). find (λ x. x.stream == e.number) (all_sessions z)) (begun_sessions plan h)
 
 -- ---- another agent
 
 -- what is looked up at a life, and is the same with another agent, is so in both networks
-pub one_looked : {A : Type 0} (f : Option Seat → A) (w x : WorldState) (o : OneAgent w x) → f (Some (seat_with o.seat o.seat.core o.agent)) ≡ f (Some o.seat) → (n : ℕ) → f (seat_at x n) ≡ f (seat_at w n)
+pub one_looked : {A : Type 0} (f : Option Seat → A) (w x : WorldState) (o : OneAgent w x) → f (Some (seat_with o.seat.core o.agent)) ≡ f (Some o.seat) → (n : ℕ) → f (seat_at x n) ≡ f (seat_at w n)
 one_looked f w x o same n = ap (λ (y : WorldState). f (seat_at y n)) o.after ∙ by_node (n == o.node) refl where
-  by_node : (b : Bool) → (n == o.node) ≡ b → f (seat_at (with_seat w o.node (seat_with o.seat o.seat.core o.agent)) n) ≡ f (seat_at w n)
+  by_node : (b : Bool) → (n == o.node) ≡ b → f (seat_at (with_seat w o.node (seat_with o.seat.core o.agent)) n) ≡ f (seat_at w n)
   by_node true is =
-      subst (λ k. f (seat_at (with_seat w o.node (seat_with o.seat o.seat.core o.agent)) k) ≡ f (seat_at w k)) (sym (eqb-true n o.node is))
-      (ap f (put_here w.seats o.node o.seat (seat_with o.seat o.seat.core o.agent) o.here) ∙ (same ∙ sym (ap f o.here)))
-  by_node false is = ap f (put_elsewhere w.seats o.node n (seat_with o.seat o.seat.core o.agent) (one_least w x o) (eqb-false n o.node is))
+      subst (λ k. f (seat_at (with_seat w o.node (seat_with o.seat.core o.agent)) k) ≡ f (seat_at w k)) (sym (eqb-true n o.node is))
+      (ap f (put_here w.seats o.node o.seat (seat_with o.seat.core o.agent) o.here) ∙ (same ∙ sym (ap f o.here)))
+  by_node false is = ap f (put_elsewhere w.seats o.node n (seat_with o.seat.core o.agent) (one_least w x o) (eqb-false n o.node is))
 
 pub one_session : (w x : WorldState) → OneAgent w x → (e : Option StreamEnd) → session_of_end x e ≡ session_of_end w e
 one_session w x o None = refl

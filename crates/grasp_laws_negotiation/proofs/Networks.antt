@@ -44,7 +44,7 @@ use Rattle.grasp_laws_negotiation.proofs.Harmless.{same_talks, delivered_harmles
 use Rattle.grasp_laws_negotiation.proofs.NodeMoves.{NodeMove, move_stands, move_goes}
 use Rattle.grasp_laws_negotiation.proofs.Standing.{Stands, GoesTo, NoStream, NetworkStands}
 use Rattle.grasp_laws_negotiation.proofs.TalkRuns.{ran_then}
-use Rattle.grasp_laws_negotiation.proofs.Steps.{BringsNothing, AddsInOrder, nothing_added, given_before, own_end, every_at}
+use Rattle.grasp_laws_negotiation.proofs.Steps.{BringsNothing, AddsInOrder, nothing_added, given_before, every_at}
 use Rattle.grasp_laws_negotiation.specs.Grounds.{Grounds}
 
 -- ---- inputs that bring nothing
@@ -79,8 +79,8 @@ module _ (l : Grounds) (s : Setting) (w : WorldState) (r : IsReached s w) (k : N
   least : 1 ≤ v.node
   least = (visits_are_here s w e v is).member.least
 
-  after_step : Premade w.streams (streams_before s w e v c) v.node v.seat v.input → AddsInOrder l s w r v.node v.seat v.now v.input c.coming
-      → ((stream : ℕ) → OpensIt v.input stream → NoStream w.streams (end_of v.node v.seat stream)) → ((stream : ℕ) → OpensIt v.input stream → IsGiven v.seat.core.streams.dialled stream)
+  after_step : Premade w.streams (streams_before s w e v c) v.node v.input → AddsInOrder l s w r v.node v.seat v.now v.input c.coming
+      → ((stream : ℕ) → OpensIt v.input stream → NoStream w.streams (end_of v.node stream)) → ((stream : ℕ) → OpensIt v.input stream → IsGiven v.seat.core.streams.dialled stream)
       → NodeMove w (after_visit s w e v c)
   after_step pre adds opened odd =
       let p = seats_stepped s w e v c stepping in
@@ -88,38 +88,38 @@ module _ (l : Grounds) (s : Setting) (w : WorldState) (r : IsReached s w) (k : N
       (queues_grow v c (takes_nothing s w e v is stepping) step) adds opened odd
 
   -- nothing comes, and nothing is opened
-  pub after_nothing : Premade w.streams (streams_before s w e v c) v.node v.seat v.input → BringsNothing l s w r v.input → ((stream : ℕ) → OpensIt v.input stream → ⊥) → NodeMove w (after_visit s w e v c)
+  pub after_nothing : Premade w.streams (streams_before s w e v c) v.node v.input → BringsNothing l s w r v.input → ((stream : ℕ) → OpensIt v.input stream → ⊥) → NodeMove w (after_visit s w e v c)
   after_nothing pre none unopened =
       after_step pre (nothing_added l s w r k v.node v.seat here c.after v.now v.input c.coming c.reply step.steps none) (λ stream x. absurd (unopened stream x)) (λ stream x. absurd (unopened stream x))
 
-  pub after_quiet : Premade w.streams (streams_before s w e v c) v.node v.seat v.input → IsQuiet v.input → NodeMove w (after_visit s w e v c)
+  pub after_quiet : Premade w.streams (streams_before s w e v c) v.node v.input → IsQuiet v.input → NodeMove w (after_visit s w e v c)
   after_quiet pre quiet = after_nothing pre (quiet_brings v.input quiet) (quiet_opens v.input quiet)
 
   -- a closing
-  pub after_closing : Premade w.streams (streams_before s w e v c) v.node v.seat v.input → (stream : ℕ) → v.input ≡ input.Closed stream → NodeMove w (after_visit s w e v c)
+  pub after_closing : Premade w.streams (streams_before s w e v c) v.node v.input → (stream : ℕ) → v.input ≡ input.Closed stream → NodeMove w (after_visit s w e v c)
   after_closing pre stream closes =
       after_nothing pre (subst (λ i. BringsNothing l s w r i) (sym closes) (λ x n. (refl, refl))) (λ n x. subst (λ i. OpensIt i n) closes x)
 
   -- a stream that is opened
-  pub after_opening : (number : ℕ) → Premade w.streams (streams_before s w e v c) v.node v.seat v.input → (i : Input) → v.input ≡ i → BringsNothing l s w r i → ((stream : ℕ) → OpensIt i stream → number ≡ stream)
-      → NoStream w.streams (end_of v.node v.seat number) → number % 2 ≡ 1 → NodeMove w (after_visit s w e v c)
+  pub after_opening : (number : ℕ) → Premade w.streams (streams_before s w e v c) v.node v.input → (i : Input) → v.input ≡ i → BringsNothing l s w r i → ((stream : ℕ) → OpensIt i stream → number ≡ stream)
+      → NoStream w.streams (end_of v.node number) → number % 2 ≡ 1 → NodeMove w (after_visit s w e v c)
   after_opening number pre i same none opens free odd =
       after_step pre (nothing_added l s w r k v.node v.seat here c.after v.now v.input c.coming c.reply step.steps (subst (λ z. BringsNothing l s w r z) (sym same) none))
-      (λ stream x. subst (λ n. NoStream w.streams (end_of v.node v.seat n)) (opens stream (subst (λ z. OpensIt z stream) same x)) free)
+      (λ stream x. subst (λ n. NoStream w.streams (end_of v.node n)) (opens stream (subst (λ z. OpensIt z stream) same x)) free)
       (λ stream x. subst (λ n. IsGiven v.seat.core.streams.dialled n) (opens stream (subst (λ z. OpensIt z stream) same x)) (inl odd))
 
   -- a piece
-  pub after_bytes : Premade w.streams (streams_before s w e v c) v.node v.seat v.input → (at : StreamEnd) (piece : List ℕ) (place : ℕ) (t : StreamState) (side : Side) → slice_get w.streams place ≡ Some t
+  pub after_bytes : Premade w.streams (streams_before s w e v c) v.node v.input → (at : StreamEnd) (piece : List ℕ) (place : ℕ) (t : StreamState) (side : Side) → slice_get w.streams place ≡ Some t
       → end_at t side ≡ Some at → v.node ≡ at.node → v.input ≡ input.Bytes at.number piece
       → ((past : Past) → past_of (begin v.seat.core v.now).streams at.number ≡ Some past → IsCutInFront (sent_by t (other side)).sent (past.given ++ c.coming.added.messages) c.coming.added.kind)
       → NodeMove w (after_visit s w e v c)
   after_bytes pre at piece place t side stands ends node_is same cut =
       after_step pre (subst (λ i. AddsInOrder l s w r v.node v.seat v.now i c.coming) (sym same) adds) (λ stream x. absurd (subst (λ i. OpensIt i stream) same x)) (λ stream x. absurd (subst (λ i. OpensIt i stream) same x)) where
-        end_is : at ≡ end_of v.node v.seat at.number
-        end_is = own_end l s w r place t stands side at ends v.node v.seat here (sym node_is)
+        end_is : at ≡ end_of v.node at.number
+        end_is = ap (λ n. end_of n at.number) (sym node_is)
 
         -- on the stream itself
-        own_adds : (p : ℕ) (u : StreamState) → slice_get w.streams p ≡ Some u → (j : Side) → end_at u j ≡ Some (end_of v.node v.seat at.number) → (past : Past)
+        own_adds : (p : ℕ) (u : StreamState) → slice_get w.streams p ≡ Some u → (j : Side) → end_at u j ≡ Some (end_of v.node at.number) → (past : Past)
             → past_of (begin v.seat.core v.now).streams at.number ≡ Some past → IsCutInFront (sent_by u (other j)).sent (past.given ++ c.coming.added.messages) c.coming.added.kind
         own_adds p u found j has past is_open =
             let mine : end_at u j ≡ Some at = has ∙ ap (λ x. Some x) (sym end_is) in
@@ -137,7 +137,7 @@ module _ (l : Grounds) (s : Setting) (w : WorldState) (r : IsReached s w) (k : N
               → IsLonger (past.given ++ cond b c.coming.added.messages []) (sent_by u (other j)).sent × (cond b (is_bad_rest c.coming.added.kind) false ≡ false)
           by_stream true e =
               let n : at.number ≡ stream = eqb-true at.number stream e in
-              let x = own_adds p u found j (has ∙ ap (λ z. Some (end_of v.node v.seat z)) (sym n)) past (ap (λ z. past_of (begin v.seat.core v.now).streams z) n ∙ is_open) in
+              let x = own_adds p u found j (has ∙ ap (λ z. Some (end_of v.node z)) (sym n)) past (ap (λ z. past_of (begin v.seat.core v.now).streams z) n ∙ is_open) in
               (x.given_first, no_fault c.coming.added.kind x.waits)
           by_stream false e = (
             subst (λ (m : List Message). IsLonger m (sent_by u (other j)).sent) (sym (append-nil past.given))
@@ -148,8 +148,8 @@ module _ (l : Grounds) (s : Setting) (w : WorldState) (r : IsReached s w) (k : N
 -- ---- each event
 
 module _ (l : Grounds) (s : Setting) where
-  same_pre : (w : WorldState) (v : Visit) → Premade w.streams w.streams v.node v.seat v.input
-  same_pre w v = harmless_premade w.streams w.streams v.node v.seat v.input (same_talks w.streams)
+  same_pre : (w : WorldState) (v : Visit) → Premade w.streams w.streams v.node v.input
+  same_pre w v = harmless_premade w.streams w.streams v.node v.input (same_talks w.streams)
 
   arrives : (w : WorldState) (n : ℕ) (hold : Bool) (c : Choice) (v : Visit) → IsReached s w → NetworkStands w → Occurs s w (event.Arrive n hold) c → visit_of s w (event.Arrive n hold) ≡ Some v
       → IsReached s (after_visit s w (event.Arrive n hold) v c) → NodeMove w (after_visit s w (event.Arrive n hold) v c)
@@ -160,8 +160,8 @@ module _ (l : Grounds) (s : Setting) where
         let at : Placed w.streams p.talk = numbered_place n w.streams p.talk p.found in
         let i : Input = input.Opened number (s.arrives_from n p.near.core.plan.address) in
         after_opening l s w r k (event.Arrive n hold) c v o is tt q number
-        (subst (λ (z : Option StreamState). Premade w.streams (arrived w v number c.reply z).streams v.node v.seat v.input) (sym p.found)
-        (opened_premade w.streams v.node v.seat v.input p.talk.near number (arrival_by c.reply) (subst (λ z. OpensIt z number) (sym p.is.input_is) refl)
+        (subst (λ (z : Option StreamState). Premade w.streams (arrived w v number c.reply z).streams v.node v.input) (sym p.found)
+        (opened_premade w.streams v.node v.input p.talk.near number (arrival_by c.reply) (subst (λ z. OpensIt z number) (sym p.is.input_is) refl)
         (λ place t stands side has. unopened place t stands side p has at)))
         i p.is.input_is (λ x stream. (refl, refl)) (λ stream x. x) (new_end l.ready s w r n v is) (odd p at) where
           unopened : (place : ℕ) (t : StreamState) → slice_get w.streams place ≡ Some t → (side : Side) → (p : IsOpening s w n v) → end_at t side ≡ Some p.talk.near → Placed w.streams p.talk → t.far ≡ None
@@ -182,7 +182,7 @@ module _ (l : Grounds) (s : Setting) where
         let side_is = reached_is w n (side_named far) p.reached p.found in
         let at : Placed w.streams p.reached.talk = numbered_place n w.streams p.reached.talk side_is.found in
         after_bytes l s w r k (event.Bytes n far count hold) c v o is tt q
-        (harmless_premade w.streams (streams_before s w (event.Bytes n far count hold) v c) v.node v.seat v.input (delivered_harmless w count (reached_side w n (side_named far))))
+        (harmless_premade w.streams (streams_before s w (event.Bytes n far count hold) v c) v.node v.input (delivered_harmless w count (reached_side w n (side_named far))))
         p.reached.at (next_bytes p.reached.talk (other (side_named far)) count) at.place p.reached.talk (side_named far) at.stands side_is.ends p.is.node_is p.is.input_is
         (λ past is_open. l.given.added s w r n count far hold p.reached v c p.found is (subst (λ (x : Option Visit). MayCome x c) is o.comes) past is_open)
 
@@ -192,7 +192,7 @@ module _ (l : Grounds) (s : Setting) where
     by_cut : IsReaching w n (side_named far) v (λ x. input.Closed x.at.number) → NodeMove w (after_visit s w (event.Cut n far hold) v c)
     by_cut p =
         after_closing l s w r k (event.Cut n far hold) c v o is tt q
-        (harmless_premade w.streams (streams_before s w (event.Cut n far hold) v c) v.node v.seat v.input (told_harmless w (reached_side w n (side_named far)))) p.reached.at.number p.is.input_is
+        (harmless_premade w.streams (streams_before s w (event.Cut n far hold) v c) v.node v.input (told_harmless w (reached_side w n (side_named far)))) p.reached.at.number p.is.input_is
 
   -- what the step of an event does is a step of one node
   pub steps : (w : WorldState) (e : Event) (c : Choice) (v : Visit) → IsReached s w → NetworkStands w → Occurs s w e c → visit_of s w e ≡ Some v → IsStep e → IsReached s (after_visit s w e v c)

@@ -68,7 +68,7 @@ module _ (l : Grounds) (s : Setting) where
         let m : NodeState = begin seat.core seat.core.reading in
         each_drained SeatDiffers s w node seat m max least
         (step_differs seat.core (after_drain m max) seat.core.reading no_choice.coming (nodes_are_sound.sound s w r node seat here) ((network_stands l s w r).clear node seat here)
-        (d node seat here) (input.Drain max) (Outputs (drained m max)) (drain_steps seat.core max no_choice.coming))
+        (d node seat here) (input.Drain max) (Outputs (drained m max)) (drain_steps seat.core seat.core.reading max no_choice.coming))
         (λ n other apart found. d n other found)
 
   pub all_differ : (w : WorldState) → IsReached s w → AllDiffer w

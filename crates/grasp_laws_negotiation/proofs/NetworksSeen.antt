@@ -53,7 +53,7 @@ module _ (l : Grounds) (s : Setting) (w : WorldState) (r : IsReached s w) (each 
   y = drained_from s w node seat (begin seat.core seat.core.reading) max
 
   harmless : Harmless w.streams y.streams
-  harmless = handed_harmless s (with_seat w node (seat_with seat (after_drain core max) seat.agent)) node seat (take max core.queue) (closes core max)
+  harmless = handed_harmless s (with_seat w node (seat_with (after_drain core max) seat.agent)) node (take max core.queue) (closes core max)
 
   still_even : AreEven y
   still_even place u is = let m = harmless.back place u is in subst (λ (e : StreamEnd). e.number % 2 ≡ 0) (sym m.like.near) (even_ends l s w r place m.before m.stands)

@@ -54,5 +54,5 @@ NoStream ts e = OfEachStream (λ t. (side : Side) → end_at t side ≡ Some e �
 -- what is kept of a network: each stream of its nodes is clear, a number without a stream had no session, and each negotiation stands as a talk
 pub record NetworkStands (w : WorldState) : Type 0 where
   pub clear : (node : ℕ) (seat : Seat) → seat_at w node ≡ Some seat → (stream : ℕ) → IsClear seat.core stream
-  pub unseen : (node : ℕ) (seat : Seat) → seat_at w node ≡ Some seat → (stream : ℕ) → NoStream w.streams (end_of node seat stream) → view_on seat.core stream ≡ None
+  pub unseen : (node : ℕ) (seat : Seat) → seat_at w node ≡ Some seat → (stream : ℕ) → NoStream w.streams (end_of node stream) → view_on seat.core stream ≡ None
   pub streams : OfEachStream (λ t. IsNegotiation t → Stands w t) w.streams

@@ -23,9 +23,8 @@ use Rattle.grasp_model_network.specs.Plans as plans
 use Rattle.grasp_model_network.specs.Runs.{IsReached}
 use Rattle.grasp_model_network.specs.Setting.{Setting}
 use Rattle.grasp_model_network.specs.Streams.{StreamEnd, StreamState, end_at, sent_by, is_same_end, count_at_end}
-use Rattle.grasp_model_network.specs.World.{Seat, WorldState, seat_at, end_of, life_of}
+use Rattle.grasp_model_network.specs.World.{Seat, WorldState, seat_at, end_of}
 use Rattle.grasp_laws_delivery.proofs.Ends.{same_ends}
-use Rattle.grasp_laws_delivery.proofs.FromReady.{first_lives}
 use Rattle.grasp_laws_delivery.specs.Saying.{said_by}
 use Rattle.grasp_laws_delivery.specs.Ready.{Every, HasGoodEnds, HasGoodNumber, HasGoodFar}
 use Rattle.grasp_laws_negotiation.proofs.EndSteps.{ComesInOrder}
@@ -70,24 +69,9 @@ module _ (l : Grounds) (s : Setting) (w : WorldState) (r : IsReached s w) where
   ends_of : (place : ℕ) (t : StreamState) → slice_get w.streams place ≡ Some t → HasGoodEnds s (length w.seats) w.dials t.near t.number t.far
   ends_of place t is = every_at (λ t. HasGoodEnds s (length w.seats) w.dials t.near t.number t.far) w.streams place t (l.ready.ends s w r) is
 
-  first_life : (node : ℕ) (seat : Seat) → seat_at w node ≡ Some seat → life_of seat ≡ 0
-  first_life node seat here = ap (λ (x : List NodeState). length x) (l.ready.lives s w r node seat here)
-
-  pub life_is : (place : ℕ) (t : StreamState) → slice_get w.streams place ≡ Some t → (side : Side) (e : StreamEnd) → end_at t side ≡ Some e → e.life ≡ 0
-  life_is place t is side e at = first_lives l.ready s w r place t is side e at
-
-  end_with : ℕ → ℕ → ℕ → StreamEnd
-  end_with node life number = record { node = node; life = life; number = number }
-
-  pub own_end : (place : ℕ) (t : StreamState) → slice_get w.streams place ≡ Some t → (side : Side) (e : StreamEnd) → end_at t side ≡ Some e → (node : ℕ) (seat : Seat) → seat_at w node ≡ Some seat → e.node ≡ node
-      → e ≡ end_of node seat e.number
-  unfolding end_with
-  own_end place t is side e at node seat here same =
-      ap (λ n. end_with n e.life e.number) same ∙ ap (λ n. end_with node n e.number) (life_is place t is side e at ∙ sym (first_life node seat here))
-
   odd_far : (nodes dials : ℕ) (number : Option ℕ) (e : StreamEnd) → HasGoodNumber dials number → HasGoodFar s nodes number (Some e) → e.number % 2 ≡ 1
   odd_far nodes dials None e g h = absurd h
-  odd_far nodes dials (Some k) e g h = ap (λ n. n % 2) h.2 ∙ r.good.arrivals_odd e.node k g.0
+  odd_far nodes dials (Some k) e g h = ap (λ n. n % 2) h.1 ∙ r.good.arrivals_odd e.node k g.0
 
   far_odd : (place : ℕ) (t : StreamState) → slice_get w.streams place ≡ Some t → (e : StreamEnd) → t.far ≡ Some e → e.number % 2 ≡ 1
   far_odd place t is e at =
@@ -134,14 +118,13 @@ module _ (l : Grounds) (s : Setting) (w : WorldState) (r : IsReached s w) where
     by_end Far None at = none_sent (sent_by t Far).sent (said_by t Far) ((l.said.unopened s w r place t is).sent at)
     by_end k (Some e) at =
         let f = seat_of w e.node (member_of k e at) in
-        let same : e ≡ end_of e.node f.0 e.number = own_end place t is k e at e.node f.0 f.1 refl in
-        (_, l.said.said s w r e.node f.0 f.1 place t is k e.number (at ∙ ap (λ x. Some x) same))
+        (_, l.said.said s w r e.node f.0 f.1 place t is k e.number at)
 
   -- ---- what comes
 
   -- on each stream of the node what an input brings are the next messages that the other side sent, and no fault
   abbrev pub AddsInOrder : ℕ → Seat → ℕ → Input → Coming → Type 0
-  AddsInOrder node seat now i x = (place : ℕ) (t : StreamState) → slice_get w.streams place ≡ Some t → (side : Side) (stream : ℕ) → end_at t side ≡ Some (end_of node seat stream)
+  AddsInOrder node seat now i x = (place : ℕ) (t : StreamState) → slice_get w.streams place ≡ Some t → (side : Side) (stream : ℕ) → end_at t side ≡ Some (end_of node stream)
       → (past : Past) → past_of (begin seat.core now).streams stream ≡ Some past → IsLonger (past.given ++ came_by i x stream) (sent_by t (other side)).sent × (fault_by i x stream ≡ false)
 
   -- nothing comes
@@ -156,7 +139,7 @@ module _ (l : Grounds) (s : Setting) (w : WorldState) (r : IsReached s w) where
     clear_of stream opens = l.clears.1 seat.core after now i x q stream (sound node seat here) (k.clear node seat here stream) opens step
 
     -- what an open stream was given before is the first that the other side sent
-    pub given_before : (place : ℕ) (t : StreamState) → slice_get w.streams place ≡ Some t → (side : Side) (stream : ℕ) → end_at t side ≡ Some (end_of node seat stream)
+    pub given_before : (place : ℕ) (t : StreamState) → slice_get w.streams place ≡ Some t → (side : Side) (stream : ℕ) → end_at t side ≡ Some (end_of node stream)
         → (past : Past) → past_of (begin seat.core now).streams stream ≡ Some past → IsLonger past.given (sent_by t (other side)).sent
     given_before place t is side stream at past is_open = l.given.given s w r node seat here stream past ((story_of stream).begun past is_open) place t is side at
 
@@ -175,14 +158,14 @@ module _ (l : Grounds) (s : Setting) (w : WorldState) (r : IsReached s w) where
           longer_then (past.given ++ came_by i x e.number) (sent_by t (other side)).sent said (adds place t is side e.number own past is_open).0
           (subst (λ (m : List Message). IsLonger (sent_by t (other side)).sent m) (sym said_is) (sent_said place t is (other side)));
     } where
-      own : end_at t side ≡ Some (end_of node seat e.number)
-      own = at ∙ ap (λ z. Some z) (own_end place t is side e at node seat here same)
+      own : end_at t side ≡ Some (end_of node e.number)
+      own = at ∙ ap (λ n. Some (end_of n e.number)) same
 
       by_past : (o : Option Past) → past_of (begin seat.core now).streams e.number ≡ o → fault_on o i x e.number ≡ false
       by_past None is_open = refl
       by_past (Some past) is_open = (adds place t is side e.number own past is_open).1
 
-    pub is_recorded : (stream : ℕ) (past : Past) → past_of seat.core.streams stream ≡ Some past → NoStream w.streams (end_of node seat stream) → ⊥
+    pub is_recorded : (stream : ℕ) (past : Past) → past_of seat.core.streams stream ≡ Some past → NoStream w.streams (end_of node stream) → ⊥
     is_recorded stream past is_open none = let h = (l.records s w r node seat here stream past is_open).stream in none h.place h.talk h.stands h.side h.ends
 
     -- what is dialled is an even number below that of the next stream
@@ -203,8 +186,8 @@ module _ (l : Grounds) (s : Setting) (w : WorldState) (r : IsReached s w) where
 
 -- what a node dialled is a stream
 pub dialled_there : (l : Grounds) (s : Setting) (y : WorldState) → IsReached s y → (node : ℕ) (new : Seat) → seat_at y node ≡ Some new → (stream d : ℕ) → stream ≡ 2 * d → d < new.core.streams.dialled
-    → NoStream y.streams (end_of node new stream) → ⊥
+    → NoStream y.streams (end_of node stream) → ⊥
 dialled_there l s y r node new there stream d even low none =
-    zero_one (count_at_end y.streams (end_of node new (2 * d))) (none_counted (end_of node new (2 * d)) y.streams (subst (λ n. NoStream y.streams (end_of node new n)) even none)) (l.ready.nears s y r node new there d low) where
+    zero_one (count_at_end y.streams (end_of node (2 * d))) (none_counted (end_of node (2 * d)) y.streams (subst (λ n. NoStream y.streams (end_of node n)) even none)) (l.ready.nears s y r node new there d low) where
       zero_one : (a : ℕ) → a ≡ 0 → a ≡ 1 → ⊥
       zero_one a e f = omega arith

@@ -12,7 +12,7 @@ use Rattle.grasp_session.specs.Messages.{Side, Near}
 use Rattle.grasp_laws_network.proofs.EachNode.{IsMade, is_made}
 use Rattle.grasp_model_network.specs.Sending.{streams_made}
 use Rattle.grasp_model_network.specs.Streams.{StreamEnd, StreamState, has_end, count_at_end, side_of_end, with_said, changed_by, at_end, change_at_end, fresh_stream}
-use Rattle.grasp_model_network.specs.World.{Seat, end_of}
+use Rattle.grasp_model_network.specs.World.{end_of}
 use Rattle.grasp_laws_delivery.proofs.OnePlace.{as_one}
 use Rattle.grasp_laws_delivery.proofs.Sides.{end_found, place_kept, place_changed}
 use Rattle.grasp_laws_delivery.specs.Saying.{queued_for}
@@ -22,33 +22,33 @@ use Rattle.grasp_laws_negotiation.proofs.TalkSteps.{onto}
 use Rattle.grasp_laws_negotiation.proofs.Voices.{voices, voiced, same_here}
 
 -- a stream on which these outputs of a node are said
-abbrev pub with_voices : ℕ → Seat → List Queued → StreamState → StreamState
-with_voices node seat qs t = record t { said = joined (voices node seat t.near t.far qs) t.said }
+abbrev pub with_voices : ℕ → List Queued → StreamState → StreamState
+with_voices node qs t = record t { said = joined (voices node t.near t.far qs) t.said }
 
 -- a stream that was there before these outputs, with what they say on it added
-pub record MadeOld (node : ℕ) (seat : Seat) (qs : List Queued) (ts : List StreamState) (place : ℕ) (u : StreamState) : Type 0 where
+pub record MadeOld (node : ℕ) (qs : List Queued) (ts : List StreamState) (place : ℕ) (u : StreamState) : Type 0 where
   pub before : StreamState
   pub stands : slice_get ts place ≡ Some before
-  pub made : u ≡ with_voices node seat qs before
+  pub made : u ≡ with_voices node qs before
 
 -- a stream that one of these outputs dials, with what the outputs behind that one say on it
-pub record MadeNew (node : ℕ) (seat : Seat) (qs : List Queued) (count place : ℕ) (u : StreamState) : Type 0 where
+pub record MadeNew (node : ℕ) (qs : List Queued) (count place : ℕ) (u : StreamState) : Type 0 where
   pub stream : ℕ
   pub to : Locator
   pub before : List Queued
   pub behind : List Queued
   pub parts : qs ≡ before ++ dial stream to ∷ behind
-  pub made : u ≡ with_voices node seat behind (fresh_stream (end_of node seat stream) to)
+  pub made : u ≡ with_voices node behind (fresh_stream (end_of node stream) to)
   pub place_is : count ≤ place
 
-module _ (node : ℕ) (seat : Seat) where
+module _ (node : ℕ) where
   said_one : (qs : List Queued) (m : Message) (t : StreamState) (o : Option Side)
-      → with_voices node seat qs (changed_by (with_said m) t o) ≡ record t { said = joined (voiced o m (voices node seat t.near t.far qs)) t.said }
+      → with_voices node qs (changed_by (with_said m) t o) ≡ record t { said = joined (voiced o m (voices node t.near t.far qs)) t.said }
   said_one qs m t None = refl
   said_one qs m t (Some side) = refl
 
-  said_first : (qs : List Queued) (stream : ℕ) (m : Message) (t : StreamState) → with_voices node seat qs (at_end (end_of node seat stream) (with_said m) t) ≡ with_voices node seat (send stream m ∷ qs) t
-  said_first qs stream m t = said_one qs m t (side_of_end (end_of node seat stream) t)
+  said_first : (qs : List Queued) (stream : ℕ) (m : Message) (t : StreamState) → with_voices node qs (at_end (end_of node stream) (with_said m) t) ≡ with_voices node (send stream m ∷ qs) t
+  said_first qs stream m t = said_one qs m t (side_of_end (end_of node stream) t)
 
   pushed : (ts : List StreamState) (t b : StreamState) (place : ℕ) → slice_get (ts ++ t ∷ []) place ≡ Some b → (slice_get ts place ≡ Some b) ⊎ ((b ≡ t) × (length ts ≤ place))
   pushed [] t b zero is = inr (sym (same_Some t b is), omega arith)
@@ -61,7 +61,7 @@ module _ (node : ℕ) (seat : Seat) where
       more : (a b : ℕ) → a ≤ b → suc a ≤ suc b
       more a b h = omega arith
 
-  behind_one : (q : Queued) (qs : List Queued) (count place : ℕ) (u : StreamState) → MadeNew node seat qs count place u → MadeNew node seat (q ∷ qs) count place u
+  behind_one : (q : Queued) (qs : List Queued) (count place : ℕ) (u : StreamState) → MadeNew node qs count place u → MadeNew node (q ∷ qs) count place u
   behind_one q qs count place u n = record {
     stream = n.stream;
     to = n.to;
@@ -72,21 +72,21 @@ module _ (node : ℕ) (seat : Seat) where
     place_is = n.place_is;
   }
 
-  fewer : (qs : List Queued) (a b place : ℕ) (u : StreamState) → a ≤ b → MadeNew node seat qs b place u → MadeNew node seat qs a place u
+  fewer : (qs : List Queued) (a b place : ℕ) (u : StreamState) → a ≤ b → MadeNew node qs b place u → MadeNew node qs a place u
   fewer qs a b place u h n = let low : b ≤ place = n.place_is in record { stream = n.stream; to = n.to; before = n.before; behind = n.behind; parts = n.parts; made = n.made; place_is = omega (arith, h, low) }
 
-  pub made_from : (qs : List Queued) (ts : List StreamState) (place : ℕ) (u : StreamState) → slice_get (streams_made node seat ts qs) place ≡ Some u
-      → MadeOld node seat qs ts place u ⊎ MadeNew node seat qs (length ts) place u
+  pub made_from : (qs : List Queued) (ts : List StreamState) (place : ℕ) (u : StreamState) → slice_get (streams_made node ts qs) place ≡ Some u
+      → MadeOld node qs ts place u ⊎ MadeNew node qs (length ts) place u
   unfolding streams_made
   made_from [] ts place u is = inl (record { before = u; stands = is; made = refl })
   made_from (datagram link to m ∷ qs) ts place u is = by_rest (made_from qs ts place u is) where
-    by_rest : MadeOld node seat qs ts place u ⊎ MadeNew node seat qs (length ts) place u → MadeOld node seat (datagram link to m ∷ qs) ts place u ⊎ MadeNew node seat (datagram link to m ∷ qs) (length ts) place u
+    by_rest : MadeOld node qs ts place u ⊎ MadeNew node qs (length ts) place u → MadeOld node (datagram link to m ∷ qs) ts place u ⊎ MadeNew node (datagram link to m ∷ qs) (length ts) place u
     by_rest (inl o) = inl (record { before = o.before; stands = o.stands; made = o.made })
     by_rest (inr n) = inr (behind_one (datagram link to m) qs (length ts) place u n)
-  made_from (dial stream to ∷ qs) ts place u is = by_rest (made_from qs (ts ++ fresh_stream (end_of node seat stream) to ∷ []) place u is) where
-    by_push : (o : MadeOld node seat qs (ts ++ fresh_stream (end_of node seat stream) to ∷ []) place u)
-        → (slice_get ts place ≡ Some o.before) ⊎ ((o.before ≡ fresh_stream (end_of node seat stream) to) × (length ts ≤ place))
-        → MadeOld node seat (dial stream to ∷ qs) ts place u ⊎ MadeNew node seat (dial stream to ∷ qs) (length ts) place u
+  made_from (dial stream to ∷ qs) ts place u is = by_rest (made_from qs (ts ++ fresh_stream (end_of node stream) to ∷ []) place u is) where
+    by_push : (o : MadeOld node qs (ts ++ fresh_stream (end_of node stream) to ∷ []) place u)
+        → (slice_get ts place ≡ Some o.before) ⊎ ((o.before ≡ fresh_stream (end_of node stream) to) × (length ts ≤ place))
+        → MadeOld node (dial stream to ∷ qs) ts place u ⊎ MadeNew node (dial stream to ∷ qs) (length ts) place u
     by_push o (inl e) = inl (record { before = o.before; stands = e; made = o.made })
     by_push o (inr p) = inr (record {
       stream = stream;
@@ -94,49 +94,49 @@ module _ (node : ℕ) (seat : Seat) where
       before = [];
       behind = qs;
       parts = refl;
-      made = o.made ∙ ap (λ t. with_voices node seat qs t) p.0;
+      made = o.made ∙ ap (λ t. with_voices node qs t) p.0;
       place_is = p.1;
     })
 
-    by_rest : MadeOld node seat qs (ts ++ fresh_stream (end_of node seat stream) to ∷ []) place u ⊎ MadeNew node seat qs (length (ts ++ fresh_stream (end_of node seat stream) to ∷ [])) place u
-        → MadeOld node seat (dial stream to ∷ qs) ts place u ⊎ MadeNew node seat (dial stream to ∷ qs) (length ts) place u
-    by_rest (inl o) = by_push o (pushed ts (fresh_stream (end_of node seat stream) to) o.before place o.stands)
+    by_rest : MadeOld node qs (ts ++ fresh_stream (end_of node stream) to ∷ []) place u ⊎ MadeNew node qs (length (ts ++ fresh_stream (end_of node stream) to ∷ [])) place u
+        → MadeOld node (dial stream to ∷ qs) ts place u ⊎ MadeNew node (dial stream to ∷ qs) (length ts) place u
+    by_rest (inl o) = by_push o (pushed ts (fresh_stream (end_of node stream) to) o.before place o.stands)
     by_rest (inr n) =
-        let longer : length (ts ++ fresh_stream (end_of node seat stream) to ∷ []) ≡ length ts + 1 = length-append ts (fresh_stream (end_of node seat stream) to ∷ []) in
-        inr (behind_one (dial stream to) qs (length ts) place u (fewer qs (length ts) (length (ts ++ fresh_stream (end_of node seat stream) to ∷ [])) place u (omega (arith, longer)) n))
-  made_from (send stream m ∷ qs) ts place u is = by_rest (made_from qs (change_at_end ts (end_of node seat stream) (with_said m)) place u is) where
-    by_made : (o : MadeOld node seat qs (change_at_end ts (end_of node seat stream) (with_said m)) place u) → IsMade (at_end (end_of node seat stream) (with_said m)) ts place o.before → MadeOld node seat (send stream m ∷ qs) ts place u
+        let longer : length (ts ++ fresh_stream (end_of node stream) to ∷ []) ≡ length ts + 1 = length-append ts (fresh_stream (end_of node stream) to ∷ []) in
+        inr (behind_one (dial stream to) qs (length ts) place u (fewer qs (length ts) (length (ts ++ fresh_stream (end_of node stream) to ∷ [])) place u (omega (arith, longer)) n))
+  made_from (send stream m ∷ qs) ts place u is = by_rest (made_from qs (change_at_end ts (end_of node stream) (with_said m)) place u is) where
+    by_made : (o : MadeOld node qs (change_at_end ts (end_of node stream) (with_said m)) place u) → IsMade (at_end (end_of node stream) (with_said m)) ts place o.before → MadeOld node (send stream m ∷ qs) ts place u
     by_made o k = record {
       before = k.of;
       stands = k.stands;
-      made = o.made ∙ (ap (λ t. with_voices node seat qs t) (sym k.made) ∙ said_first qs stream m k.of);
+      made = o.made ∙ (ap (λ t. with_voices node qs t) (sym k.made) ∙ said_first qs stream m k.of);
     }
 
-    by_rest : MadeOld node seat qs (change_at_end ts (end_of node seat stream) (with_said m)) place u ⊎ MadeNew node seat qs (length (change_at_end ts (end_of node seat stream) (with_said m))) place u
-        → MadeOld node seat (send stream m ∷ qs) ts place u ⊎ MadeNew node seat (send stream m ∷ qs) (length ts) place u
-    by_rest (inl o) = inl (by_made o (is_made (at_end (end_of node seat stream) (with_said m)) ts place o.before o.stands))
+    by_rest : MadeOld node qs (change_at_end ts (end_of node stream) (with_said m)) place u ⊎ MadeNew node qs (length (change_at_end ts (end_of node stream) (with_said m))) place u
+        → MadeOld node (send stream m ∷ qs) ts place u ⊎ MadeNew node (send stream m ∷ qs) (length ts) place u
+    by_rest (inl o) = inl (by_made o (is_made (at_end (end_of node stream) (with_said m)) ts place o.before o.stands))
     by_rest (inr n) = inr (behind_one (send stream m) qs (length ts) place u
-        (subst (λ k. MadeNew node seat qs k place u) (length-map ts (at_end (end_of node seat stream) (with_said m))) n))
+        (subst (λ k. MadeNew node qs k place u) (length-map ts (at_end (end_of node stream) (with_said m))) n))
 
   -- each stream stays at its place
-  pub made_stays : (qs : List Queued) (ts : List StreamState) (place : ℕ) (t : StreamState) → slice_get ts place ≡ Some t → slice_get (streams_made node seat ts qs) place ≡ Some (with_voices node seat qs t)
+  pub made_stays : (qs : List Queued) (ts : List StreamState) (place : ℕ) (t : StreamState) → slice_get ts place ≡ Some t → slice_get (streams_made node ts qs) place ≡ Some (with_voices node qs t)
   unfolding streams_made
   made_stays [] ts place t is = is
   made_stays (datagram link to m ∷ qs) ts place t is = made_stays qs ts place t is
-  made_stays (dial stream to ∷ qs) ts place t is = made_stays qs (ts ++ fresh_stream (end_of node seat stream) to ∷ []) place t (place_kept ts (fresh_stream (end_of node seat stream) to ∷ []) place t is)
+  made_stays (dial stream to ∷ qs) ts place t is = made_stays qs (ts ++ fresh_stream (end_of node stream) to ∷ []) place t (place_kept ts (fresh_stream (end_of node stream) to ∷ []) place t is)
   made_stays (send stream m ∷ qs) ts place t is =
-      made_stays qs (change_at_end ts (end_of node seat stream) (with_said m)) place (at_end (end_of node seat stream) (with_said m) t) (place_changed ts (end_of node seat stream) (with_said m) place t is)
+      made_stays qs (change_at_end ts (end_of node stream) (with_said m)) place (at_end (end_of node stream) (with_said m) t) (place_changed ts (end_of node stream) (with_said m) place t is)
       ∙ ap (λ x. Some x) (said_first qs stream m t)
 
   -- ---- what is said on a stream that isn't opened yet
 
-  pub voices_onto : (a : ℕ) (qs : List Queued) (c : List Said) → joined (voices node seat (end_of node seat a) None qs) c ≡ onto Near (sends_on a qs) c
+  pub voices_onto : (a : ℕ) (qs : List Queued) (c : List Said) → joined (voices node (end_of node a) None qs) c ≡ onto Near (sends_on a qs) c
   voices_onto a [] c = refl
   voices_onto a (datagram link to m ∷ qs) c = voices_onto a qs c
   voices_onto a (dial stream to ∷ qs) c = voices_onto a qs c
   voices_onto a (send stream m ∷ qs) c =
-      ap (λ b. joined (voiced (cond b (Some Near) None) m (voices node seat (end_of node seat a) None qs)) c) (same_here node seat stream a) ∙ by_test (λ k. voices_onto a qs k) (stream == a) where
-        by_test : ((k : List Said) → joined (voices node seat (end_of node seat a) None qs) k ≡ onto Near (sends_on a qs) k) → (b : Bool) → joined (voiced (cond b (Some Near) None) m (voices node seat (end_of node seat a) None qs)) c ≡ onto Near (cond b (m ∷ sends_on a qs) (sends_on a qs)) c
+      ap (λ b. joined (voiced (cond b (Some Near) None) m (voices node (end_of node a) None qs)) c) (same_here node stream a) ∙ by_test (λ k. voices_onto a qs k) (stream == a) where
+        by_test : ((k : List Said) → joined (voices node (end_of node a) None qs) k ≡ onto Near (sends_on a qs) k) → (b : Bool) → joined (voiced (cond b (Some Near) None) m (voices node (end_of node a) None qs)) c ≡ onto Near (cond b (m ∷ sends_on a qs) (sends_on a qs)) c
         by_test rest true = rest (says Near m ∷ c)
         by_test rest false = rest c
 

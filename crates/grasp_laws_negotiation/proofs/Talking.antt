@@ -1,6 +1,5 @@
 -- In every network that turns lead to each negotiation is a talk, and how its sides stand is what is looked up at their nodes.
-use Rattle.std.proofs.Common.{◌≡◌, ℕ, ◌==◌, ◌&&◌, ◌||◌, Bool, true, false, cond, List, [], ◌∷◌, ◌++◌, inl, inr, Option, Some, None, length, slice_get, refl, sym, ap, ◌∙◌, subst}
-use Rattle.std.proofs.lemmas.Bool.{eq-eqb}
+use Rattle.std.proofs.Common.{◌≡◌, ℕ, ◌==◌, ◌&&◌, ◌||◌, Bool, true, false, cond, List, [], ◌∷◌, ◌++◌, inl, inr, Option, Some, None, slice_get, refl, sym, ap, ◌∙◌, subst}
 use Rattle.std.specs.Prelude.{find, filter_map, flat_map, option_map, option_to_list}
 use Rattle.grasp_model_node.specs.Node.{NodeState}
 use Rattle.grasp_types.specs.declared.message.Message.{Message}
@@ -18,11 +17,10 @@ use Rattle.grasp_model_network.specs.Events.{after_event}
 use Rattle.grasp_model_network.specs.Runs.{IsReached}
 use Rattle.grasp_model_network.specs.Setting.{Setting}
 use Rattle.grasp_model_network.specs.Streams.{StreamEnd, StreamState, end_at}
-use Rattle.grasp_laws_network.specs.Views.{core_in, all_sessions, session_on, session_in, session_of_end, has_ended, stage_by, stage_at, view_in}
-use Rattle.grasp_model_network.specs.World.{Seat, WorldState, seat_at, life_of}
+use Rattle.grasp_laws_network.specs.Views.{all_sessions, session_on, session_in, session_of_end, has_ended, stage_by, stage_at, view_in}
+use Rattle.grasp_model_network.specs.World.{Seat, WorldState, seat_at}
 use Rattle.grasp_laws_negotiation.proofs.Networks.{network_stands, event_goes}
 use Rattle.grasp_laws_negotiation.proofs.Standing.{view_seat, EndStands, SideStands, Stands}
-use Rattle.grasp_laws_negotiation.proofs.Steps.{life_is}
 use Rattle.grasp_laws_negotiation.specs.Grounds.{Grounds}
 use Rattle.grasp_laws_negotiation.proofs.TalkSteps.{Fits, cons_nil}
 use Rattle.grasp_laws_negotiation.specs.GoingOn.{NegotiationsGoOn}
@@ -39,17 +37,14 @@ same_views : (o : Option SessionState) → view_in o ≡ option_map (λ x. x.vie
 same_views None = refl
 same_views (Some x) = refl
 
-session_view : (n : NodeState) (stream : ℕ) → view_in (session_on stream (Some n)) ≡ view_on n stream
+session_view : (n : NodeState) (stream : ℕ) → view_in (session_on stream n) ≡ view_on n stream
 session_view n stream =
     same_views (find (λ x. x.stream == stream) (all_sessions n.sessions))
     ∙ ap (λ (l : List SessionState). option_map (λ (x : SessionState). x.view) (find (λ x. x.stream == stream) (l ++ n.sessions.gone))) (same_list n.sessions.places)
 
-present_core : (seat : Seat) (life : ℕ) → life ≡ life_of seat → core_in seat life ≡ Some seat.core
-present_core seat life e = ap (λ b. cond b (Some seat.core) (slice_get seat.earlier life)) (eq-eqb life (life_of seat) e)
-
-seat_view : (e : StreamEnd) (o : Option Seat) → ((seat : Seat) → o ≡ Some seat → e.life ≡ life_of seat) → view_in (session_in e o) ≡ view_seat e.number o
-seat_view e None life = refl
-seat_view e (Some seat) life = ap (λ c. view_in (session_on e.number c)) (present_core seat e.life (life seat refl)) ∙ session_view seat.core e.number
+seat_view : (e : StreamEnd) (o : Option Seat) → view_in (session_in e o) ≡ view_seat e.number o
+seat_view e None = refl
+seat_view e (Some seat) = session_view seat.core e.number
 
 -- ---- how a side without a session stands
 
@@ -85,7 +80,7 @@ module _ (l : Grounds) (s : Setting) (w : WorldState) (r : IsReached s w) (place
   end_so : (k : Talk) → Reached k → k.said ≡ t.said → (side : Side) (e : StreamEnd) → end_at t side ≡ Some e → EndStands w e (party k side) → (party k side).stage ≡ stage_at w t side
   end_so k q said side e at stands =
       stands_so k q t said side (session_of_end w (Some e))
-      (subst (λ v. Fits v (party k side).stage) (sym (seat_view e (seat_at w e.node) (λ seat here. life_is l s w r place t is side e at ∙ sym (ap (λ (x : List NodeState). length x) (l.ready.lives s w r e.node seat here))))) stands.fits)
+      (subst (λ v. Fits v (party k side).stage) (sym (seat_view e (seat_at w e.node))) stands.fits)
       ∙ ap (λ o. stage_by t side (session_of_end w o)) (sym at)
 
   far_so : (k : Talk) → Reached k → k.said ≡ t.said → (o : Option StreamEnd) → t.far ≡ o → SideStands w o k.far → k.far.stage ≡ stage_at w t Far

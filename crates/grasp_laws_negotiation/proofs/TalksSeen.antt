@@ -16,7 +16,7 @@ use Rattle.grasp_laws_delivery.proofs.Ends.{some_end}
 use Rattle.grasp_laws_delivery.specs.Saying.{OfEachStream}
 use Rattle.grasp_laws_negotiation.proofs.NodeMoves.{FarOpens, FromOld, FromNew, NodeMove, spoken_joined}
 use Rattle.grasp_laws_negotiation.proofs.Standing.{NoStream, NetworkStands}
-use Rattle.grasp_laws_negotiation.proofs.Steps.{own_end, dialled_there}
+use Rattle.grasp_laws_negotiation.proofs.Steps.{dialled_there}
 use Rattle.grasp_laws_negotiation.specs.Grounds.{Grounds}
 use Rattle.grasp_laws_negotiation.proofs.TalkRuns.{spoken_onto}
 use Rattle.grasp_laws_negotiation.proofs.Voices.{voices, near_says, near_silent}
@@ -58,16 +58,16 @@ module _ (l : Grounds) (s : Setting) (w y : WorldState) (r : IsReached s w) (eve
 
   -- ---- a stream that was there
 
-  module _ (place : ℕ) (u : StreamState) (f : FromOld w m.node m.seat m.i qs place u) where
-    said_is : near_said u ≡ near_said f.before ++ spoken Near (voices m.node m.seat u.near u.far qs)
-    said_is = ap (λ (c : List Said). reverse (spoken Near c)) f.said ∙ spoken_joined Near (voices m.node m.seat u.near u.far qs) f.before.said
+  module _ (place : ℕ) (u : StreamState) (f : FromOld w m.node m.i qs place u) where
+    said_is : near_said u ≡ near_said f.before ++ spoken Near (voices m.node u.near u.far qs)
+    said_is = ap (λ (c : List Said). reverse (spoken Near c)) f.said ∙ spoken_joined Near (voices m.node u.near u.far qs) f.before.said
 
     was : TalkSeen w f.before
     was = each place f.before f.stands
 
     unopened : (side : Side) (e : StreamEnd) → end_at f.before side ≡ Some e → e.node ≡ m.node → OpensIt m.i e.number → ⊥
     unopened side e at here opens =
-        m.opened e.number opens place f.before f.stands side (at ∙ ap (λ (z : StreamEnd). Some z) (own_end l s w r place f.before f.stands side e at m.node m.seat m.here here))
+        m.opened e.number opens place f.before f.stands side (at ∙ ap (λ n. Some (end_of n e.number)) here)
 
     given : (side : Side) (e : StreamEnd) → end_at f.before side ≡ Some e → e.node ≡ m.node → some_move is_dial (m.story e.number).moves ≡ false
     given side e at here = (m.story e.number).new (m.comes place f.before f.stands side e at here (reverse (spoken (other side) f.before.said)) refl).given
@@ -84,20 +84,20 @@ module _ (l : Grounds) (s : Setting) (w y : WorldState) (r : IsReached s w) (eve
       by_node false is = was.near seat (sym (m.others f.before.near.node (λ same. eqb-false m.node f.before.near.node is (sym same))) ∙ found)
 
     -- who has said nothing says nothing
-    quiet : near_said f.before ≡ [] → spoken Near (voices m.node m.seat u.near u.far qs) ≡ []
-    quiet nothing = ap (λ e. spoken Near (voices m.node m.seat e u.far qs)) f.near ∙ by_node (m.node == f.before.near.node) refl where
+    quiet : near_said f.before ≡ [] → spoken Near (voices m.node u.near u.far qs) ≡ []
+    quiet nothing = ap (λ e. spoken Near (voices m.node e u.far qs)) f.near ∙ by_node (m.node == f.before.near.node) refl where
       by_view : (here : f.before.near.node ≡ m.node) → (o : Option Transcript) → view_on m.seat.core f.before.near.number ≡ o → sends_on f.before.near.number qs ≡ []
       by_view here (Some v) is = absurd (asked_some v.kind (near_said f.before) ((was.near m.seat (ap (λ n. seat_at w n) here ∙ m.here)).asked v is).1 nothing)
       by_view here None is =
           let n = f.before.near.number in
           (m.story n).said ∙ near_quiet m.seat.core m.new.core m.now m.i m.x n (m.story n) (near_said f.before) (given Near f.before.near refl here) (was.near m.seat (ap (λ n. seat_at w n) here ∙ m.here)) is
 
-      by_node : (c : Bool) → (m.node == f.before.near.node) ≡ c → spoken Near (voices m.node m.seat f.before.near u.far qs) ≡ []
+      by_node : (c : Bool) → (m.node == f.before.near.node) ≡ c → spoken Near (voices m.node f.before.near u.far qs) ≡ []
       by_node true is =
           let here : f.before.near.node ≡ m.node = sym (eqb-true m.node f.before.near.node is) in
-          let own : f.before.near ≡ end_of m.node m.seat f.before.near.number = own_end l s w r place f.before f.stands Near f.before.near refl m.node m.seat m.here here in
-          ap (λ e. spoken Near (voices m.node m.seat e u.far qs)) own ∙ (near_says m.node m.seat u.far f.before.near.number qs ∙ by_view here (view_on m.seat.core f.before.near.number) refl)
-      by_node false is = near_silent m.node m.seat f.before.near u.far qs is
+          let own : f.before.near ≡ end_of m.node f.before.near.number = ap (λ n. end_of n f.before.near.number) here in
+          ap (λ e. spoken Near (voices m.node e u.far qs)) own ∙ (near_says m.node u.far f.before.near.number qs ∙ by_view here (view_on m.seat.core f.before.near.number) refl)
+      by_node false is = near_silent m.node f.before.near u.far qs is
 
     -- a far end that was there
     far_then : (e : StreamEnd) → f.before.far ≡ Some e → (seat : Seat) → seat_at y e.node ≡ Some seat → FarAt seat.core e.number (near_said f.before)
@@ -111,35 +111,35 @@ module _ (l : Grounds) (s : Setting) (w y : WorldState) (r : IsReached s w) (eve
       by_node false is = was.far e at seat (sym (m.others e.node (λ same. eqb-false m.node e.node is (sym same))) ∙ found)
 
     -- one that is opened in this step
-    far_opened : (o : FarOpens m.node m.seat m.i f.before u) → (seat : Seat) → seat_at y m.node ≡ Some seat → FarAt seat.core o.stream (near_said u)
+    far_opened : (o : FarOpens m.node m.i f.before u) → (seat : Seat) → seat_at y m.node ≡ Some seat → FarAt seat.core o.stream (near_said u)
     far_opened o seat found =
-        let none : NoStream w.streams (end_of m.node m.seat o.stream) = m.opened o.stream o.opens in
+        let none : NoStream w.streams (end_of m.node o.stream) = m.opened o.stream o.opens in
         subst (λ (z : Seat). FarAt z.core o.stream (near_said u)) (there_is seat found)
         (far_new m.seat.core m.new.core m.now m.i m.x o.stream (m.story o.stream) (k.unseen m.node m.seat m.here o.stream none) (λ past e. m.recorded o.stream past e none) (near_said u)
         ((m.story o.stream).new (m.opened_given o.stream o.opens)))
 
     far_end : (e : StreamEnd) → u.far ≡ Some e → (seat : Seat) → seat_at y e.node ≡ Some seat → FarAt seat.core e.number (near_said u)
     far_end e at seat found = by_far f.far where
-      by_far : (u.far ≡ f.before.far) ⊎ FarOpens m.node m.seat m.i f.before u → FarAt seat.core e.number (near_said u)
+      by_far : (u.far ≡ f.before.far) ⊎ FarOpens m.node m.i f.before u → FarAt seat.core e.number (near_said u)
       by_far (inl same) =
           subst (FarAt seat.core e.number) (sym said_is)
-          (far_more seat.core e.number (near_said f.before) (spoken Near (voices m.node m.seat u.near u.far qs)) (far_then e (sym same ∙ at) seat found))
+          (far_more seat.core e.number (near_said f.before) (spoken Near (voices m.node u.near u.far qs)) (far_then e (sym same ∙ at) seat found))
       by_far (inr o) =
-          let is : end_of m.node m.seat o.stream ≡ e = some_end (end_of m.node m.seat o.stream) e (sym o.opened ∙ at) in
+          let is : end_of m.node o.stream ≡ e = some_end (end_of m.node o.stream) e (sym o.opened ∙ at) in
           subst (λ (z : StreamEnd). FarAt seat.core z.number (near_said u)) is (far_opened o seat (subst (λ (z : StreamEnd). seat_at y z.node ≡ Some seat) (sym is) found))
 
     old_seen : TalkSeen y u
     old_seen = record {
-      speaks = subst FirstSpeaks (sym said_is) (first_both (near_said f.before) (spoken Near (voices m.node m.seat u.near u.far qs)) was.speaks quiet);
+      speaks = subst FirstSpeaks (sym said_is) (first_both (near_said f.before) (spoken Near (voices m.node u.near u.far qs)) was.speaks quiet);
       near = subst (λ (e : StreamEnd). (seat : Seat) → seat_at y e.node ≡ Some seat → NearAt seat.core e.number (near_said u)) (sym f.near)
           (λ seat found. subst (NearAt seat.core f.before.near.number) (sym said_is)
-          (near_more seat.core f.before.near.number (near_said f.before) (spoken Near (voices m.node m.seat u.near u.far qs)) (near_then seat found)));
+          (near_more seat.core f.before.near.number (near_said f.before) (spoken Near (voices m.node u.near u.far qs)) (near_then seat found)));
       far = far_end;
     }
 
   -- ---- a stream that is dialled
 
-  module _ (place : ℕ) (u : StreamState) (is : slice_get y.streams place ≡ Some u) (f : FromNew w m.node m.seat qs u) where
+  module _ (place : ℕ) (u : StreamState) (is : slice_get y.streams place ≡ Some u) (f : FromNew w m.node qs u) where
     none : view_on m.seat.core f.stream ≡ None
     none = k.unseen m.node m.seat m.here f.stream f.new
 
@@ -169,6 +169,6 @@ module _ (l : Grounds) (s : Setting) (w y : WorldState) (r : IsReached s w) (eve
 
   pub move_seen : TalksSeen y
   move_seen place u is = by_from (m.comes_from place u is) where
-    by_from : FromOld w m.node m.seat m.i qs place u ⊎ FromNew w m.node m.seat qs u → TalkSeen y u
+    by_from : FromOld w m.node m.i qs place u ⊎ FromNew w m.node qs u → TalkSeen y u
     by_from (inl f) = old_seen place u f
     by_from (inr f) = new_seen place u is f

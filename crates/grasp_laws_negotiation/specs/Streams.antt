@@ -16,12 +16,12 @@ abbrev pub StreamsDiffer : Sessions → Type 0
 StreamsDiffer z = (x y : SessionState) → WasMade z x → WasMade z y → x.stream ≡ y.stream → x.number ≡ y.number
 
 -- the session is that of a side of a stream of the network; where it is a negotiation, so is the stream
-pub record HasItsStream (w : WorldState) (node : ℕ) (seat : Seat) (x : SessionState) : Type 0 where
+pub record HasItsStream (w : WorldState) (node : ℕ) (x : SessionState) : Type 0 where
   pub place : ℕ
   pub talk : StreamState
   pub side : Side
   pub stands : slice_get w.streams place ≡ Some talk
-  pub ends : end_at talk side ≡ Some (end_of node seat x.stream)
+  pub ends : end_at talk side ≡ Some (end_of node x.stream)
   pub found : session_of_end w (end_at talk side) ≡ Some x
   pub role : x.view.role ≡ side
   pub request : x.view.kind ≡ Negotiation → IsNegotiation talk
@@ -31,4 +31,4 @@ pub record HasItsStream (w : WorldState) (node : ℕ) (seat : Seat) (x : Session
 pub record SessionsHaveStreams : Type 0 where
   pub differ : (s : Setting) (w : WorldState) → IsReached s w → (node : ℕ) (seat : Seat) → seat_at w node ≡ Some seat → StreamsDiffer seat.core.sessions
   pub each : (s : Setting) (w : WorldState) → IsReached s w → (node : ℕ) (seat : Seat) → seat_at w node ≡ Some seat
-      → (x : SessionState) → WasMade seat.core.sessions x → HasItsStream w node seat x
+      → (x : SessionState) → WasMade seat.core.sessions x → HasItsStream w node x

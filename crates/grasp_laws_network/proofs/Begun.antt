@@ -32,10 +32,6 @@ pub begun_core : (plan : NodePlan) (h : Holding) → (opened_seat plan h).core �
 unfolding answered_seat opened_seat next_call agent_name objective_name after_reply begin expired with_reading with_registrations with_sessions with_discoveries with_floods begin_closing
 begun_core plan h = refl
 
-pub begun_earlier : (plan : NodePlan) (h : Holding) → (opened_seat plan h).earlier ≡ []
-unfolding answered_seat opened_seat
-begun_earlier plan h = refl
-
 module _ (plan : NodePlan) (h : Holding) where
   pub begun_plan : (opened_seat plan h).core.plan ≡ plan
   begun_plan = ap (λ (n : NodeState). n.plan) (begun_core plan h)

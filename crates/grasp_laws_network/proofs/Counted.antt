@@ -105,18 +105,18 @@ changes_none f e ts a = let h : streams_bytes (change_at_end ts e f) ≡ streams
 
 -- ---- what a step makes
 
-pub made_none : (node : ℕ) (seat : Seat) (ts : List StreamState) (q : Queued) → streams_bytes (having_made node seat ts q) ≡ streams_bytes ts
-made_none node seat ts (datagram link to m) = refl
-made_none node seat ts (dial stream to) =
-    let h : streams_bytes (ts ++ fresh_stream (end_of node seat stream) to ∷ []) ≡ streams_bytes ts + streams_bytes (fresh_stream (end_of node seat stream) to ∷ []) =
-    sum_by-append stream_bytes ts (fresh_stream (end_of node seat stream) to ∷ []) in
+pub made_none : (node : ℕ) (ts : List StreamState) (q : Queued) → streams_bytes (having_made node ts q) ≡ streams_bytes ts
+made_none node ts (datagram link to m) = refl
+made_none node ts (dial stream to) =
+    let h : streams_bytes (ts ++ fresh_stream (end_of node stream) to ∷ []) ≡ streams_bytes ts + streams_bytes (fresh_stream (end_of node stream) to ∷ []) =
+    sum_by-append stream_bytes ts (fresh_stream (end_of node stream) to ∷ []) in
     omega arith
-made_none node seat ts (send stream m) = changes_none (with_said m) (end_of node seat stream) ts (said_bytes m)
+made_none node ts (send stream m) = changes_none (with_said m) (end_of node stream) ts (said_bytes m)
 
-pub all_made_none : (node : ℕ) (seat : Seat) (qs : List Queued) (ts : List StreamState) → streams_bytes (streams_made node seat ts qs) ≡ streams_bytes ts
+pub all_made_none : (node : ℕ) (qs : List Queued) (ts : List StreamState) → streams_bytes (streams_made node ts qs) ≡ streams_bytes ts
 unfolding streams_made
-all_made_none node seat [] ts = refl
-all_made_none node seat (q ∷ qs) ts = all_made_none node seat qs (having_made node seat ts q) ∙ made_none node seat ts q
+all_made_none node [] ts = refl
+all_made_none node (q ∷ qs) ts = all_made_none node qs (having_made node ts q) ∙ made_none node ts q
 
 -- ---- a network
 
@@ -151,22 +151,22 @@ sent_counts w e m h =
     let before : w.byte_count ≡ sum_by datagram_bytes w.datagrams + streams_bytes w.streams = h in
     omega arith
 
-pub queued_counts : (s : Setting) (node : ℕ) (seat : Seat) (w : WorldState) (q : Queued) → IsCounted w → IsCounted (having_sent s node seat w q)
-queued_counts s node seat w (datagram link to m) h = posted_counts w m (route_of s (member_of w node) link to) h
-queued_counts s node seat w (dial stream to) h = dialled_counts w (end_of node seat stream) h
-queued_counts s node seat w (send stream m) h = sent_counts w (end_of node seat stream) m h
+pub queued_counts : (s : Setting) (node : ℕ) (w : WorldState) (q : Queued) → IsCounted w → IsCounted (having_sent s node w q)
+queued_counts s node w (datagram link to m) h = posted_counts w m (route_of s (member_of w node) link to) h
+queued_counts s node w (dial stream to) h = dialled_counts w (end_of node stream) h
+queued_counts s node w (send stream m) h = sent_counts w (end_of node stream) m h
 
-pub all_queued_count : (s : Setting) (node : ℕ) (seat : Seat) (qs : List Queued) (w : WorldState) → IsCounted w → IsCounted (fold (having_sent s node seat) w qs)
-all_queued_count s node seat [] w h = h
-all_queued_count s node seat (q ∷ qs) w h = all_queued_count s node seat qs (having_sent s node seat w q) (queued_counts s node seat w q h)
+pub all_queued_count : (s : Setting) (node : ℕ) (qs : List Queued) (w : WorldState) → IsCounted w → IsCounted (fold (having_sent s node) w qs)
+all_queued_count s node [] w h = h
+all_queued_count s node (q ∷ qs) w h = all_queued_count s node qs (having_sent s node w q) (queued_counts s node w q h)
 
-pub closed_counts : (node : ℕ) (seat : Seat) (w : WorldState) (stream : ℕ) → IsCounted w → IsCounted (having_closed node seat w stream)
-closed_counts node seat w stream h =
-    counts_on w (having_closed node seat w stream) (record { count = refl; datagrams = refl; streams = changes_none with_ended (end_of node seat stream) w.streams ended_bytes }) h
+pub closed_counts : (node : ℕ) (w : WorldState) (stream : ℕ) → IsCounted w → IsCounted (having_closed node w stream)
+closed_counts node w stream h =
+    counts_on w (having_closed node w stream) (record { count = refl; datagrams = refl; streams = changes_none with_ended (end_of node stream) w.streams ended_bytes }) h
 
-pub all_closed_count : (node : ℕ) (seat : Seat) (streams : List ℕ) (w : WorldState) → IsCounted w → IsCounted (fold (having_closed node seat) w streams)
-all_closed_count node seat [] w h = h
-all_closed_count node seat (stream ∷ streams) w h = all_closed_count node seat streams (having_closed node seat w stream) (closed_counts node seat w stream h)
+pub all_closed_count : (node : ℕ) (streams : List ℕ) (w : WorldState) → IsCounted w → IsCounted (fold (having_closed node) w streams)
+all_closed_count node [] w h = h
+all_closed_count node (stream ∷ streams) w h = all_closed_count node streams (having_closed node w stream) (closed_counts node w stream h)
 
 -- other nodes send no bytes
 pub seats_count : (w : WorldState) (seats : List Seat) → IsCounted w → IsCounted (record w { seats = seats })
@@ -177,12 +177,12 @@ unfolding handed_over
 drained_by_counts s w node max None h = h
 drained_by_counts s w node max (Some seat) h = from (begin seat.core seat.core.reading) where
   put : NodeState → WorldState
-  put m = with_seat w node (seat_with seat (after_drain m max) seat.agent)
+  put m = with_seat w node (seat_with (after_drain m max) seat.agent)
 
   from : (m : NodeState) → IsCounted (drained_from s w node seat m max)
   from m =
-      all_closed_count node seat (closes m max) (fold (having_sent s node seat) (put m) (take max m.queue))
-      (all_queued_count s node seat (take max m.queue) (put m) (seats_count w (put m).seats h))
+      all_closed_count node (closes m max) (fold (having_sent s node) (put m) (take max m.queue))
+      (all_queued_count s node (take max m.queue) (put m) (seats_count w (put m).seats h))
 
 pub drained_counts : (s : Setting) (w : WorldState) (node max : ℕ) → IsCounted w → IsCounted (drained s w node max)
 unfolding drained
@@ -193,7 +193,7 @@ drained_counts s w node max h = drained_by_counts s w node max (seat_at w node) 
 pub stepped_counts : (w : WorldState) (v : Visit) (core : NodeState) (agent : AgentState) → IsCounted w → IsCounted (stepped w v core agent)
 unfolding stepped
 stepped_counts w v core agent h =
-    counts_on w (stepped w v core agent) (record { count = refl; datagrams = refl; streams = all_made_none v.node v.seat (gained v.seat.core core) w.streams }) h
+    counts_on w (stepped w v core agent) (record { count = refl; datagrams = refl; streams = all_made_none v.node (gained v.seat.core core) w.streams }) h
 
 -- a network with other streams that have as many bytes
 pub talks_count : (w : WorldState) (ts : List StreamState) → streams_bytes ts ≡ streams_bytes w.streams → IsCounted w → IsCounted (record w { streams = ts })
@@ -202,8 +202,8 @@ talks_count w ts same h = counts_on w (record w { streams = ts }) (record { coun
 pub arrived_counts : (w : WorldState) (v : Visit) (number : ℕ) (r : Reply) (o : Option StreamState) → IsCounted w → IsCounted (arrived w v number r o)
 arrived_counts w v number r None h = h
 arrived_counts w v number r (Some t) h =
-    talks_count w (change_at_end w.streams t.near (with_far (end_of v.node v.seat number) (arrival_by r)))
-    (changes_none (with_far (end_of v.node v.seat number) (arrival_by r)) t.near w.streams (far_bytes (end_of v.node v.seat number) (arrival_by r))) h
+    talks_count w (change_at_end w.streams t.near (with_far (end_of v.node number) (arrival_by r)))
+    (changes_none (with_far (end_of v.node number) (arrival_by r)) t.near w.streams (far_bytes (end_of v.node number) (arrival_by r))) h
 
 pub delivered_counts : (w : WorldState) (count : ℕ) (o : Option Reached) → IsCounted w → IsCounted (delivered w count o)
 delivered_counts w count None h = h

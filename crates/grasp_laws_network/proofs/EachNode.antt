@@ -90,8 +90,8 @@ put_each P w x node seat least e p each n other found = by_node (n == node) refl
 
 -- ---- a drain
 
-pub drain_steps : (n : NodeState) (max : ℕ) (x : Coming) → NodeStep n n.reading (input.Drain max) x (reply.Outputs (drained (begin n n.reading) max)) (after_drain (begin n n.reading) max)
-drain_steps n max x = record { is_coming = tt; acts = (refl, refl) }
+pub drain_steps : (n : NodeState) (now max : ℕ) (x : Coming) → NodeStep n now (input.Drain max) x (reply.Outputs (drained (begin n now) max)) (after_drain (begin n now) max)
+drain_steps n now max x = record { is_coming = tt; acts = (refl, refl) }
 
 pub drained_by_each : (P : ℕ → NodeState → Type 0) (s : Setting) (w : WorldState) (node max : ℕ) (o : Option Seat) → StepsKeep P → 1 ≤ node → seat_at w node ≡ o → OfEachNode P w
     → OfEachNode P (drained_at s w node max o)
@@ -99,12 +99,12 @@ drained_by_each P s w node max None keep least here each = each
 drained_by_each P s w node max (Some seat) keep least here each =
     from (begin seat.core seat.core.reading)
     (keep node seat.core (after_drain (begin seat.core seat.core.reading) max) seat.core.reading (input.Drain max) no_choice.coming
-    (reply.Outputs (drained (begin seat.core seat.core.reading) max)) (each node seat here) (drain_steps seat.core max no_choice.coming))
+    (reply.Outputs (drained (begin seat.core seat.core.reading) max)) (each node seat here) (drain_steps seat.core seat.core.reading max no_choice.coming))
   where
     from : (m : NodeState) → P node (after_drain m max) → OfEachNode P (drained_from s w node seat m max)
     from m p =
-        put_each P w (drained_from s w node seat m max) node (seat_with seat (after_drain m max) seat.agent) least
-        (sending_keeps_nodes s (with_seat w node (seat_with seat (after_drain m max) seat.agent)) node seat (take max m.queue) (closes m max)) p each
+        put_each P w (drained_from s w node seat m max) node (seat_with (after_drain m max) seat.agent) least
+        (sending_keeps_nodes s (with_seat w node (seat_with (after_drain m max) seat.agent)) node (take max m.queue) (closes m max)) p each
 
 pub drained_each : (P : ℕ → NodeState → Type 0) (s : Setting) (w : WorldState) (node max : ℕ) → StepsKeep P → 1 ≤ node → OfEachNode P w → OfEachNode P (network.drained s w node max)
 unfolding network.drained
@@ -116,7 +116,7 @@ pub stepped_each : (P : ℕ → NodeState → Type 0) (w x y : WorldState) (v : 
     → P v.node core → OfEachNode P w → OfEachNode P y
 unfolding stepped
 stepped_each P w x y v core agent least e f p each =
-    put_each P w y v.node (seat_with v.seat core agent) least (f ∙ ap (λ seats. slice_set seats (v.node - 1) (seat_with v.seat core agent)) e) p each
+    put_each P w y v.node (seat_with core agent) least (f ∙ ap (λ seats. slice_set seats (v.node - 1) (seat_with core agent)) e) p each
 
 pub visit_each : (P : ℕ → NodeState → Type 0) (s : Setting) (w : WorldState) (e : Event) (v : Visit) (c : Choice) → StepsKeep P → 1 ≤ v.node → P v.node c.after → OfEachNode P w
     → OfEachNode P (after_visit s w e v c)
@@ -147,7 +147,7 @@ behind_each P false s w node keep least each = each
 
 pub one_each : (P : ℕ → NodeState → Type 0) (w x : WorldState) → OneAgent w x → OfEachNode P w → OfEachNode P x
 one_each P w x o each =
-    put_each P w x o.node (seat_with o.seat o.seat.core o.agent) (one_least w x o) (ap (λ (y : WorldState). y.seats) o.after) (each o.node o.seat o.here) each
+    put_each P w x o.node (seat_with o.seat.core o.agent) (one_least w x o) (ap (λ (y : WorldState). y.seats) o.after) (each o.node o.seat o.here) each
 
 -- ---- an event
 
@@ -226,7 +226,7 @@ pub begun_each : (P : ℕ → NodeState → Type 0) (s : Setting) (w : WorldStat
     → P (length w.seats + 1) (opened_seat m.plan (pool_of_image image)).core → OfEachNode P w → OfEachNode P (restarted s w node life image seat m)
 begun_each P s w node life image seat m here new each n other found = by_place (appended put begun n other found) where
   ended : Seat
-  ended = seat_with seat seat.core (retired seat.agent)
+  ended = seat_with seat.core (retired seat.agent)
 
   put : List Seat
   put = slice_set w.seats (life - 1) ended

@@ -62,8 +62,8 @@ module _ (s : Setting) (w : WorldState) where
   drained_by_agents x node max (Some seat) here each = from (begin seat.core seat.core.reading) where
     from : (m : NodeState) → AgentsStay s w (drained_from s x node seat m max)
     from m =
-        put_life (λ life y. AgentStays s w life y.agent) x (drained_from s x node seat m max) node (seat_with seat (after_drain m max) seat.agent) (numbered_within x.seats node seat here).least
-        (sending_keeps_nodes s (with_seat x node (seat_with seat (after_drain m max) seat.agent)) node seat (take max m.queue) (closes m max)) (each node seat here) each
+        put_life (λ life y. AgentStays s w life y.agent) x (drained_from s x node seat m max) node (seat_with (after_drain m max) seat.agent) (numbered_within x.seats node seat here).least
+        (sending_keeps_nodes s (with_seat x node (seat_with (after_drain m max) seat.agent)) node (take max m.queue) (closes m max)) (each node seat here) each
 
   drained_agents : (x : WorldState) (node max : ℕ) → AgentsStay s w x → AgentsStay s w (drained s x node max)
   unfolding drained
@@ -77,7 +77,7 @@ module _ (s : Setting) (w : WorldState) where
       → AgentStays s w v.node a → AgentsStay s w y
   unfolding stepped
   stepped_agents x y v core a least e f p =
-      put_life (λ life z. AgentStays s w life z.agent) w y v.node (seat_with v.seat core a) least (f ∙ ap (λ seats. slice_set seats (v.node - 1) (seat_with v.seat core a)) e) p same_agents
+      put_life (λ life z. AgentStays s w life z.agent) w y v.node (seat_with core a) least (f ∙ ap (λ seats. slice_set seats (v.node - 1) (seat_with core a)) e) p same_agents
 
   visit_agents : (e : Event) (v : Visit) (c : Choice) → visit_of s w e ≡ Some v → IsFit s w e → IsHere w v → AgentsStay s w (after_visit s w e v c)
   unfolding after_clock after_agent after_agent_call after_delivery after_arrival after_piece after_cut noted agent_visit
@@ -114,7 +114,7 @@ module _ (s : Setting) (w : WorldState) where
   telling_agents node what None member here = same_agents
   telling_agents node what (Some seat) member here =
       put_life (λ life z. AgentStays s w life z.agent) w (after_telling w (record { node = present_life w node; what = what }) (Some seat)) (present_life w node)
-      (seat_with seat seat.core (agent.after_event seat.agent what)) (present_least w node) refl (changes node member refl) same_agents
+      (seat_with seat.core (agent.after_event seat.agent what)) (present_least w node) refl (changes node member refl) same_agents
 
   want_agents : (node short longest : ℕ) (peer : Option Locator) → IsNode (length s.members) node → AgentsStay s w (after_told w (want_told (present_life w node) short longest peer))
   want_agents node short longest None member = same_agents

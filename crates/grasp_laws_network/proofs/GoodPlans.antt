@@ -20,9 +20,11 @@ use Rattle.grasp_types.specs.declared.address.Locator.{Locator}
 use Rattle.grasp_types.specs.declared.address.Locator.TheVariants as locator
 use Rattle.grasp_laws_network.proofs.Here.{numbered_within}
 use Rattle.grasp_laws_network.proofs.Opened.{script_nodes_open}
+use Rattle.grasp_model_network.proofs.Facts.{first_reached}
 use Rattle.grasp_model_network.specs.GoodSetting.{IsGoodMember, RootsAreApart, AreDifferent, IsLine, IsNeighbour, IsLinkAlong, IsLinked}
 use Rattle.grasp_laws_network.specs.Laws.{ScriptsAreGood}
 use Rattle.grasp_model_network.specs.Plans.{IsNode, AreApart, IsGoodLink, IsGoodPlan}
+use Rattle.grasp_model_network.specs.Runs.{IsReached, world_of}
 use Rattle.grasp_model_network.specs.Setting.{Member, numbered, numbers_from, is_on, others_on, lines_of, script_number, script_neighbour, script_roots, script_member, script_setting}
 use Rattle.grasp_model_network.specs.declared.plan.RootAt.{RootAt}
 use Rattle.grasp_model_network.specs.declared.plan.WorldPlan.{WorldPlan}
@@ -250,3 +252,7 @@ scripts_are_good p good = record {
   arrivals_odd = λ node k least. odd_arrivals k least;
   arrivals_apart = λ node j k a b e. apart_arrivals j k a b e;
 }
+
+-- the first network of a good plan is reached
+pub plan_reached : (p : WorldPlan) → IsGoodPlan p → IsReached (script_setting p) (world_of p)
+plan_reached p good = first_reached (script_setting p) (scripts_are_good p good)

@@ -133,17 +133,17 @@ pub more_talks : (ts more : List StreamState) → StreamsGrow ts (ts ++ more)
 more_talks [] more = tt
 more_talks (t ∷ ts) more = (same_talk t, more_talks ts more)
 
-pub made_grows : (node : ℕ) (seat : Seat) (ts : List StreamState) (q : Queued) → StreamsGrow ts (having_made node seat ts q)
-made_grows node seat ts (datagram link to m) = same_talks ts
-made_grows node seat ts (dial stream to) = more_talks ts (fresh_stream (end_of node seat stream) to ∷ [])
-made_grows node seat ts (send stream m) = changes_grow ts (end_of node seat stream) (with_said m) (said_adds m)
+pub made_grows : (node : ℕ) (ts : List StreamState) (q : Queued) → StreamsGrow ts (having_made node ts q)
+made_grows node ts (datagram link to m) = same_talks ts
+made_grows node ts (dial stream to) = more_talks ts (fresh_stream (end_of node stream) to ∷ [])
+made_grows node ts (send stream m) = changes_grow ts (end_of node stream) (with_said m) (said_adds m)
 
-pub all_made_grow : (node : ℕ) (seat : Seat) (qs : List Queued) (ts : List StreamState) → StreamsGrow ts (streams_made node seat ts qs)
+pub all_made_grow : (node : ℕ) (qs : List Queued) (ts : List StreamState) → StreamsGrow ts (streams_made node ts qs)
 unfolding streams_made
-all_made_grow node seat [] ts = same_talks ts
-all_made_grow node seat (q ∷ qs) ts =
-    talks_then ts (having_made node seat ts q) (streams_made node seat (having_made node seat ts q) qs) (made_grows node seat ts q)
-    (all_made_grow node seat qs (having_made node seat ts q))
+all_made_grow node [] ts = same_talks ts
+all_made_grow node (q ∷ qs) ts =
+    talks_then ts (having_made node ts q) (streams_made node (having_made node ts q) qs) (made_grows node ts q)
+    (all_made_grow node qs (having_made node ts q))
 
 -- ---- a network
 
@@ -243,42 +243,42 @@ sent_at_grows w e m = record {
   handles = as_long w.handles;
 }
 
-pub sent_grows : (s : Setting) (node : ℕ) (seat : Seat) (w : WorldState) (q : Queued) → WorldGrows w (having_sent s node seat w q)
-sent_grows s node seat w (datagram link to m) = posted_grows w m (route_of s (member_of w node) link to)
-sent_grows s node seat w (dial stream to) = dialled_grows w (end_of node seat stream)
-sent_grows s node seat w (send stream m) = sent_at_grows w (end_of node seat stream) m
+pub sent_grows : (s : Setting) (node : ℕ) (w : WorldState) (q : Queued) → WorldGrows w (having_sent s node w q)
+sent_grows s node w (datagram link to m) = posted_grows w m (route_of s (member_of w node) link to)
+sent_grows s node w (dial stream to) = dialled_grows w (end_of node stream)
+sent_grows s node w (send stream m) = sent_at_grows w (end_of node stream) m
 
-pub all_sent_grow : (s : Setting) (node : ℕ) (seat : Seat) (qs : List Queued) (w : WorldState) → WorldGrows w (fold (having_sent s node seat) w qs)
-all_sent_grow s node seat [] w = same_world w
-all_sent_grow s node seat (q ∷ qs) w =
-    world_then w (having_sent s node seat w q) (fold (having_sent s node seat) (having_sent s node seat w q) qs) (sent_grows s node seat w q)
-    (all_sent_grow s node seat qs (having_sent s node seat w q))
+pub all_sent_grow : (s : Setting) (node : ℕ) (qs : List Queued) (w : WorldState) → WorldGrows w (fold (having_sent s node) w qs)
+all_sent_grow s node [] w = same_world w
+all_sent_grow s node (q ∷ qs) w =
+    world_then w (having_sent s node w q) (fold (having_sent s node) (having_sent s node w q) qs) (sent_grows s node w q)
+    (all_sent_grow s node qs (having_sent s node w q))
 
-pub closed_grows : (node : ℕ) (seat : Seat) (w : WorldState) (stream : ℕ) → WorldGrows w (having_closed node seat w stream)
-closed_grows node seat w stream = talks_grow w (change_at_end w.streams (end_of node seat stream) with_ended) (changes_grow w.streams (end_of node seat stream) with_ended ended_adds)
+pub closed_grows : (node : ℕ) (w : WorldState) (stream : ℕ) → WorldGrows w (having_closed node w stream)
+closed_grows node w stream = talks_grow w (change_at_end w.streams (end_of node stream) with_ended) (changes_grow w.streams (end_of node stream) with_ended ended_adds)
 
-pub all_closed_grow : (node : ℕ) (seat : Seat) (streams : List ℕ) (w : WorldState) → WorldGrows w (fold (having_closed node seat) w streams)
-all_closed_grow node seat [] w = same_world w
-all_closed_grow node seat (stream ∷ streams) w =
-    world_then w (having_closed node seat w stream) (fold (having_closed node seat) (having_closed node seat w stream) streams) (closed_grows node seat w stream)
-    (all_closed_grow node seat streams (having_closed node seat w stream))
+pub all_closed_grow : (node : ℕ) (streams : List ℕ) (w : WorldState) → WorldGrows w (fold (having_closed node) w streams)
+all_closed_grow node [] w = same_world w
+all_closed_grow node (stream ∷ streams) w =
+    world_then w (having_closed node w stream) (fold (having_closed node) (having_closed node w stream) streams) (closed_grows node w stream)
+    (all_closed_grow node streams (having_closed node w stream))
 
-pub handed_grows : (s : Setting) (w : WorldState) (node : ℕ) (seat : Seat) (qs : List Queued) (streams : List ℕ) → WorldGrows w (handed_over s w node seat qs streams)
+pub handed_grows : (s : Setting) (w : WorldState) (node : ℕ) (qs : List Queued) (streams : List ℕ) → WorldGrows w (handed_over s w node qs streams)
 unfolding handed_over
-handed_grows s w node seat qs streams =
-    world_then w (fold (having_sent s node seat) w qs) (fold (having_closed node seat) (fold (having_sent s node seat) w qs) streams)
-    (all_sent_grow s node seat qs w) (all_closed_grow node seat streams (fold (having_sent s node seat) w qs))
+handed_grows s w node qs streams =
+    world_then w (fold (having_sent s node) w qs) (fold (having_closed node) (fold (having_sent s node) w qs) streams)
+    (all_sent_grow s node qs w) (all_closed_grow node streams (fold (having_sent s node) w qs))
 
 pub drained_by_grows : (s : Setting) (w : WorldState) (node max : ℕ) (o : Option Seat) → WorldGrows w (drained_at s w node max o)
 drained_by_grows s w node max None = same_world w
 drained_by_grows s w node max (Some seat) = from (begin seat.core seat.core.reading) where
   put : NodeState → WorldState
-  put m = with_seat w node (seat_with seat (after_drain m max) seat.agent)
+  put m = with_seat w node (seat_with (after_drain m max) seat.agent)
 
   from : (m : NodeState) → WorldGrows w (drained_from s w node seat m max)
   from m =
       world_then w (put m) (drained_from s w node seat m max) (seats_grow w (put m).seats w.offers w.settled)
-      (handed_grows s (put m) node seat (take max m.queue) (closes m max))
+      (handed_grows s (put m) node (take max m.queue) (closes m max))
 
 pub drained_grows : (s : Setting) (w : WorldState) (node max : ℕ) → WorldGrows w (drained s w node max)
 unfolding drained
@@ -290,7 +290,7 @@ pub stepped_grows : (w : WorldState) (v : Visit) (core : NodeState) (agent : Age
 unfolding stepped
 stepped_grows w v core agent = record {
   datagrams = as_long w.datagrams;
-  streams = all_made_grow v.node v.seat (gained v.seat.core core) w.streams;
+  streams = all_made_grow v.node (gained v.seat.core core) w.streams;
   dials = itself w.dials;
   byte_count = itself w.byte_count;
   flood_calls = as_long w.flood_calls;
@@ -330,8 +330,8 @@ answers_grow w answers = record {
 pub arrived_grows : (w : WorldState) (v : Visit) (number : ℕ) (r : Reply) (o : Option StreamState) → WorldGrows w (arrived w v number r o)
 arrived_grows w v number r None = same_world w
 arrived_grows w v number r (Some t) =
-    talks_grow w (change_at_end w.streams t.near (with_far (end_of v.node v.seat number) (arrival_by r)))
-    (changes_grow w.streams t.near (with_far (end_of v.node v.seat number) (arrival_by r)) (far_adds (end_of v.node v.seat number) (arrival_by r)))
+    talks_grow w (change_at_end w.streams t.near (with_far (end_of v.node number) (arrival_by r)))
+    (changes_grow w.streams t.near (with_far (end_of v.node number) (arrival_by r)) (far_adds (end_of v.node number) (arrival_by r)))
 
 pub delivered_grows : (w : WorldState) (count : ℕ) (o : Option Reached) → WorldGrows w (delivered w count o)
 delivered_grows w count None = same_world w
@@ -385,7 +385,7 @@ behind_grows false s w node = same_world w
 -- another agent sends nothing
 pub one_grows : (w x : WorldState) → OneAgent w x → WorldGrows w x
 one_grows w x o =
-    subst (λ (y : WorldState). WorldGrows w y) (sym o.after) (seats_grow w (with_seat w o.node (seat_with o.seat o.seat.core o.agent)).seats o.offers o.settled)
+    subst (λ (y : WorldState). WorldGrows w y) (sym o.after) (seats_grow w (with_seat w o.node (seat_with o.seat.core o.agent)).seats o.offers o.settled)
 
 pub none_grows : (s : Setting) (w : WorldState) (e : Event) → WorldGrows w (after_none s w e)
 none_grows s w e = none_one s w e (λ x. WorldGrows w x) (same_world w) (one_grows w)

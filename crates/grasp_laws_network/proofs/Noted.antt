@@ -54,25 +54,25 @@ posted_notes : (w : WorldState) (m : Message) (route : Option Route) → notes (
 posted_notes w m None = refl
 posted_notes w m (Some route) = refl
 
-sent_notes : (s : Setting) (node : ℕ) (seat : Seat) (w : WorldState) (q : Queued) → notes (having_sent s node seat w q) ≡ notes w
-sent_notes s node seat w (datagram link to m) = posted_notes w m (route_of s (member_of w node) link to)
-sent_notes s node seat w _ = refl
+sent_notes : (s : Setting) (node : ℕ) (w : WorldState) (q : Queued) → notes (having_sent s node w q) ≡ notes w
+sent_notes s node w (datagram link to m) = posted_notes w m (route_of s (member_of w node) link to)
+sent_notes s node w _ = refl
 
-all_sent_notes : (s : Setting) (node : ℕ) (seat : Seat) (qs : List Queued) (w : WorldState) → notes (fold (having_sent s node seat) w qs) ≡ notes w
-all_sent_notes s node seat [] w = refl
-all_sent_notes s node seat (q ∷ qs) w = all_sent_notes s node seat qs (having_sent s node seat w q) ∙ sent_notes s node seat w q
+all_sent_notes : (s : Setting) (node : ℕ) (qs : List Queued) (w : WorldState) → notes (fold (having_sent s node) w qs) ≡ notes w
+all_sent_notes s node [] w = refl
+all_sent_notes s node (q ∷ qs) w = all_sent_notes s node qs (having_sent s node w q) ∙ sent_notes s node w q
 
-all_closed_notes : (node : ℕ) (seat : Seat) (streams : List ℕ) (w : WorldState) → notes (fold (having_closed node seat) w streams) ≡ notes w
-all_closed_notes node seat [] w = refl
-all_closed_notes node seat (stream ∷ streams) w = all_closed_notes node seat streams (having_closed node seat w stream)
+all_closed_notes : (node : ℕ) (streams : List ℕ) (w : WorldState) → notes (fold (having_closed node) w streams) ≡ notes w
+all_closed_notes node [] w = refl
+all_closed_notes node (stream ∷ streams) w = all_closed_notes node streams (having_closed node w stream)
 
-handed_notes : (s : Setting) (w : WorldState) (node : ℕ) (seat : Seat) (queued : List Queued) (streams : List ℕ) → notes (handed_over s w node seat queued streams) ≡ notes w
+handed_notes : (s : Setting) (w : WorldState) (node : ℕ) (queued : List Queued) (streams : List ℕ) → notes (handed_over s w node queued streams) ≡ notes w
 unfolding handed_over
-handed_notes s w node seat queued streams = all_closed_notes node seat streams (fold (having_sent s node seat) w queued) ∙ all_sent_notes s node seat queued w
+handed_notes s w node queued streams = all_closed_notes node streams (fold (having_sent s node) w queued) ∙ all_sent_notes s node queued w
 
 drained_at_notes : (s : Setting) (w : WorldState) (node max : ℕ) (o : Option Seat) → notes (drained_at s w node max o) ≡ notes w
 drained_at_notes s w node max None = refl
-drained_at_notes s w node max (Some seat) = handed_notes s _ node seat _ _
+drained_at_notes s w node max (Some seat) = handed_notes s _ node _ _
 
 drained_notes : (s : Setting) (w : WorldState) (node max : ℕ) → notes (drained s w node max) ≡ notes w
 unfolding drained
@@ -262,17 +262,17 @@ module _ (s : Setting) (w : WorldState) (e : Event) (c : Choice) where
     unfolding searches_in
     searches_grow after (reply.Api answer.Searching) said h =
         one (BeginsSearch s w e c) w.searches after _
-        (record { visit = v; asa = asa; made = made; begun = answered answer.Searching said; node = refl; address = refl; life = refl; session = refl }) h
+        (record { visit = v; asa = asa; made = made; begun = answered answer.Searching said; node = refl; address = refl; session = refl }) h
     searches_grow after r said h = stays (One (BeginsSearch s w e c)) w.searches after (λ more t. subst IsSearch (sym t.1.begun.answers ∙ said) tt) h
 
     handles_grow : (after : List GivenHandle) (r : Reply) → c.reply ≡ r → after ≡ w.handles ++ handles_in v r → Grows (One (GivesHandle s w e c)) w.handles after
     unfolding handles_in
     handles_grow after (reply.Api (answer.Started h)) said is =
         one (GivesHandle s w e c) w.handles after _
-        (record { visit = v; asa = asa; made = made; answer = answer.Started h; given = answered (answer.Started h) said; has = refl; node = refl; life = refl }) is
+        (record { visit = v; asa = asa; made = made; answer = answer.Started h; given = answered (answer.Started h) said; has = refl; node = refl }) is
     handles_grow after (reply.Api (answer.Incoming h from o)) said is =
         one (GivesHandle s w e c) w.handles after _
-        (record { visit = v; asa = asa; made = made; answer = answer.Incoming h from o; given = answered (answer.Incoming h from o) said; has = refl; node = refl; life = refl }) is
+        (record { visit = v; asa = asa; made = made; answer = answer.Incoming h from o; given = answered (answer.Incoming h from o) said; has = refl; node = refl }) is
     handles_grow after r said is =
         stays (One (GivesHandle s w e c)) w.handles after (λ more t. subst (HasHandleIn t.0.handle) (sym t.1.given.answers ∙ said) t.1.has) is
 

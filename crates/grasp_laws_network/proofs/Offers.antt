@@ -90,53 +90,53 @@ posted_offers : (w : WorldState) (m : Message) (route : Option Route) → KeepsO
 posted_offers w m None = offers_still w
 posted_offers w m (Some route) = record { offers = refl; settled = refl }
 
-sent_offers : (s : Setting) (node : ℕ) (seat : Seat) (w : WorldState) (q : Queued) → KeepsOffers w (having_sent s node seat w q)
-sent_offers s node seat w (datagram link to m) = posted_offers w m (route_of s (member_of w node) link to)
-sent_offers s node seat w (dial stream to) = record { offers = refl; settled = refl }
-sent_offers s node seat w (send stream m) = record { offers = refl; settled = refl }
+sent_offers : (s : Setting) (node : ℕ) (w : WorldState) (q : Queued) → KeepsOffers w (having_sent s node w q)
+sent_offers s node w (datagram link to m) = posted_offers w m (route_of s (member_of w node) link to)
+sent_offers s node w (dial stream to) = record { offers = refl; settled = refl }
+sent_offers s node w (send stream m) = record { offers = refl; settled = refl }
 
-all_sent_offers : (s : Setting) (node : ℕ) (seat : Seat) (qs : List Queued) (w : WorldState) → KeepsOffers w (fold (having_sent s node seat) w qs)
-all_sent_offers s node seat [] w = offers_still w
-all_sent_offers s node seat (q ∷ qs) w =
-    offers_then w (having_sent s node seat w q) (fold (having_sent s node seat) (having_sent s node seat w q) qs) (sent_offers s node seat w q)
-    (all_sent_offers s node seat qs (having_sent s node seat w q))
+all_sent_offers : (s : Setting) (node : ℕ) (qs : List Queued) (w : WorldState) → KeepsOffers w (fold (having_sent s node) w qs)
+all_sent_offers s node [] w = offers_still w
+all_sent_offers s node (q ∷ qs) w =
+    offers_then w (having_sent s node w q) (fold (having_sent s node) (having_sent s node w q) qs) (sent_offers s node w q)
+    (all_sent_offers s node qs (having_sent s node w q))
 
-all_closed_offers : (node : ℕ) (seat : Seat) (streams : List ℕ) (w : WorldState) → KeepsOffers w (fold (having_closed node seat) w streams)
-all_closed_offers node seat [] w = offers_still w
-all_closed_offers node seat (stream ∷ streams) w =
-    offers_then w (having_closed node seat w stream) (fold (having_closed node seat) (having_closed node seat w stream) streams)
-    (record { offers = refl; settled = refl }) (all_closed_offers node seat streams (having_closed node seat w stream))
+all_closed_offers : (node : ℕ) (streams : List ℕ) (w : WorldState) → KeepsOffers w (fold (having_closed node) w streams)
+all_closed_offers node [] w = offers_still w
+all_closed_offers node (stream ∷ streams) w =
+    offers_then w (having_closed node w stream) (fold (having_closed node) (having_closed node w stream) streams)
+    (record { offers = refl; settled = refl }) (all_closed_offers node streams (having_closed node w stream))
 
-pub handed_offers : (s : Setting) (w : WorldState) (node : ℕ) (seat : Seat) (qs : List Queued) (streams : List ℕ) → KeepsOffers w (handed_over s w node seat qs streams)
+pub handed_offers : (s : Setting) (w : WorldState) (node : ℕ) (qs : List Queued) (streams : List ℕ) → KeepsOffers w (handed_over s w node qs streams)
 unfolding handed_over
-handed_offers s w node seat qs streams =
-    offers_then w (fold (having_sent s node seat) w qs) (fold (having_closed node seat) (fold (having_sent s node seat) w qs) streams)
-    (all_sent_offers s node seat qs w) (all_closed_offers node seat streams (fold (having_sent s node seat) w qs))
+handed_offers s w node qs streams =
+    offers_then w (fold (having_sent s node) w qs) (fold (having_closed node) (fold (having_sent s node) w qs) streams)
+    (all_sent_offers s node qs w) (all_closed_offers node streams (fold (having_sent s node) w qs))
 
 drained_by_offers : (s : Setting) (w : WorldState) (node max : ℕ) (o : Option Seat) → KeepsOffers w (drained_at s w node max o)
 drained_by_offers s w node max None = offers_still w
 drained_by_offers s w node max (Some seat) = from (begin seat.core seat.core.reading) where
   put : NodeState → WorldState
-  put m = with_seat w node (seat_with seat (after_drain m max) seat.agent)
+  put m = with_seat w node (seat_with (after_drain m max) seat.agent)
 
   from : (m : NodeState) → KeepsOffers w (drained_from s w node seat m max)
   from m =
       offers_then w (put m) (drained_from s w node seat m max) (record { offers = refl; settled = refl })
-      (handed_offers s (put m) node seat (take max m.queue) (closes m max))
+      (handed_offers s (put m) node (take max m.queue) (closes m max))
 
 pub drained_offers : (s : Setting) (w : WorldState) (node max : ℕ) → KeepsOffers w (drained s w node max)
 unfolding drained
 drained_offers s w node max = drained_by_offers s w node max (seat_at w node)
 
-arrived_offers : (w : WorldState) (v : Visit) (number : ℕ) (r : Reply) (o : Option StreamState) → KeepsOffers w (arrived w v number r o)
+pub arrived_offers : (w : WorldState) (v : Visit) (number : ℕ) (r : Reply) (o : Option StreamState) → KeepsOffers w (arrived w v number r o)
 arrived_offers w v number r None = offers_still w
 arrived_offers w v number r (Some t) = record { offers = refl; settled = refl }
 
-delivered_offers : (w : WorldState) (count : ℕ) (o : Option Reached) → KeepsOffers w (delivered w count o)
+pub delivered_offers : (w : WorldState) (count : ℕ) (o : Option Reached) → KeepsOffers w (delivered w count o)
 delivered_offers w count None = offers_still w
 delivered_offers w count (Some x) = record { offers = refl; settled = refl }
 
-told_offers : (w : WorldState) (o : Option Reached) → KeepsOffers w (told w o)
+pub told_offers : (w : WorldState) (o : Option Reached) → KeepsOffers w (told w o)
 told_offers w None = offers_still w
 told_offers w (Some x) = record { offers = refl; settled = refl }
 

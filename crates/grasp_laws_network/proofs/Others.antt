@@ -63,8 +63,8 @@ drained_by s w node max None least = same_seats node w w refl
 drained_by s w node max (Some seat) least = from (begin seat.core seat.core.reading) where
   from : (m : NodeState) → SameBut node w (drained_from s w node seat m max)
   from m =
-      put_same node w (drained_from s w node seat m max) (seat_with seat (after_drain m max) seat.agent) least
-      (sending_keeps_nodes s (with_seat w node (seat_with seat (after_drain m max) seat.agent)) node seat (take max m.queue) (closes m max))
+      put_same node w (drained_from s w node seat m max) (seat_with (after_drain m max) seat.agent) least
+      (sending_keeps_nodes s (with_seat w node (seat_with (after_drain m max) seat.agent)) node (take max m.queue) (closes m max))
 
 pub drained_same : (s : Setting) (w : WorldState) (node max : ℕ) → 1 ≤ node → SameBut node w (drained s w node max)
 unfolding drained
@@ -86,7 +86,7 @@ told_keeps w (Some x) = refl
 
 pub stepped_same : (w x : WorldState) (v : Visit) (core : NodeState) (agent : AgentState) → 1 ≤ v.node → x.seats ≡ w.seats → SameBut v.node w (stepped x v core agent)
 unfolding stepped
-stepped_same w x v core agent least e = put_same v.node w (stepped x v core agent) (seat_with v.seat core agent) least (ap (λ seats. slice_set seats (v.node - 1) (seat_with v.seat core agent)) e)
+stepped_same w x v core agent least e = put_same v.node w (stepped x v core agent) (seat_with core agent) least (ap (λ seats. slice_set seats (v.node - 1) (seat_with core agent)) e)
 
 pub noted_same : (w : WorldState) (v : Visit) (c : Choice) (agent : AgentState) → 1 ≤ v.node → SameBut v.node w (stepped w v c.after agent)
 noted_same w v c agent least = stepped_same w w v c.after agent least refl

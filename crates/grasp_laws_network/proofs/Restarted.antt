@@ -18,6 +18,7 @@ use Rattle.grasp_laws_network.proofs.Lives.{OfEachLife}
 use Rattle.grasp_laws_network.proofs.Offers.{kept_other, kept_listed, kept_own}
 use Rattle.grasp_laws_network.proofs.Others.{put_elsewhere}
 use Rattle.grasp_laws_network.proofs.Staying.{put_here}
+use Rattle.grasp_model_network.proofs.Facts.{number_passes}
 use Rattle.grasp_model_network.specs.Offers.{is_kept}
 use Rattle.grasp_model_network.specs.Openings.{opened_seat}
 use Rattle.grasp_model_network.specs.Restarting.{is_of_life, waits_for, told_if, told_at, restarted, restarted_by, after_restart, MayRestart}
@@ -102,9 +103,6 @@ told_is s node life t = record { same = same; side = by_side } where
 of_life : (life : ℕ) (o : Option StreamEnd) (e : StreamEnd) → o ≡ Some e → e.node ≡ life → is_of_life life o ≡ true
 of_life life o e is own = ap (is_of_life life) is ∙ eq-eqb e.node life own
 
-number_is : (k : ℕ) (o : Option ℕ) → o ≡ Some k → is_number k o ≡ true
-number_is k o is = ap (is_number k) is ∙ eq-eqb k k refl
-
 -- a side to which something is delivered, one that waits and one that lives aren't told closed
 pub reached_open : (a : Arrival) → is_reached a ≡ true → a ≢ told_closed
 reached_open a is e = false≢true (sym (ap is_reached e) ∙ is)
@@ -151,7 +149,7 @@ module _ (s : Setting) (node life : ℕ) (t u : StreamState) (i : IsToldAt s nod
   waiting_told waits to =
       told_so Far
       (or_right (is_of_life life t.far) (waits_for s node t)
-      (and_from (is_waiting t.far_side) (is_number node (member_at s t.to)) waits (number_is node (member_at s t.to) to)))
+      (and_from (is_waiting t.far_side) (is_number node (member_at s t.to)) waits (number_passes node (member_at s t.to) to)))
 
   -- a side that was opened at another life stays as it was
   pub other_kept : (side : Side) (e : StreamEnd) → end_at t side ≡ Some e → e.node ≢ life → is_waiting (side_at t side) ≡ false → side_at u side ≡ side_at t side
@@ -260,7 +258,7 @@ pub data IsRestarted (w : WorldState) (life : ℕ) (left opened : Seat) (n : ℕ
 
 -- the life that ends, as it is left
 abbrev pub retired_seat : Seat → Seat
-retired_seat seat = seat_with seat seat.core (retired seat.agent)
+retired_seat seat = seat_with seat.core (retired seat.agent)
 
 -- the life that begins
 abbrev pub begun_seat : Member → PoolImage → Seat

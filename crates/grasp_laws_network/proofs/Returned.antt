@@ -43,14 +43,14 @@ return_changes w node seat p peer least here = record {
     (
       back_after old.agent p peer (return_reply old.agent p),
       told_here w (record { node = node; what = returned p peer }) seat old here e
-          ∙ ap (λ a. Some (seat_with old old.core a)) (return_alone old.agent p peer (return_reply old.agent p)),
+          ∙ ap (λ a. Some (seat_with old.core a)) (return_alone old.agent p peer (return_reply old.agent p)),
     ),
   );
   rest = refl;
 }
   where
     put : Seat
-    put = seat_with seat seat.core (after_return seat.agent p peer (return_reply seat.agent p))
+    put = seat_with seat.core (after_return seat.agent p peer (return_reply seat.agent p))
 
 pub returns_change_returns : ReturnsChangeReturns
 unfolding after_event

@@ -21,29 +21,29 @@ use Rattle.grasp_model_network.specs.declared.event.Event.TheVariants as event
 
 -- ---- what is sent
 
-posted_lives : (w : WorldState) (m : Message) (route : Option Route) → (posted w m route).lives ≡ w.lives
+pub posted_lives : (w : WorldState) (m : Message) (route : Option Route) → (posted w m route).lives ≡ w.lives
 posted_lives w m None = refl
 posted_lives w m (Some route) = refl
 
-sent_lives : (s : Setting) (node : ℕ) (seat : Seat) (w : WorldState) (q : Queued) → (having_sent s node seat w q).lives ≡ w.lives
-sent_lives s node seat w (datagram link to m) = posted_lives w m (route_of s (member_of w node) link to)
-sent_lives s node seat w _ = refl
+pub sent_lives : (s : Setting) (node : ℕ) (w : WorldState) (q : Queued) → (having_sent s node w q).lives ≡ w.lives
+sent_lives s node w (datagram link to m) = posted_lives w m (route_of s (member_of w node) link to)
+sent_lives s node w _ = refl
 
-all_sent_lives : (s : Setting) (node : ℕ) (seat : Seat) (qs : List Queued) (w : WorldState) → (fold (having_sent s node seat) w qs).lives ≡ w.lives
-all_sent_lives s node seat [] w = refl
-all_sent_lives s node seat (q ∷ qs) w = all_sent_lives s node seat qs (having_sent s node seat w q) ∙ sent_lives s node seat w q
+all_sent_lives : (s : Setting) (node : ℕ) (qs : List Queued) (w : WorldState) → (fold (having_sent s node) w qs).lives ≡ w.lives
+all_sent_lives s node [] w = refl
+all_sent_lives s node (q ∷ qs) w = all_sent_lives s node qs (having_sent s node w q) ∙ sent_lives s node w q
 
-all_closed_lives : (node : ℕ) (seat : Seat) (streams : List ℕ) (w : WorldState) → (fold (having_closed node seat) w streams).lives ≡ w.lives
-all_closed_lives node seat [] w = refl
-all_closed_lives node seat (stream ∷ streams) w = all_closed_lives node seat streams (having_closed node seat w stream)
+all_closed_lives : (node : ℕ) (streams : List ℕ) (w : WorldState) → (fold (having_closed node) w streams).lives ≡ w.lives
+all_closed_lives node [] w = refl
+all_closed_lives node (stream ∷ streams) w = all_closed_lives node streams (having_closed node w stream)
 
-pub handed_lives : (s : Setting) (w : WorldState) (node : ℕ) (seat : Seat) (queued : List Queued) (streams : List ℕ) → (handed_over s w node seat queued streams).lives ≡ w.lives
+pub handed_lives : (s : Setting) (w : WorldState) (node : ℕ) (queued : List Queued) (streams : List ℕ) → (handed_over s w node queued streams).lives ≡ w.lives
 unfolding handed_over
-handed_lives s w node seat queued streams = all_closed_lives node seat streams (fold (having_sent s node seat) w queued) ∙ all_sent_lives s node seat queued w
+handed_lives s w node queued streams = all_closed_lives node streams (fold (having_sent s node) w queued) ∙ all_sent_lives s node queued w
 
 drained_by_lives : (s : Setting) (w : WorldState) (node max : ℕ) (o : Option Seat) → (drained_at s w node max o).lives ≡ w.lives
 drained_by_lives s w node max None = refl
-drained_by_lives s w node max (Some seat) = handed_lives s _ node seat _ _
+drained_by_lives s w node max (Some seat) = handed_lives s _ node _ _
 
 pub drained_lives : (s : Setting) (w : WorldState) (node max : ℕ) → (drained s w node max).lives ≡ w.lives
 unfolding drained

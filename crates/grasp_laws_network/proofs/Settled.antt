@@ -63,8 +63,8 @@ pub record Settling (w : WorldState) (node : ℕ) (p : Prefix) (x : WorldState) 
   pub stands : slice_get w.streams place ≡ Some talk
   pub never : NeverAccepts w talk
   -- that life's agent settles the prefix, and its node stays; each other life is the same
-  pub seats : x.seats ≡ slice_set w.seats (present_life w node - 1) (seat_with seat seat.core (after_settling seat.agent p))
-  pub own : seat_at x (present_life w node) ≡ Some (seat_with seat seat.core (after_settling seat.agent p))
+  pub seats : x.seats ≡ slice_set w.seats (present_life w node - 1) (seat_with seat.core (after_settling seat.agent p))
+  pub own : seat_at x (present_life w node) ≡ Some (seat_with seat.core (after_settling seat.agent p))
   pub others : (n : ℕ) → n ≢ present_life w node → seat_at x n ≡ seat_at w n
   pub count : length x.seats ≡ length w.seats
   -- the offer is no longer listed, and is a settled one
@@ -111,9 +111,9 @@ module _ (w : WorldState) (node : ℕ) (p : Prefix) (d : IsDead w node p) where
     stands = d.stands;
     never = d.never;
     seats = refl;
-    own = put_here w.seats (present_life w node) d.seat (seat_with d.seat d.seat.core (after_settling d.seat.agent p)) d.here;
-    others = λ n apart. put_elsewhere w.seats (present_life w node) n (seat_with d.seat d.seat.core (after_settling d.seat.agent p)) (present_least w node) apart;
-    count = length-set w.seats (present_life w node - 1) (seat_with d.seat d.seat.core (after_settling d.seat.agent p));
+    own = put_here w.seats (present_life w node) d.seat (seat_with d.seat.core (after_settling d.seat.agent p)) d.here;
+    others = λ n apart. put_elsewhere w.seats (present_life w node) n (seat_with d.seat.core (after_settling d.seat.agent p)) (present_least w node) apart;
+    count = length-set w.seats (present_life w node - 1) (seat_with d.seat.core (after_settling d.seat.agent p));
     offers = refl;
     were = λ o h. let f = filtered (is_other d.offer) w.offers o h in (f.0, other_apart d.offer o f.1);
     stay = λ o h apart. filter_has (is_other d.offer) w.offers o h (apart_other d.offer o apart);
@@ -148,6 +148,6 @@ settling_is w node p d = subst (λ x. Settling w node p x) (sym (settles_is w no
 
 -- what holds of each life before, and of the one with the agent that has settled, holds of each after
 pub settle_lives : (P : ℕ → Seat → Type 0) (w : WorldState) (node : ℕ) (p : Prefix) (x : WorldState) (t : Settling w node p x)
-    → P (present_life w node) (seat_with t.seat t.seat.core (after_settling t.seat.agent p)) → OfEachLife P w → OfEachLife P x
+    → P (present_life w node) (seat_with t.seat.core (after_settling t.seat.agent p)) → OfEachLife P w → OfEachLife P x
 settle_lives P w node p x t h each =
-    put_life P w x (present_life w node) (seat_with t.seat t.seat.core (after_settling t.seat.agent p)) (present_least w node) t.seats h each
+    put_life P w x (present_life w node) (seat_with t.seat.core (after_settling t.seat.agent p)) (present_least w node) t.seats h each

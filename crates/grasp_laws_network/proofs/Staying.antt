@@ -37,7 +37,7 @@ use Rattle.grasp_model_network.specs.declared.event.Event.{Event}
 -- ---- as many nodes as before
 
 pub one_same : (w x : WorldState) → OneAgent w x → length x.seats ≡ length w.seats
-one_same w x o = ap (λ (y : WorldState). length y.seats) o.after ∙ length-set w.seats (o.node - 1) (seat_with o.seat o.seat.core o.agent)
+one_same w x o = ap (λ (y : WorldState). length y.seats) o.after ∙ length-set w.seats (o.node - 1) (seat_with o.seat.core o.agent)
 
 pub none_same : (s : Setting) (w : WorldState) (e : Event) → length (after_none s w e).seats ≡ length w.seats
 none_same s w e = none_one s w e (λ x. length x.seats ≡ length w.seats) refl (one_same w)
@@ -78,7 +78,7 @@ one_knows : (w x : WorldState) → KnowsLives w → OneAgent w x → KnowsLives 
 one_knows w x known o = one_same w x o ∙ known ∙ sym (ap length (one_lives w x o))
 
 begun_knows : (s : Setting) (w : WorldState) (node life : ℕ) (image : PoolImage) (seat : Seat) (m : Member) → KnowsLives w → KnowsLives (restarted s w node life image seat m)
-begun_knows s w node life image seat m known = by_lists (seat_with seat seat.core (retired seat.agent)) (opened_seat m.plan (pool_of_image image)) where
+begun_knows s w node life image seat m known = by_lists (seat_with seat.core (retired seat.agent)) (opened_seat m.plan (pool_of_image image)) where
   by_lists : (old new : Seat) → length (slice_set w.seats (life - 1) old ++ new ∷ []) ≡ length (w.lives ++ node ∷ [])
   by_lists old new =
       let a : length (slice_set w.seats (life - 1) old ++ new ∷ []) ≡ length (slice_set w.seats (life - 1) old) + 1 = length-append (slice_set w.seats (life - 1) old) (new ∷ []) in
@@ -116,10 +116,10 @@ put_here seats node seat other e = by_zero (node == 0) refl where
 
 -- the agent of a node that was told something is found there
 pub told_here : (w : WorldState) (t : Telling) (seat old : Seat) → seat_at w t.node ≡ Some seat → seat_at w t.node ≡ Some old
-    → seat_at (after_telling w t (Some seat)) t.node ≡ Some (seat_with old old.core (agent.after_event old.agent t.what))
+    → seat_at (after_telling w t (Some seat)) t.node ≡ Some (seat_with old.core (agent.after_event old.agent t.what))
 told_here w t seat old here e =
-    put_here w.seats t.node seat (seat_with seat seat.core (agent.after_event seat.agent t.what)) here
-    ∙ ap (λ (x : Seat). Some (seat_with x x.core (agent.after_event x.agent t.what))) (same_Some seat old (sym here ∙ e))
+    put_here w.seats t.node seat (seat_with seat.core (agent.after_event seat.agent t.what)) here
+    ∙ ap (λ (x : Seat). Some (seat_with x.core (agent.after_event x.agent t.what))) (same_Some seat old (sym here ∙ e))
 
 abbrev want_after : AgentState → ℕ → ℕ → Locator → Result (Unit {0}) WantFault → Option Want
 want_after a wanted longest peer (Ok done) = Some (new_want wanted longest peer)
@@ -140,13 +140,13 @@ wanted_changes w node seat wanted longest peer least here = record {
   own = λ old e. (
     want_after old.agent wanted longest peer (want_reply old.agent),
     told_here w (record { node = node; what = agent.wanted wanted longest peer }) seat old here e
-        ∙ ap (λ a. Some (seat_with old old.core a)) (want_alone old.agent wanted longest peer (want_reply old.agent)),
+        ∙ ap (λ a. Some (seat_with old.core a)) (want_alone old.agent wanted longest peer (want_reply old.agent)),
   );
   rest = refl;
 }
   where
     put : Seat
-    put = seat_with seat seat.core (after_want seat.agent wanted longest peer (want_reply seat.agent))
+    put = seat_with seat.core (after_want seat.agent wanted longest peer (want_reply seat.agent))
 
 pub wants_change_wants : WantsChangeWants
 unfolding after_event

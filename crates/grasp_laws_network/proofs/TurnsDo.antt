@@ -14,6 +14,7 @@ use Rattle.grasp_laws_network.proofs.Restarted.{Restarting, restarting_is, begun
 use Rattle.grasp_laws_network.proofs.Settled.{Settling, settling_is}
 use Rattle.grasp_laws_network.specs.Lives.{LivesStand}
 use Rattle.grasp_laws_network.specs.TurnsDo.{HasEndIn, WaitsForMember, StreamAfter, RestartDoes, RestartsBeginAnew, SettlingDoes, SettlingsFree}
+use Rattle.grasp_model_network.proofs.Facts.{number_is}
 use Rattle.grasp_model_network.specs.Plans.{IsNode}
 use Rattle.grasp_model_network.specs.Restarting.{is_of_life, waits_for, told_at}
 use Rattle.grasp_model_network.specs.Setting.{Member, Setting, numbered, member_at}
@@ -25,10 +26,6 @@ use Rattle.grasp_model_network.specs.World.{Offered, Seat, WorldState, present_l
 end_of_life : (life : ℕ) (o : Option StreamEnd) → is_of_life life o ≡ true → (e : StreamEnd) × (o ≡ Some e) × (e.node ≡ life)
 end_of_life life None is = absurd (false≢true is)
 end_of_life life (Some e) is = (e, refl, eqb-true e.node life is)
-
-number_is : (k : ℕ) (o : Option ℕ) → is_number k o ≡ true → o ≡ Some k
-number_is k None is = absurd (false≢true is)
-number_is k (Some n) is = ap (λ x. Some x) (eqb-true n k is)
 
 -- one of two tests that make a third true
 either : (a b : Bool) → (a || b) ≡ true → (a ≡ true) ⊎ (b ≡ true)

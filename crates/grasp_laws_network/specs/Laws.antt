@@ -104,8 +104,8 @@ LinksAreFound = (node link place : ℕ) (lines : List (List ℕ)) → line_of no
 
 -- what is sent changes no node
 abbrev pub SendingKeepsNodes : Type 0
-SendingKeepsNodes = (s : Setting) (w : WorldState) (node : ℕ) (seat : Seat) (queued : List Queued) (streams : List ℕ)
-    → (network.handed_over s w node seat queued streams).seats ≡ w.seats
+SendingKeepsNodes = (s : Setting) (w : WorldState) (node : ℕ) (queued : List Queued) (streams : List ℕ)
+    → (network.handed_over s w node queued streams).seats ≡ w.seats
 
 -- each node of a good plan of a script is one that can be opened
 abbrev pub ScriptNodesOpen : Type 0

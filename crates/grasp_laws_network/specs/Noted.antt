@@ -1,6 +1,6 @@
 -- What a network notes at each event: the floods and searches that calls begin, the floods that they read, the handles that they give, and
 -- the discoveries that are answered. It is said of the step's input, its reply and what it queues.
-use Rattle.std.specs.Prelude.{◌≡◌, ℕ, Bool, List, [], ◌∷◌, ◌++◌, length, Option, Some, Contains}
+use Rattle.std.specs.Prelude.{◌≡◌, ℕ, Bool, List, [], ◌∷◌, ◌++◌, Option, Some, Contains}
 use Rattle.grasp_asa.specs.Answers.{flags_registered}
 use Rattle.grasp_model_node.specs.Begin.{begin}
 use Rattle.grasp_model_node.specs.Draws.{next_session}
@@ -62,7 +62,6 @@ pub record BeginsSearch (s : Setting) (w : WorldState) (e : Event) (c : Choice) 
   pub begun : IsAnsweredCall s w e c visit asa made answer.Searching
   pub node : x.node ≡ visit.node
   pub address : x.address ≡ visit.seat.core.plan.address
-  pub life : x.life ≡ length visit.seat.earlier
   pub session : x.session ≡ next_session (begin visit.seat.core visit.now)
 
 -- the answer gives the handle of a session that the agent began, or of one that a peer began
@@ -80,7 +79,6 @@ pub record GivesHandle (s : Setting) (w : WorldState) (e : Event) (c : Choice) (
   pub given : IsAnsweredCall s w e c visit asa made answer
   pub has : HasHandle g.handle answer
   pub node : g.node ≡ visit.node
-  pub life : g.life ≡ length visit.seat.earlier
 
 -- a discovery of this objective is delivered to this member, and its step queues a response that tells locators and is no divert. The node
 -- has the name registered with these flags, or not at all

@@ -18,7 +18,7 @@ pub record OneAgent (w x : WorldState) : Type 0 where
   pub agent : AgentState
   pub offers : List Offered
   pub settled : List Offered
-  pub after : x ≡ record (with_seat w node (seat_with seat seat.core agent)) { offers = offers; settled = settled }
+  pub after : x ≡ record (with_seat w node (seat_with seat.core agent)) { offers = offers; settled = settled }
 
 -- a reply comes of a step of the node, and isn't told
 abbrev pub IsNoReply : AgentEvent → Type 0

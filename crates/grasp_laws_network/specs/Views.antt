@@ -1,5 +1,5 @@
 -- What the two ends of a stream saw: the view of a side is looked up at its node, live or gone (RFC 8990, section 2.5.5).
-use Rattle.std.specs.Prelude.{ℕ, ◌==◌, ◌&&◌, Bool, List, ◌++◌, Option, None, Some, find, flat_map, option_to_list, slice_get, if◌then◌else◌}
+use Rattle.std.specs.Prelude.{ℕ, ◌==◌, ◌&&◌, Bool, List, ◌++◌, Option, None, Some, find, flat_map, option_to_list, if◌then◌else◌}
 use Rattle.std.specs.List.{list_any}
 use Rattle.grasp_model_node.specs.Node.{NodeState}
 use Rattle.grasp_session.specs.Conversation.{Said}
@@ -8,23 +8,18 @@ use Rattle.grasp_session.specs.Sessions.{SessionState, Sessions}
 use Rattle.grasp_session.specs.Talk.{Stage, Absent, Refused, Present}
 use Rattle.grasp_session.specs.Transcript.{Transcript}
 use Rattle.grasp_model_network.specs.Streams.{StreamEnd, StreamState, end_at}
-use Rattle.grasp_model_network.specs.World.{Seat, WorldState, life_of, seat_at}
-
--- a node in one of its lives: the present one, or an earlier one as it was at its end
-abbrev pub core_in : Seat → ℕ → Option NodeState
-core_in seat life = if life == life_of seat then Some seat.core else slice_get seat.earlier life
+use Rattle.grasp_model_network.specs.World.{Seat, WorldState, seat_at}
 
 -- all sessions that a node has made, those that are live first
 abbrev pub all_sessions : Sessions → List SessionState
 all_sessions z = flat_map option_to_list z.places ++ z.gone
 
-abbrev pub session_on : ℕ → Option NodeState → Option SessionState
-session_on stream None = None
-session_on stream (Some n) = find (λ x. x.stream == stream) (all_sessions n.sessions)
+abbrev pub session_on : ℕ → NodeState → Option SessionState
+session_on stream n = find (λ x. x.stream == stream) (all_sessions n.sessions)
 
 abbrev pub session_in : StreamEnd → Option Seat → Option SessionState
 session_in e None = None
-session_in e (Some seat) = session_on e.number (core_in seat e.life)
+session_in e (Some seat) = session_on e.number seat.core
 
 -- the session that was made on the stream of this end
 abbrev pub session_of_end : WorldState → Option StreamEnd → Option SessionState

@@ -29,8 +29,8 @@ use Rattle.grasp_laws_prefixes.specs.Apart.{HeldApart, offer_on}
 module _ (l : Grounds) (s : Setting) (w y : WorldState) (r : IsReached s w) (q : IsReached s y) (a : AgentStep w y) (k : PrefixesStand w) where
   -- ---- the node of the step
 
-  own_seat : (seat : Seat) → seat_at y a.visit.node ≡ Some seat → seat ≡ seat_with a.visit.seat a.core a.agent
-  own_seat seat here = same_Some seat (seat_with a.visit.seat a.core a.agent) (sym here ∙ a.there)
+  own_seat : (seat : Seat) → seat_at y a.visit.node ≡ Some seat → seat ≡ seat_with a.core a.agent
+  own_seat seat here = same_Some seat (seat_with a.core a.agent) (sym here ∙ a.there)
 
   free_now : (n address : ℕ) → n ≡ a.visit.node → Holds y n address → IsFree a.agent.pool address
   free_now n address e h = subst (λ (z : Seat). IsFree z.agent.pool address) (own_seat h.seat (ap (λ m. seat_at y m) (sym e) ∙ h.here)) h.free

@@ -54,19 +54,19 @@ use Rattle.grasp_laws_prefixes.specs.Grounds.{Grounds}
 
 module _ (l : Grounds) (s : Setting) (w y : WorldState) (r : IsReached s w) (q : IsReached s y) (a : AgentStep w y) (k : PrefixesStand w) where
   abbrev pub new : Seat
-  new = seat_with a.visit.seat a.core a.agent
+  new = seat_with a.core a.agent
 
   was_kept : IsKept a.visit.seat.agent
   was_kept = l.kept s w r a.visit.node a.visit.seat a.here
 
   pub is_kept_now : IsKept a.agent
-  is_kept_now = l.kept s y q a.visit.node (seat_with a.visit.seat a.core a.agent) a.there
+  is_kept_now = l.kept s y q a.visit.node (seat_with a.core a.agent) a.there
 
   gives : Gives a.visit.seat.core a.visit.seat.agent
   gives = l.give s w r a.visit.node a.visit.seat a.here
 
   gives_now : Gives a.core a.agent
-  gives_now = l.give s y q a.visit.node (seat_with a.visit.seat a.core a.agent) a.there
+  gives_now = l.give s y q a.visit.node (seat_with a.core a.agent) a.there
 
   -- it was just offered
   abbrev pub IsJust : JustOffered → Type 0
@@ -122,55 +122,55 @@ module _ (l : Grounds) (s : Setting) (w y : WorldState) (r : IsReached s w) (q :
   just_reserved j is = let i = just_in j is in offers_reserved a.agent i.0 j.handle j.prefix is_kept_now i.1
 
   -- the stream of its session is the one for which it is listed
-  newly_is : (j : JustOffered) (side : Side) (x : SessionState) → IsOwnSession a.core.sessions j.handle side x → (place : ℕ) → IsEndAt y.streams place side (end_of a.visit.node new x.stream)
+  newly_is : (j : JustOffered) (side : Side) (x : SessionState) → IsOwnSession a.core.sessions j.handle side x → (place : ℕ) → IsEndAt y.streams place side (end_of a.visit.node x.stream)
       → newly j ≡ offer_on a.visit.node j.prefix place
   newly_is j side x own place at =
       ap with_talk
       (ap (λ (o : Option SessionState). talk_on y.streams a.visit (stream_of o)) own.at
-      ∙ place_found y.streams (end_of a.visit.node new x.stream) place at.talk (l.ready.apart s y q (end_of a.visit.node new x.stream)) at.stands
-      (has_it at.talk (end_of a.visit.node new x.stream) side at.end_is)) where
+      ∙ place_found y.streams (end_of a.visit.node x.stream) place at.talk (l.ready.apart s y q (end_of a.visit.node x.stream)) at.stands
+      (has_it at.talk (end_of a.visit.node x.stream) side at.end_is)) where
         with_talk : Option ℕ → Offered
         with_talk t = record { node = a.visit.node; prefix = j.prefix; talk = t }
 
-  own_now : (side : Side) (h : Handle) (x : SessionState) → IsOwnSession a.core.sessions h side x → IsTalkOf y a.visit.node new x side
+  own_now : (side : Side) (h : Handle) (x : SessionState) → IsOwnSession a.core.sessions h side x → IsTalkOf y a.visit.node x side
   own_now side h x own = own_talk l s y q a.visit.node new a.there h side x own
 
-  end_now : (side : Side) (x : SessionState) → (t : IsTalkOf y a.visit.node new x side) → IsEndAt y.streams t.place side (end_of a.visit.node new x.stream)
+  end_now : (side : Side) (x : SessionState) → (t : IsTalkOf y a.visit.node x side) → IsEndAt y.streams t.place side (end_of a.visit.node x.stream)
   end_now side x t = record { talk = t.talk; stands = t.stands; end_is = t.ends }
 
   -- ---- what is offered in live sessions
 
   -- what was offered in a session was listed for its stream
-  was_on : (side : Side) (h : Handle) (p : Prefix) → OffersIn a.visit.seat.agent side h p → (x : SessionState) → IsOwnSession a.core.sessions h side x → IsOfferedOn w a.visit.node a.visit.seat side x.stream p
+  was_on : (side : Side) (h : Handle) (p : Prefix) → OffersIn a.visit.seat.agent side h p → (x : SessionState) → IsOwnSession a.core.sessions h side x → IsOfferedOn w a.visit.node side x.stream p
   was_on side h p o x own =
       let b = offering_session a.visit.seat.core a.visit.seat.agent side h p gives o in
-      subst (λ n. IsOfferedOn w a.visit.node a.visit.seat side n p) (sym (a.moves.streams h b.0 x b.1.at b.1.owner own.at)) (k.known.offered a.visit.node a.visit.seat a.here a.present side h p o b.0 b.1)
+      subst (λ n. IsOfferedOn w a.visit.node side n p) (sym (a.moves.streams h b.0 x b.1.at b.1.owner own.at)) (k.known.offered a.visit.node a.visit.seat a.here a.present side h p o b.0 b.1)
 
   -- an offer stays listed, where it is reserved or in doubt and its prefix wasn't just offered
-  still_on : (side : Side) (stream : ℕ) (p : Prefix) → IsListed a.agent.pool p → ((j : JustOffered) → IsJust j → ¬ (j.prefix ≡ p)) → IsOfferedOn w a.visit.node a.visit.seat side stream p
-      → IsOfferedOn y a.visit.node new side stream p
+  still_on : (side : Side) (stream : ℕ) (p : Prefix) → IsListed a.agent.pool p → ((j : JustOffered) → IsJust j → ¬ (j.prefix ≡ p)) → IsOfferedOn w a.visit.node side stream p
+      → IsOfferedOn y a.visit.node side stream p
   still_on side stream p pool differ o = record {
     place = o.place;
-    at = end_stays w.streams y.streams a.streams o.place side (end_of a.visit.node a.visit.seat stream) o.at;
+    at = end_stays w.streams y.streams a.streams o.place side (end_of a.visit.node stream) o.at;
     listed = still_listed w y a (offer_on a.visit.node p o.place) o.listed (kept_listed a.visit.node a.agent.pool (offer_on a.visit.node p o.place) pool)
         (λ j is. no_offer_of a.visit.node j.prefix (offer_on a.visit.node p o.place) (λ e f. differ j is (sym f)));
   }
 
   -- what was settled is so
-  pub settled_on : (n : ℕ) (seat now : Seat) (side : Side) (stream : ℕ) (p : Prefix) → end_of n seat stream ≡ end_of n now stream → WasSettledOn w n seat side stream p → WasSettledOn y n now side stream p
-  settled_on n seat now side stream p same o = record {
+  pub settled_on : (n : ℕ) (side : Side) (stream : ℕ) (p : Prefix) → WasSettledOn w n side stream p → WasSettledOn y n side stream p
+  settled_on n side stream p o = record {
     place = o.place;
-    at = subst (λ e. IsEndAt y.streams o.place side e) same (end_stays w.streams y.streams a.streams o.place side (end_of n seat stream) o.at);
+    at = end_stays w.streams y.streams a.streams o.place side (end_of n stream) o.at;
     listed = subst (λ (os : List Offered). Contains os (offer_on n p o.place)) (sym a.settled) o.listed;
   }
 
-  own_offer : (side : Side) (h : Handle) (p : Prefix) → OffersIn a.agent side h p → (x : SessionState) → IsOwnSession a.core.sessions h side x → IsOfferedOn y a.visit.node new side x.stream p
+  own_offer : (side : Side) (h : Handle) (p : Prefix) → OffersIn a.agent side h p → (x : SessionState) → IsOwnSession a.core.sessions h side x → IsOfferedOn y a.visit.node side x.stream p
   own_offer side h p o x own = by_just (just_offered a.visit.seat.agent a.agent) refl where
-    t : IsTalkOf y a.visit.node new x side
+    t : IsTalkOf y a.visit.node x side
     t = own_now side h x own
 
     -- what was just offered of this prefix is this offer
-    new_is : (j : JustOffered) → IsJust j → j.prefix ≡ p → IsOfferedOn y a.visit.node new side x.stream p
+    new_is : (j : JustOffered) → IsJust j → j.prefix ≡ p → IsOfferedOn y a.visit.node side x.stream p
     new_is j is e = record {
       place = t.place;
       at = end_now side x t;
@@ -179,17 +179,17 @@ module _ (l : Grounds) (s : Setting) (w y : WorldState) (r : IsReached s w) (q :
       handle_is : h ≡ j.handle
       handle_is = let i = just_in j is in one_offer a.agent side i.0 h j.handle p is_kept_now o (subst (λ z. OffersIn a.agent i.0 j.handle z) e i.1)
 
-    old_is : ((j : JustOffered) → IsJust j → ¬ (j.prefix ≡ p)) → IsOfferedOn y a.visit.node new side x.stream p
+    old_is : ((j : JustOffered) → IsJust j → ¬ (j.prefix ≡ p)) → IsOfferedOn y a.visit.node side x.stream p
     old_is differ = by_case (a.moves.offered side h p o) where
-      by_case : WasOffered a.visit.seat.core a.visit.seat.agent a.agent side h p → IsOfferedOn y a.visit.node new side x.stream p
+      by_case : WasOffered a.visit.seat.core a.visit.seat.agent a.agent side h p → IsOfferedOn y a.visit.node side x.stream p
       by_case (was_there before) = still_on side x.stream p (inl (offers_reserved a.agent side h p is_kept_now o)) differ (was_on side h p before x own)
       by_case (just_decided far place none is session mine unaccepted free) = absurd (differ (record { prefix = p; handle = h }) (is_just a.visit.seat.agent a.agent place h p none is) refl)
       by_case (just_requested near unsent session) = absurd (differ (record { prefix = p; handle = h }) (is_handed a.visit.seat.agent a.agent h p unsent session (a.alone p unsent)) refl)
 
-    by_just : (o : Option JustOffered) → just_offered a.visit.seat.agent a.agent ≡ o → IsOfferedOn y a.visit.node new side x.stream p
+    by_just : (o : Option JustOffered) → just_offered a.visit.seat.agent a.agent ≡ o → IsOfferedOn y a.visit.node side x.stream p
     by_just None none = old_is (λ j is e. none-some j (sym none ∙ is))
     by_just (Some j) is = by_prefix (cases_prefix j.prefix p) where
-      by_prefix : (j.prefix ≡ p) ⊎ (¬ (j.prefix ≡ p)) → IsOfferedOn y a.visit.node new side x.stream p
+      by_prefix : (j.prefix ≡ p) ⊎ (¬ (j.prefix ≡ p)) → IsOfferedOn y a.visit.node side x.stream p
       by_prefix (inl e) = new_is j is e
       by_prefix (inr differ) = old_is (λ i f e. differ (ap (λ (z : JustOffered). z.prefix) (same_Some j i (sym is ∙ f)) ∙ e))
 
@@ -197,30 +197,30 @@ module _ (l : Grounds) (s : Setting) (w y : WorldState) (r : IsReached s w) (q :
 
   -- an open offer of one is listed for its stream, and in doubt, or was settled
   abbrev GoneKnown : SessionState → Prefix → Type 0
-  GoneKnown x p = (IsOfferedOn y a.visit.node new x.view.role x.stream p × Contains a.agent.pool.doubtful p) ⊎ WasSettledOn y a.visit.node new x.view.role x.stream p
+  GoneKnown x p = (IsOfferedOn y a.visit.node x.view.role x.stream p × Contains a.agent.pool.doubtful p) ⊎ WasSettledOn y a.visit.node x.view.role x.stream p
 
   own_gone : (x : SessionState) (p : Prefix) → Contains a.core.sessions.gone x → x.owner ≡ 1 → IsOpenOffer x.view p → GoneKnown x p
   own_gone x p gone own is_open = by_case (a.moves.doubts x p gone own is_open) where
-    still : (side : Side) → Contains a.agent.pool.doubtful p → IsOfferedOn w a.visit.node a.visit.seat side x.stream p → IsOfferedOn y a.visit.node new side x.stream p
+    still : (side : Side) → Contains a.agent.pool.doubtful p → IsOfferedOn w a.visit.node side x.stream p → IsOfferedOn y a.visit.node side x.stream p
     still side doubt o = still_on side x.stream p (inr doubt) (λ j is e. is_kept_now.pool.once j.prefix (just_reserved j is) (subst (λ z. Contains a.agent.pool.doubtful z) (sym e) doubt)) o
 
-    was_so : (IsOfferedOn w a.visit.node a.visit.seat x.view.role x.stream p × Contains a.visit.seat.agent.pool.doubtful p) ⊎ WasSettledOn w a.visit.node a.visit.seat x.view.role x.stream p → GoneKnown x p
+    was_so : (IsOfferedOn w a.visit.node x.view.role x.stream p × Contains a.visit.seat.agent.pool.doubtful p) ⊎ WasSettledOn w a.visit.node x.view.role x.stream p → GoneKnown x p
     was_so (inl o) = let doubt = a.moves.keeps_doubts p o.1 in inl (still x.view.role doubt o.0, doubt)
-    was_so (inr o) = inr (settled_on a.visit.node a.visit.seat new x.view.role x.stream p refl o)
+    was_so (inr o) = inr (settled_on a.visit.node x.view.role x.stream p o)
 
     -- the session is that side of its stream which it is
-    side_is : (side : Side) (place : ℕ) → IsEndAt y.streams place side (end_of a.visit.node new x.stream) → side ≡ x.view.role
+    side_is : (side : Side) (place : ℕ) → IsEndAt y.streams place side (end_of a.visit.node x.stream) → side ≡ x.view.role
     side_is side place at = one_side t.talk e side t.side (distinct l.ready s y q t.place t.talk t.stands) (ap (λ (u : StreamState). end_at u side) (sym same) ∙ at.end_is) t.ends ∙ sym t.role where
       e : StreamEnd
-      e = end_of a.visit.node (seat_with a.visit.seat a.core a.agent) x.stream
+      e = end_of a.visit.node x.stream
 
-      t : HasItsStream y a.visit.node (seat_with a.visit.seat a.core a.agent) x
-      t = l.streams.each s y q a.visit.node (seat_with a.visit.seat a.core a.agent) a.there x (inr gone)
+      t : HasItsStream y a.visit.node x
+      t = l.streams.each s y q a.visit.node (seat_with a.core a.agent) a.there x (inr gone)
 
       same : at.talk ≡ t.talk
       same =
-          one_talk (end_of a.visit.node new x.stream) y.streams place t.place at.talk t.talk (l.ready.apart s y q (end_of a.visit.node new x.stream)) at.stands (has_it at.talk (end_of a.visit.node new x.stream) side at.end_is)
-          t.stands (has_it t.talk (end_of a.visit.node new x.stream) t.side t.ends)
+          one_talk (end_of a.visit.node x.stream) y.streams place t.place at.talk t.talk (l.ready.apart s y q (end_of a.visit.node x.stream)) at.stands (has_it at.talk (end_of a.visit.node x.stream) side at.end_is)
+          t.stands (has_it t.talk (end_of a.visit.node x.stream) t.side t.ends)
 
     by_case : WasOpen a.visit.seat.core a.visit.seat.agent a.agent x p → GoneKnown x p
     by_case (was_gone before) = was_so (k.known.gone a.visit.node a.visit.seat a.here x p before own is_open)
@@ -230,8 +230,8 @@ module _ (l : Grounds) (s : Setting) (w y : WorldState) (r : IsReached s w) (q :
           let same : b.0 ≡ session = one_session a.visit.seat.core.sessions h b.0 session b.1.at at in
           let now =
           still side doubt
-          (subst (λ n. IsOfferedOn w a.visit.node a.visit.seat side n p) (ap (λ (z : SessionState). z.stream) same ∙ sym stream) (k.known.offered a.visit.node a.visit.seat a.here a.present side h p o b.0 b.1)) in
-          inl (subst (λ i. IsOfferedOn y a.visit.node new i x.stream p) (side_is side now.place now.at) now, doubt)
+          (subst (λ n. IsOfferedOn w a.visit.node side n p) (ap (λ (z : SessionState). z.stream) same ∙ sym stream) (k.known.offered a.visit.node a.visit.seat a.here a.present side h p o b.0 b.1)) in
+          inl (subst (λ i. IsOfferedOn y a.visit.node i x.stream p) (side_is side now.place now.at) now, doubt)
 
   -- ---- what is to be requested
 
@@ -245,10 +245,10 @@ module _ (l : Grounds) (s : Setting) (w y : WorldState) (r : IsReached s w) (q :
 
   -- ---- the other nodes
 
-  pub other_still : (n : ℕ) (seat : Seat) (side : Side) (stream : ℕ) (p : Prefix) → n ≢ a.visit.node → IsOfferedOn w n seat side stream p → IsOfferedOn y n seat side stream p
-  other_still n seat side stream p apart o = record {
+  pub other_still : (n : ℕ) (side : Side) (stream : ℕ) (p : Prefix) → n ≢ a.visit.node → IsOfferedOn w n side stream p → IsOfferedOn y n side stream p
+  other_still n side stream p apart o = record {
     place = o.place;
-    at = end_stays w.streams y.streams a.streams o.place side (end_of n seat stream) o.at;
+    at = end_stays w.streams y.streams a.streams o.place side (end_of n stream) o.at;
     listed = still_listed w y a (offer_on n p o.place) o.listed (kept_other a.visit.node a.agent.pool (offer_on n p o.place) apart) (λ j is. no_offer_of a.visit.node j.prefix (offer_on n p o.place) (λ e f. apart e));
   }
 
@@ -263,7 +263,7 @@ module _ (l : Grounds) (s : Setting) (w y : WorldState) (r : IsReached s w) (q :
     from : (side : Side) (x : SessionState) → IsOwnSession a.core.sessions j.handle side x → IsPlaced y.streams (newly j)
     from side x own =
         let t = own_now side j.handle x own in
-        let view = own_view l s y q a.visit.node new x side t in
+        let view = own_view l s y q a.visit.node x side t in
         let owned : IsOwned x = l.owned s y q a.visit.node new a.there j.handle.place x (handle_state a.core.sessions j.handle x own.at).0 in
         record {
           place = t.place;
@@ -287,7 +287,7 @@ module _ (l : Grounds) (s : Setting) (w y : WorldState) (r : IsReached s w) (q :
     by_case side x own (was_there before) =
         let o = was_on side j.handle j.prefix before x own in
         from_old
-        (subst (λ z. Contains w.offers z) (sym (newly_is j side x own o.place (end_stays w.streams y.streams a.streams o.place side (end_of a.visit.node a.visit.seat x.stream) o.at))) o.listed)
+        (subst (λ z. Contains w.offers z) (sym (newly_is j side x own o.place (end_stays w.streams y.streams a.streams o.place side (end_of a.visit.node x.stream) o.at))) o.listed)
         (offers_reserved a.visit.seat.agent side j.handle j.prefix was_kept before)
     by_case side x own (just_decided far place none act session mine unaccepted free) = from_free free
     by_case side x own (just_requested near unsent session) = from_unsent unsent
@@ -354,31 +354,31 @@ module _ (l : Grounds) (s : Setting) (w y : WorldState) (r : IsReached s w) (q :
       (λ j is. no_offer_of a.visit.node j.prefix (offer_unsent m p) (λ g f. apart g))) n seat found
 
   offered : (n : ℕ) (seat : Seat) → seat_at y n ≡ Some seat → is_present y n ≡ true → (side : Side) (h : Handle) (p : Prefix) → OffersIn seat.agent side h p
-      → (x : SessionState) → IsOwnSession seat.core.sessions h side x → IsOfferedOn y n seat side x.stream p
+      → (x : SessionState) → IsOwnSession seat.core.sessions h side x → IsOfferedOn y n side x.stream p
   offered n seat found present side h p o x own = by_node
-      (λ m z. is_present y m ≡ true → OffersIn z.agent side h p → IsOwnSession z.core.sessions h side x → IsOfferedOn y m z side x.stream p) (λ is there mine. own_offer side h p there x mine)
-      (λ m z apart here is there mine. other_still m z side x.stream p apart (k.known.offered m z here (sym (same_is_present w y m a.lives) ∙ is) side h p there x mine)) n seat found present o own
+      (λ m z. is_present y m ≡ true → OffersIn z.agent side h p → IsOwnSession z.core.sessions h side x → IsOfferedOn y m side x.stream p) (λ is there mine. own_offer side h p there x mine)
+      (λ m z apart here is there mine. other_still m side x.stream p apart (k.known.offered m z here (sym (same_is_present w y m a.lives) ∙ is) side h p there x mine)) n seat found present o own
 
   gone : (n : ℕ) (seat : Seat) → seat_at y n ≡ Some seat → (x : SessionState) (p : Prefix) → Contains seat.core.sessions.gone x → x.owner ≡ 1 → IsOpenOffer x.view p
-      → (IsOfferedOn y n seat x.view.role x.stream p × Contains seat.agent.pool.doubtful p) ⊎ WasSettledOn y n seat x.view.role x.stream p
+      → (IsOfferedOn y n x.view.role x.stream p × Contains seat.agent.pool.doubtful p) ⊎ WasSettledOn y n x.view.role x.stream p
   gone n seat found x p was own is_open = by_node
-      (λ m z. Contains z.core.sessions.gone x → (IsOfferedOn y m z x.view.role x.stream p × Contains z.agent.pool.doubtful p) ⊎ WasSettledOn y m z x.view.role x.stream p) (λ there. own_gone x p there own is_open)
+      (λ m z. Contains z.core.sessions.gone x → (IsOfferedOn y m x.view.role x.stream p × Contains z.agent.pool.doubtful p) ⊎ WasSettledOn y m x.view.role x.stream p) (λ there. own_gone x p there own is_open)
       (λ m z apart here there. by_case m z apart (k.known.gone m z here x p there own is_open)) n seat found was where
-        by_case : (m : ℕ) (z : Seat) → m ≢ a.visit.node → (IsOfferedOn w m z x.view.role x.stream p × Contains z.agent.pool.doubtful p) ⊎ WasSettledOn w m z x.view.role x.stream p
-            → (IsOfferedOn y m z x.view.role x.stream p × Contains z.agent.pool.doubtful p) ⊎ WasSettledOn y m z x.view.role x.stream p
-        by_case m z apart (inl e) = inl (other_still m z x.view.role x.stream p apart e.0, e.1)
-        by_case m z apart (inr e) = inr (settled_on m z z x.view.role x.stream p refl e)
+        by_case : (m : ℕ) (z : Seat) → m ≢ a.visit.node → (IsOfferedOn w m x.view.role x.stream p × Contains z.agent.pool.doubtful p) ⊎ WasSettledOn w m x.view.role x.stream p
+            → (IsOfferedOn y m x.view.role x.stream p × Contains z.agent.pool.doubtful p) ⊎ WasSettledOn y m x.view.role x.stream p
+        by_case m z apart (inl e) = inl (other_still m x.view.role x.stream p apart e.0, e.1)
+        by_case m z apart (inr e) = inr (settled_on m x.view.role x.stream p e)
 
   ended : (n : ℕ) (seat : Seat) → seat_at y n ≡ Some seat → is_present y n ≡ false → (place : ℕ) (x : SessionState) (p : Prefix) → IsAt seat.core.sessions place x → x.owner ≡ 1 → IsOpenOffer x.view p
-      → IsOfferedOn y n seat x.view.role x.stream p ⊎ WasSettledOn y n seat x.view.role x.stream p
+      → IsOfferedOn y n x.view.role x.stream p ⊎ WasSettledOn y n x.view.role x.stream p
   ended n seat found past place x p at own is_open = by_node
-      (λ m z. is_present y m ≡ false → IsAt z.core.sessions place x → IsOfferedOn y m z x.view.role x.stream p ⊎ WasSettledOn y m z x.view.role x.stream p)
+      (λ m z. is_present y m ≡ false → IsAt z.core.sessions place x → IsOfferedOn y m x.view.role x.stream p ⊎ WasSettledOn y m x.view.role x.stream p)
       (λ gone there. absurd (true≢false (sym a.present ∙ (sym (same_is_present w y a.visit.node a.lives) ∙ gone))))
-      (λ m z apart here gone there. by_case m z apart (k.known.ended m z here (sym (same_is_present w y m a.lives) ∙ gone) place x p there own is_open)) n seat found past at where
-        by_case : (m : ℕ) (z : Seat) → m ≢ a.visit.node → IsOfferedOn w m z x.view.role x.stream p ⊎ WasSettledOn w m z x.view.role x.stream p
-            → IsOfferedOn y m z x.view.role x.stream p ⊎ WasSettledOn y m z x.view.role x.stream p
-        by_case m z apart (inl e) = inl (other_still m z x.view.role x.stream p apart e)
-        by_case m z apart (inr e) = inr (settled_on m z z x.view.role x.stream p refl e)
+      (λ m z apart here gone there. by_case m apart (k.known.ended m z here (sym (same_is_present w y m a.lives) ∙ gone) place x p there own is_open)) n seat found past at where
+        by_case : (m : ℕ) → m ≢ a.visit.node → IsOfferedOn w m x.view.role x.stream p ⊎ WasSettledOn w m x.view.role x.stream p
+            → IsOfferedOn y m x.view.role x.stream p ⊎ WasSettledOn y m x.view.role x.stream p
+        by_case m apart (inl e) = inl (other_still m x.view.role x.stream p apart e)
+        by_case m apart (inr e) = inr (settled_on m x.view.role x.stream p e)
 
   settled : (c : IsCall w y a) → IsBegun w y a c → (o : Offered) → Contains y.settled o → StaysUnaccepted y o
   settled c b o h = agent_unaccepted l s w r y a.streams o (k.known.settled o (subst (λ (os : List Offered). Contains os o) a.settled h)) q a c b

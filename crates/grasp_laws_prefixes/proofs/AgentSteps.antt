@@ -52,7 +52,7 @@ pub record AgentStep (w y : WorldState) : Type 0 where
   pub agent : AgentState
   pub here : seat_at w visit.node ≡ Some visit.seat
   pub present : is_present w visit.node ≡ true
-  pub there : seat_at y visit.node ≡ Some (seat_with visit.seat core agent)
+  pub there : seat_at y visit.node ≡ Some (seat_with core agent)
   pub others : (n : ℕ) → n ≢ visit.node → seat_at y n ≡ seat_at w n
   pub offers : y.offers ≡ offers_after y.streams w visit core agent
   pub settled : y.settled ≡ w.settled
@@ -69,10 +69,10 @@ pub record IsOfferOf (w : WorldState) (node : ℕ) (p : Prefix) : Type 0 where
 
 module _ (l : Grounds) (s : Setting) (w : WorldState) (r : IsReached s w) (k : PrefixesStand w) where
   -- an offer that is listed for the stream of a session is for that stream
-  listed_at : (node : ℕ) (seat : Seat) (side : Side) (stream : ℕ) (p : Prefix) (place : ℕ) (t : StreamState) → slice_get w.streams place ≡ Some t → end_at t side ≡ Some (end_of node seat stream)
-      → IsOfferedOn w node seat side stream p → Contains w.offers (offer_on node p place)
-  listed_at node seat side stream p place t stands ends o =
-      let same : o.place ≡ place = same_place l.ready s w r (end_of node seat stream) o.place place o.at.talk t side side o.at.stands o.at.end_is stands ends in
+  listed_at : (node : ℕ) (side : Side) (stream : ℕ) (p : Prefix) (place : ℕ) (t : StreamState) → slice_get w.streams place ≡ Some t → end_at t side ≡ Some (end_of node stream)
+      → IsOfferedOn w node side stream p → Contains w.offers (offer_on node p place)
+  listed_at node side stream p place t stands ends o =
+      let same : o.place ≡ place = same_place l.ready s w r (end_of node stream) o.place place o.at.talk t side side o.at.stands o.at.end_is stands ends in
       subst (λ n. Contains w.offers (offer_on node p n)) same o.listed
 
   -- ---- an offer that is given back
@@ -81,16 +81,16 @@ module _ (l : Grounds) (s : Setting) (w : WorldState) (r : IsReached s w) (k : P
   given_offer node seat here present p g = record {
     place = t.place;
     authority = record {
-      listed = listed_at node seat g.side g.session.stream p t.place t.talk t.stands t.ends (k.known.offered node seat here present g.side g.handle p g.offers g.session g.own);
+      listed = listed_at node g.side g.session.stream p t.place t.talk t.stands t.ends (k.known.offered node seat here present g.side g.handle p g.offers g.session g.own);
       kept = record { seat = seat; here = here; listed = inl (offers_reserved seat.agent g.side g.handle p (l.kept s w r node seat here) g.offers) };
       live = record { talk = t.talk; here = t.stands; open_still = never_accepted (taking_side t.talk) t.talk.said (l.in_order s w r t.place t.talk t.stands t.negotiation) unaccepted };
     };
   } where
-    t : IsTalkOf w node seat g.session g.side
+    t : IsTalkOf w node g.session g.side
     t = own_talk l s w r node seat here g.handle g.side g.session g.own
 
     view : IsView g.side t.talk.said g.session.view
-    view = own_view l s w r node seat g.session g.side t
+    view = own_view l s w r node g.session g.side t
 
     whole : (turn (known g.session.view) ≡ g.session.view.role) ⊎ (ended (known g.session.view) ≡ true) → known g.session.view ≡ strip t.talk.said
     whole (inl mine) = view.whole (inl (mine ∙ view.role))
@@ -114,7 +114,7 @@ module _ (l : Grounds) (s : Setting) (w : WorldState) (r : IsReached s w) (k : P
   -- ---- an offer that is accepted
 
   module _ (node : ℕ) (seat : Seat) (here : seat_at w node ≡ Some seat) (present : is_present w node ≡ true) (after : NodeState) (p : Prefix) (g : IsAcceptance seat.core after seat.agent p) where
-    pub mine : IsTalkOf w node seat g.session g.side
+    pub mine : IsTalkOf w node g.session g.side
     mine = own_talk l s w r node seat here g.handle g.side g.session g.own
 
     pub peer : (u : Transcript) × (view_at w mine.talk (other g.side) ≡ Some u)
@@ -127,7 +127,7 @@ module _ (l : Grounds) (s : Setting) (w : WorldState) (r : IsReached s w) (k : P
     their_view = (l.known s w r mine.place mine.talk mine.stands mine.negotiation).views (other g.side) peer.0 peer.1
 
     my_view : IsView g.side mine.talk.said g.session.view
-    my_view = own_view l s w r node seat g.session g.side mine
+    my_view = own_view l s w r node g.session g.side mine
 
     is_open : IsOpenOffer peer.0 p
     is_open = accepting_open g.side mine.talk.said g.session.view peer.0 p g.own.role their_view accepting g.offer
@@ -141,7 +141,7 @@ module _ (l : Grounds) (s : Setting) (w : WorldState) (r : IsReached s w) (k : P
     theirs = view_of w mine.talk (other g.side) peer.0 peer.1
 
     there : IsSessionAt w theirs.at theirs.session
-    there = session_there l.ready s w r mine.place mine.talk mine.stands (other g.side) theirs.at theirs.ends theirs.session theirs.found
+    there = session_there w theirs.at theirs.session theirs.found
 
     seen : IsView (other g.side) mine.talk.said theirs.session.view
     seen = subst (λ u. IsView (other g.side) mine.talk.said u) (sym theirs.view) their_view
@@ -155,7 +155,7 @@ module _ (l : Grounds) (s : Setting) (w : WorldState) (r : IsReached s w) (k : P
         ap (λ k. other k) (offering_there l s w r theirs.at (other g.side) mine.place mine.talk mine.stands mine.negotiation theirs.session there p seen name open_there) ∙ other_other g.side
 
     -- the offer isn't settled: that is never accepted
-    not_settled : WasSettledOn w theirs.at.node there.seat (other g.side) theirs.session.stream p → ⊥
+    not_settled : WasSettledOn w theirs.at.node (other g.side) theirs.session.stream p → ⊥
     not_settled o = never.over (is_asking w mine.talk (ap (λ (e : StreamEnd). is_present w e.node) near_is ∙ present) seat (ap (λ (e : StreamEnd). seat_at w e.node) near_is ∙ here) (record {
       place = g.handle.place;
       session = g.session;
@@ -164,7 +164,7 @@ module _ (l : Grounds) (s : Setting) (w : WorldState) (r : IsReached s w) (k : P
       going = allowed_goes g.session.view session_act.End g.may;
     })) where
       end_is : StreamEnd
-      end_is = end_of theirs.at.node there.seat theirs.session.stream
+      end_is = end_of theirs.at.node theirs.session.stream
 
       place_is : o.place ≡ mine.place
       place_is = same_place l.ready s w r end_is o.place mine.place o.at.talk mine.talk (other g.side) (other g.side) o.at.stands o.at.end_is mine.stands (theirs.ends ∙ ap (λ e. Some e) there.end_is)
@@ -177,8 +177,8 @@ module _ (l : Grounds) (s : Setting) (w : WorldState) (r : IsReached s w) (k : P
           subst (λ t. NeverAccepts w t)
           (placed_one w.streams (offer_on theirs.at.node p o.place) stays.at mine.place mine.talk (ap (λ n. Some n) place_is) mine.stands) stays.never
 
-      near_is : mine.talk.near ≡ end_of node seat g.session.stream
-      near_is = same_Some mine.talk.near (end_of node seat g.session.stream) (ap (λ i. end_at mine.talk i) (sym never.takes ∙ takes) ∙ mine.ends)
+      near_is : mine.talk.near ≡ end_of node g.session.stream
+      near_is = same_Some mine.talk.near (end_of node g.session.stream) (ap (λ i. end_at mine.talk i) (sym never.takes ∙ takes) ∙ mine.ends)
 
     -- so it is listed at the other end
     offer_there : Contains w.offers (offer_on theirs.at.node p mine.place)
@@ -186,11 +186,11 @@ module _ (l : Grounds) (s : Setting) (w : WorldState) (r : IsReached s w) (k : P
       owner : theirs.session.owner ≡ 1
       owner = gave_owner there.seat theirs.session p (gave_there l s w r theirs.at (other g.side) mine.place mine.talk mine.stands mine.negotiation theirs.session there p seen name open_there)
 
-      from : IsKnownOn w theirs.at.node there.seat theirs.session p → Contains w.offers (offer_on theirs.at.node p mine.place)
+      from : IsKnownOn w theirs.at.node theirs.session p → Contains w.offers (offer_on theirs.at.node p mine.place)
       from (inl o) =
-          listed_at theirs.at.node there.seat (other g.side) theirs.session.stream p mine.place mine.talk mine.stands (theirs.ends ∙ ap (λ e. Some e) there.end_is)
-          (subst (λ i. IsOfferedOn w theirs.at.node there.seat i theirs.session.stream p) seen.role o)
-      from (inr o) = absurd (not_settled (subst (λ i. WasSettledOn w theirs.at.node there.seat i theirs.session.stream p) seen.role o))
+          listed_at theirs.at.node (other g.side) theirs.session.stream p mine.place mine.talk mine.stands (theirs.ends ∙ ap (λ e. Some e) there.end_is)
+          (subst (λ i. IsOfferedOn w theirs.at.node i theirs.session.stream p) seen.role o)
+      from (inr o) = absurd (not_settled (subst (λ i. WasSettledOn w theirs.at.node i theirs.session.stream p) seen.role o))
 
     pub accepted_offer : IsAuthority w (offer_on theirs.at.node p mine.place)
     accepted_offer = record {
@@ -205,7 +205,7 @@ module _ (l : Grounds) (s : Setting) (w : WorldState) (r : IsReached s w) (k : P
     }
 
     -- after it the taking side has accepted
-    pub spent : (y : WorldState) → IsReached s y → AllStay w.streams y.streams → (agent : AgentState) → seat_at y node ≡ Some (seat_with seat after agent) → ¬ IsOpenTalk y.streams mine.place
+    pub spent : (y : WorldState) → IsReached s y → AllStay w.streams y.streams → (agent : AgentState) → seat_at y node ≡ Some (seat_with after agent) → ¬ IsOpenTalk y.streams mine.place
     spent y q stay agent now open_still =
         true≢false (sym said ∙ (ap (λ k. has_accepted k of.talk.said) (sym (takes_now ∙ takes)) ∙ (ap (λ (x : StreamState). is_accepted x) (sym same) ∙ open_still.open_still)))
       where
@@ -223,15 +223,15 @@ module _ (l : Grounds) (s : Setting) (w : WorldState) (r : IsReached s w) (k : P
         role : x.view.role ≡ g.side
         role = ap (λ (v : Transcript). v.role) said_view ∙ g.own.role
 
-        of : IsTalkOf y node (seat_with seat after agent) x g.side
-        of = talk_of l.streams s y q node (seat_with seat after agent) now x (handle_made after.sessions g.handle x g.said.1.0) g.side role kind
+        of : IsTalkOf y node x g.side
+        of = talk_of l.streams s y q node (seat_with after agent) now x (handle_made after.sessions g.handle x g.said.1.0) g.side role kind
 
         u : Stays y.streams mine.place mine.talk
         u = stay mine.place mine.talk mine.stands
 
         place_is : of.place ≡ mine.place
-        place_is = same_place l.ready s y q (end_of node seat g.session.stream) of.place mine.place of.talk u.after g.side g.side of.stands (of.ends ∙ ap (λ n. Some (end_of node seat n)) g.said.1.1)
-            u.stands (u.ends g.side (end_of node seat g.session.stream) mine.ends)
+        place_is = same_place l.ready s y q (end_of node g.session.stream) of.place mine.place of.talk u.after g.side g.side of.stands (of.ends ∙ ap (λ n. Some (end_of node n)) g.said.1.1)
+            u.stands (u.ends g.side (end_of node g.session.stream) mine.ends)
 
         there_now : slice_get y.streams mine.place ≡ Some of.talk
         there_now = ap (λ n. slice_get y.streams n) (sym place_is) ∙ of.stands

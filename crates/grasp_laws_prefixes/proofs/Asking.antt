@@ -1,5 +1,5 @@
 -- Who may still act on a stream: a live session there that goes on. On that of an offer it is one of agent 1, which asked there.
-use Rattle.std.proofs.Common.{◌≡◌, refl, sym, ap, ◌∙◌, ℕ, Bool, true, false, cond, not, ◌&&◌, inl, inr, ◌⊎◌, List, [], ◌∷◌, length, Option, Some, None, is_none, slice_get, slice_index_or}
+use Rattle.std.proofs.Common.{◌≡◌, refl, sym, ap, ◌∙◌, ℕ, Bool, true, false, cond, not, ◌&&◌, inl, inr, ◌⊎◌, List, [], ◌∷◌, Option, Some, None, is_none, slice_get, slice_index_or}
 use Rattle.std.proofs.lemmas.Bool.{true≢false, false≢true, cases_eq, not-true}
 use Rattle.std.proofs.lemmas.Option.{none-some, same_Some}
 use Rattle.grasp_agent.specs.Calls.{objective_name}
@@ -24,17 +24,16 @@ use Rattle.grasp_model_network.specs.Runs.{IsReached}
 use Rattle.grasp_model_network.specs.Setting.{Setting}
 use Rattle.grasp_model_network.specs.Settling.{IsAsking}
 use Rattle.grasp_model_network.specs.Streams.{StreamState, end_at}
-use Rattle.grasp_model_network.specs.World.{Seat, WorldState, seat_at, end_of, is_present, life_of}
+use Rattle.grasp_model_network.specs.World.{Seat, WorldState, seat_at, end_of, is_present}
 use Rattle.grasp_laws_agents.proofs.GoingOn.{IsHearing, hearing}
 use Rattle.grasp_laws_agents.proofs.Known.{none_goes_on}
 use Rattle.grasp_laws_agents.specs.GoingOn.{OwnGoOn}
 use Rattle.grasp_laws_agents.specs.Owning.{IsOwned}
-use Rattle.grasp_laws_delivery.proofs.FromReady.{distinct, first_lives}
+use Rattle.grasp_laws_delivery.proofs.FromReady.{distinct}
 use Rattle.grasp_laws_delivery.proofs.Sides.{one_side}
 use Rattle.grasp_laws_delivery.proofs.Worlds.{reached_in_order}
 use Rattle.grasp_laws_negotiation.specs.Negotiations.{IsNegotiation}
 use Rattle.grasp_laws_negotiation.specs.Streams.{HasItsStream}
-use Rattle.grasp_laws_prefixes.proofs.OwnSessions.{end_with}
 use Rattle.grasp_laws_prefixes.proofs.Places.{same_place}
 use Rattle.grasp_laws_prefixes.proofs.Speech.{same_requested}
 use Rattle.grasp_laws_prefixes.proofs.Standing.{IsGoingOn}
@@ -133,12 +132,10 @@ asking_on w t a = record { place = a.place; session = a.session; at = a.at; on =
 -- on a stream of an offer it is agent 1
 module _ (l : Grounds) (s : Setting) (w : WorldState) (r : IsReached s w) (place : ℕ) (t : StreamState) (stands : slice_get w.streams place ≡ Some t) (negotiation : IsNegotiation t)
     (name : (requested t.said).name ≡ objective_name) (a : IsAsking w t) where
-  near_is : t.near ≡ end_of t.near.node a.seat a.session.stream
-  near_is =
-      ap (λ n. end_with t.near.node n t.near.number) (first_lives l.ready s w r place t stands Near t.near refl ∙ sym (ap (λ (x : List NodeState). length x) (l.ready.lives s w r t.near.node a.seat a.here)))
-      ∙ ap (λ n. end_with t.near.node (life_of a.seat) n) (sym a.stream)
+  near_is : t.near ≡ end_of t.near.node a.session.stream
+  near_is = ap (end_of t.near.node) (sym a.stream)
 
-  has : HasItsStream w t.near.node a.seat a.session
+  has : HasItsStream w t.near.node a.session
   has = l.streams.each s w r t.near.node a.seat a.here a.session (inl (a.place, a.at))
 
   end_is : end_at has.talk has.side ≡ Some t.near

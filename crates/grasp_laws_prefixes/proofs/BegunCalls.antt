@@ -76,23 +76,23 @@ module _ (w y : WorldState) (a : AgentStep w y) (c : IsCall w y a) where
   -- the agent has accepted at this side of the stream just now
   pub record AcceptsNow (side : Side) (u : StreamState) : Type 0 where
     pub stream : ℕ
-    pub ends : end_at u side ≡ Some (end_of a.visit.node a.visit.seat stream)
+    pub ends : end_at u side ≡ Some (end_of a.visit.node stream)
     pub accepts : NowAccepts begun a.core a.visit.seat.agent c.reply side stream
 
 module _ (w y : WorldState) (a : AgentStep w y) (c : IsCall w y a) (b : IsBegun w y a c) where
   pub accepted_now : (side : Side) (u : StreamState) → AcceptedBy y side u → AcceptedBy w side u ⊎ AcceptsNow w y a c side u
   accepted_now side u e = by_node (cases_eq e.node a.visit.node) where
     new : Seat
-    new = seat_with a.visit.seat a.core a.agent
+    new = seat_with a.core a.agent
 
     by_node : (e.node ≡ a.visit.node) ⊎ (e.node ≡ a.visit.node → ⊥) → AcceptedBy w side u ⊎ AcceptsNow w y a c side u
     by_node (inr apart) = inl (record { node = e.node; seat = e.seat; here = sym (a.others e.node apart) ∙ e.here; stream = e.stream; ends = e.ends; accepted = e.accepted })
     by_node (inl same) = by_spoken (b.spoken side e.stream (subst (λ (z : Seat). HasAccepted z.core.sessions side e.stream) seat_is e.accepted)) where
-      seat_is : e.seat ≡ seat_with a.visit.seat a.core a.agent
-      seat_is = same_Some e.seat (seat_with a.visit.seat a.core a.agent) (sym e.here ∙ (ap (λ n. seat_at y n) same ∙ a.there))
+      seat_is : e.seat ≡ seat_with a.core a.agent
+      seat_is = same_Some e.seat (seat_with a.core a.agent) (sym e.here ∙ (ap (λ n. seat_at y n) same ∙ a.there))
 
-      end_is : end_at u side ≡ Some (end_of a.visit.node a.visit.seat e.stream)
-      end_is = e.ends ∙ (ap (λ (z : Seat). Some (end_of e.node z e.stream)) seat_is ∙ ap (λ n. Some (end_of n a.visit.seat e.stream)) same)
+      end_is : end_at u side ≡ Some (end_of a.visit.node e.stream)
+      end_is = e.ends ∙ ap (λ n. Some (end_of n e.stream)) same
 
       by_spoken : HasAccepted (begun w y a c).sessions side e.stream ⊎ NowAccepts (begun w y a c) a.core a.visit.seat.agent c.reply side e.stream → AcceptedBy w side u ⊎ AcceptsNow w y a c side u
       by_spoken (inl before) = inl (record {

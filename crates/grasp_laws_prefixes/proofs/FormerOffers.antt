@@ -70,7 +70,7 @@ retired_offers a side h p kept (in_return near r is on same) = in_return near r 
 -- what the agent of a life that has ended offers in a session is listed for the stream of that session, or was settled
 abbrev FormersAreKnown : WorldState → Type 0
 FormersAreKnown w = (n : ℕ) (seat : Seat) → seat_at w n ≡ Some seat → is_present w n ≡ false → (side : Side) (h : Handle) (p : Prefix) → OffersIn seat.agent side h p
-    → (z : SessionState) → IsOwnSession seat.core.sessions h side z → IsOfferedOn w n seat side z.stream p ⊎ WasSettledOn w n seat side z.stream p
+    → (z : SessionState) → IsOwnSession seat.core.sessions h side z → IsOfferedOn w n side z.stream p ⊎ WasSettledOn w n side z.stream p
 
 module _ (l : Grounds) (s : Setting) where
   first_known : (good : IsGoodSetting s) → FormersAreKnown (first_world s)
@@ -80,35 +80,35 @@ module _ (l : Grounds) (s : Setting) where
   module _ (w : WorldState) (r : IsReached s w) (f : FormersAreKnown w) where
     quiet_known : (y : WorldState) → WorldGoesOn w y → IsReached s y ⊎ NothingHappens w y → FormersAreKnown y
     quiet_known y g said n new there past side h p o z own = from (g.seats n new there) where
-      from : (seat : Seat) × (seat_at w n ≡ Some seat) × SeatGoesOn seat new → IsOfferedOn y n new side z.stream p ⊎ WasSettledOn y n new side z.stream p
+      from : (seat : Seat) × (seat_at w n ≡ Some seat) × SeatGoesOn seat new → IsOfferedOn y n side z.stream p ⊎ WasSettledOn y n side z.stream p
       from b = by_session (offered_before l s w r n b.0 new b.1 b.2 side h p o z own) where
         by_session : OffersIn b.0.agent side h p × ((u : SessionState) × IsOwnSession b.0.core.sessions h side u × (u.stream ≡ z.stream))
-            → IsOfferedOn y n new side z.stream p ⊎ WasSettledOn y n new side z.stream p
+            → IsOfferedOn y n side z.stream p ⊎ WasSettledOn y n side z.stream p
         by_session was = by_case (f n b.0 b.1 (sym (same_is_present w y n g.lives) ∙ past) side h p was.0 was.1.0 was.1.1) where
-          by_case : IsOfferedOn w n b.0 side was.1.0.stream p ⊎ WasSettledOn w n b.0 side was.1.0.stream p → IsOfferedOn y n new side z.stream p ⊎ WasSettledOn y n new side z.stream p
-          by_case (inl i) = inl (among_still l s w r y said g (stand l s w r) w.offers y.offers g.offers n b.0 new b.2 side side refl was.1.0.stream z.stream p was.1.2 i)
-          by_case (inr i) = inr (among_still l s w r y said g (stand l s w r) w.settled y.settled g.settled n b.0 new b.2 side side refl was.1.0.stream z.stream p was.1.2 i)
+          by_case : IsOfferedOn w n side was.1.0.stream p ⊎ WasSettledOn w n side was.1.0.stream p → IsOfferedOn y n side z.stream p ⊎ WasSettledOn y n side z.stream p
+          by_case (inl i) = inl (among_still l s w r y said g (stand l s w r) w.offers y.offers g.offers n side side refl was.1.0.stream z.stream p was.1.2 i)
+          by_case (inr i) = inr (among_still l s w r y said g (stand l s w r) w.settled y.settled g.settled n side side refl was.1.0.stream z.stream p was.1.2 i)
 
     -- an agent that takes a step is of a present life
     agent_known : (y : WorldState) → IsReached s y → AgentStep w y → FormersAreKnown y
     agent_known y q a n seat found past side h p o z own = agents.by_node l s w y r q a (stand l s w r)
-        (λ m v. is_present y m ≡ false → OffersIn v.agent side h p → IsOwnSession v.core.sessions h side z → IsOfferedOn y m v side z.stream p ⊎ WasSettledOn y m v side z.stream p)
+        (λ m v. is_present y m ≡ false → OffersIn v.agent side h p → IsOwnSession v.core.sessions h side z → IsOfferedOn y m side z.stream p ⊎ WasSettledOn y m side z.stream p)
         (λ gone there mine. absurd (true≢false (sym a.present ∙ (sym (same_is_present w y a.visit.node a.lives) ∙ gone))))
-        (λ m v apart here gone there mine. by_case m v apart (f m v here (sym (same_is_present w y m a.lives) ∙ gone) side h p there z mine)) n seat found past o own where
-          by_case : (m : ℕ) (v : Seat) → m ≢ a.visit.node → IsOfferedOn w m v side z.stream p ⊎ WasSettledOn w m v side z.stream p
-              → IsOfferedOn y m v side z.stream p ⊎ WasSettledOn y m v side z.stream p
-          by_case m v apart (inl i) = inl (agents.other_still l s w y r q a (stand l s w r) m v side z.stream p apart i)
-          by_case m v apart (inr i) = inr (agents.settled_on l s w y r q a (stand l s w r) m v v side z.stream p refl i)
+        (λ m v apart here gone there mine. by_case m apart (f m v here (sym (same_is_present w y m a.lives) ∙ gone) side h p there z mine)) n seat found past o own where
+          by_case : (m : ℕ) → m ≢ a.visit.node → IsOfferedOn w m side z.stream p ⊎ WasSettledOn w m side z.stream p
+              → IsOfferedOn y m side z.stream p ⊎ WasSettledOn y m side z.stream p
+          by_case m apart (inl i) = inl (agents.other_still l s w y r q a (stand l s w r) m side z.stream p apart i)
+          by_case m apart (inr i) = inr (agents.settled_on l s w y r q a (stand l s w r) m side z.stream p i)
 
     -- and so is one that takes a return
     taken_known : (x : WorldState) → Takes w x → FormersAreKnown x
     taken_known x t n seat found past side h p o z own = returns.by_node l s w x r t
-        (λ m v. is_present x m ≡ false → OffersIn v.agent side h p → IsOwnSession v.core.sessions h side z → IsOfferedOn x m v side z.stream p ⊎ WasSettledOn x m v side z.stream p)
+        (λ m v. is_present x m ≡ false → OffersIn v.agent side h p → IsOwnSession v.core.sessions h side z → IsOfferedOn x m side z.stream p ⊎ WasSettledOn x m side z.stream p)
         (λ gone there mine. absurd (true≢false (sym t.present ∙ (sym (returns.same_presence l s w x r t t.node) ∙ gone))))
-        (λ m v apart here gone there mine. by_case m v apart (f m v here (sym (returns.same_presence l s w x r t m) ∙ gone) side h p there z mine)) n seat found past o own where
-          by_case : (m : ℕ) (v : Seat) → m ≢ t.node → IsOfferedOn w m v side z.stream p ⊎ WasSettledOn w m v side z.stream p → IsOfferedOn x m v side z.stream p ⊎ WasSettledOn x m v side z.stream p
-          by_case m v apart (inl i) = inl (returns.still_on l s w x r t m v v side z.stream p refl (λ g e. apart g) i)
-          by_case m v apart (inr i) = inr (returns.settled_on l s w x r t m v v side z.stream p refl i)
+        (λ m v apart here gone there mine. by_case m apart (f m v here (sym (returns.same_presence l s w x r t m) ∙ gone) side h p there z mine)) n seat found past o own where
+          by_case : (m : ℕ) → m ≢ t.node → IsOfferedOn w m side z.stream p ⊎ WasSettledOn w m side z.stream p → IsOfferedOn x m side z.stream p ⊎ WasSettledOn x m side z.stream p
+          by_case m apart (inl i) = inl (returns.still_on l s w x r t m side z.stream p (λ g e. apart g) i)
+          by_case m apart (inr i) = inr (returns.settled_on l s w x r t m side z.stream p i)
 
     told_known : (x : WorldState) (e : Event) → Tells s w e x → FormersAreKnown x
     told_known x e t = by_case (told_by l s w r e x t) where
@@ -118,29 +118,29 @@ module _ (l : Grounds) (s : Setting) where
 
     settle_known : (x : WorldState) (node : ℕ) (q : Prefix) → Settling w node q x → FormersAreKnown x
     settle_known x node q t n seat found past side h p o z own = settles.by_life l s w x node q r t
-        (λ m v. is_present x m ≡ false → OffersIn v.agent side h p → IsOwnSession v.core.sessions h side z → IsOfferedOn x m v side z.stream p ⊎ WasSettledOn x m v side z.stream p)
+        (λ m v. is_present x m ≡ false → OffersIn v.agent side h p → IsOwnSession v.core.sessions h side z → IsOfferedOn x m side z.stream p ⊎ WasSettledOn x m side z.stream p)
         (λ gone there mine. absurd (true≢false (sym (settles.life_present l s w x node q r t) ∙ (sym (settles.same_presence l s w x node q r t (present_life w node)) ∙ gone))))
         (λ m v apart here gone there mine.
-        settles.known_on l s w x node q r t (stand l s w r) m v v side z.stream p refl (f m v here (sym (settles.same_presence l s w x node q r t m) ∙ gone) side h p there z mine)) n seat found past o own
+        settles.known_on l s w x node q r t (stand l s w r) m side z.stream p (f m v here (sym (settles.same_presence l s w x node q r t m) ∙ gone) side h p there z mine)) n seat found past o own
 
     restart_known : (x : WorldState) (node : ℕ) (image : PoolImage) → Restarting s w node image x → FormersAreKnown x
     restart_known x node image t n seat found past side h p o z own = restarts.by_life l s w x node image r t
-        (λ m v. is_present x m ≡ false → OffersIn v.agent side h p → IsOwnSession v.core.sessions h side z → IsOfferedOn x m v side z.stream p ⊎ WasSettledOn x m v side z.stream p)
+        (λ m v. is_present x m ≡ false → OffersIn v.agent side h p → IsOwnSession v.core.sessions h side z → IsOfferedOn x m side z.stream p ⊎ WasSettledOn x m side z.stream p)
         (λ gone there mine. inl (left there mine)) (λ gone there mine. absurd (restarts.none_offered l s w x node image r t (stand l s w r) side h p there))
         (λ m v apart here gone there mine.
-        by_case m v apart (f m v here (sym (restarts.same_presence l s w x node image r t (stand l s w r) m v here apart) ∙ gone) side h p there z mine)) n seat found past o own where
+        by_case m apart (f m v here (sym (restarts.same_presence l s w x node image r t (stand l s w r) m v here apart) ∙ gone) side h p there z mine)) n seat found past o own where
           -- what the life that ends offers it has reserved, and so it stays listed
-          left : OffersIn (retired t.seat.agent) side h p → IsOwnSession t.seat.core.sessions h side z → IsOfferedOn x (present_life w node) (restarts.left l s w x node image r t) side z.stream p
+          left : OffersIn (retired t.seat.agent) side h p → IsOwnSession t.seat.core.sessions h side z → IsOfferedOn x (present_life w node) side z.stream p
           left there mine =
               restarts.left_on l s w x node image r t (stand l s w r) side z.stream p
               (inl (offers_reserved (retired t.seat.agent) side h p ((agents_retire t.seat.agent).kept (restarts.was_kept l s w x node image r t)) there))
               ((stand l s w r).known.offered (present_life w node) t.seat t.here (restarts.life_present l s w x node image r t) side h p
               (retired_offers t.seat.agent side h p (restarts.was_kept l s w x node image r t) there) z mine)
 
-          by_case : (m : ℕ) (v : Seat) → m ≢ present_life w node → IsOfferedOn w m v side z.stream p ⊎ WasSettledOn w m v side z.stream p
-              → IsOfferedOn x m v side z.stream p ⊎ WasSettledOn x m v side z.stream p
-          by_case m v apart (inl i) = inl (restarts.listed_on l s w x node image r t (stand l s w r) m v side z.stream p apart i)
-          by_case m v apart (inr i) = inr (restarts.settled_on l s w x node image r t (stand l s w r) m v v side z.stream p refl i)
+          by_case : (m : ℕ) → m ≢ present_life w node → IsOfferedOn w m side z.stream p ⊎ WasSettledOn w m side z.stream p
+              → IsOfferedOn x m side z.stream p ⊎ WasSettledOn x m side z.stream p
+          by_case m apart (inl i) = inl (restarts.listed_on l s w x node image r t (stand l s w r) m side z.stream p apart i)
+          by_case m apart (inr i) = inr (restarts.settled_on l s w x node image r t (stand l s w r) m side z.stream p i)
 
   formers : (w : WorldState) → IsReached s w → FormersAreKnown w
   formers w r = is_kept l s FormersAreKnown (record {
@@ -153,9 +153,9 @@ module _ (l : Grounds) (s : Setting) where
 
 pub former_offers_are_known : Grounds → FormerOffersAreKnown
 former_offers_are_known l s w r life seat here side h p o x own = by_present (is_present w life) refl where
-  by_present : (b : Bool) → is_present w life ≡ b → IsListedFor w life seat side x.stream p ⊎ WasSettledFor w life seat side x.stream p
-  by_present true is = inl (among w.offers w life seat side x.stream p ((stand l s w r).known.offered life seat here is side h p o x own))
+  by_present : (b : Bool) → is_present w life ≡ b → IsListedFor w life side x.stream p ⊎ WasSettledFor w life side x.stream p
+  by_present true is = inl (among w.offers w life side x.stream p ((stand l s w r).known.offered life seat here is side h p o x own))
   by_present false is = by_case (formers l s w r life seat here is side h p o x own) where
-    by_case : IsOfferedOn w life seat side x.stream p ⊎ WasSettledOn w life seat side x.stream p → IsListedFor w life seat side x.stream p ⊎ WasSettledFor w life seat side x.stream p
-    by_case (inl i) = inl (among w.offers w life seat side x.stream p i)
-    by_case (inr i) = inr (among w.settled w life seat side x.stream p i)
+    by_case : IsOfferedOn w life side x.stream p ⊎ WasSettledOn w life side x.stream p → IsListedFor w life side x.stream p ⊎ WasSettledFor w life side x.stream p
+    by_case (inl i) = inl (among w.offers w life side x.stream p i)
+    by_case (inr i) = inr (among w.settled w life side x.stream p i)

@@ -122,14 +122,14 @@ module _ (l : Grounds) (s : Setting) (w y : WorldState) (r : IsReached s w) (g :
     new_giver : GivesIt seat h.side h.session h.prefix → NewGiver
     new_giver (in_doubt doubtful gone offered) = (
       h.session,
-      giver_on w y g.streams node seat new goes.life h.side h.place h.session h.session (same_heard h.session) (inr (goes.sessions.gone h.session gone)) h.giver,
+      giver_on w y g.streams node seat new h.side h.place h.session h.session (same_heard h.session) (inr (goes.sessions.gone h.session gone)) h.giver,
       in_doubt (subst (λ (k : Holding). Contains k.doubtful h.prefix) (sym goes.pool) doubtful) (goes.sessions.gone h.session gone) offered,
     )
     new_giver (by_offer k offers own) = from (own_on seat.core.sessions new.core.sessions k h.side h.session goes.sessions own) where
       from : StillOwn new.core.sessions k h.side h.session → NewGiver
       from t = (
         t.session,
-        giver_on w y g.streams node seat new goes.life h.side h.place h.session t.session t.over (handle_made new.core.sessions k t.session t.own.at) h.giver,
+        giver_on w y g.streams node seat new h.side h.place h.session t.session t.over (handle_made new.core.sessions k t.session t.own.at) h.giver,
         by_offer k (same_offers new.agent seat.agent h.side k h.prefix (sym goes.giving) (sym goes.back) offers) t.own,
       )
 

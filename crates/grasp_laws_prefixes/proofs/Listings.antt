@@ -19,20 +19,20 @@ has_stream : (w : WorldState) (o : Offered) → IsPlaced w.streams o ⊎ (o.talk
 has_stream w o (inl p) = inl (record { place = p.place; talk = p.talk; is = p.is; stands = p.stands })
 has_stream w o (inr none) = inr none
 
-pub among : (os : List Offered) (w : WorldState) (node : ℕ) (seat : Seat) (side : Side) (stream : ℕ) (p : Prefix) → IsOfferIn os w node seat side stream p → IsOfferAmong os w node seat side stream p
-among os w node seat side stream p o = record { place = o.place; talk = o.at.talk; stands = o.at.stands; ends = o.at.end_is; listed = o.listed }
+pub among : (os : List Offered) (w : WorldState) (node : ℕ) (side : Side) (stream : ℕ) (p : Prefix) → IsOfferIn os w node side stream p → IsOfferAmong os w node side stream p
+among os w node side stream p o = record { place = o.place; talk = o.at.talk; stands = o.at.stands; ends = o.at.end_is; listed = o.listed }
 
 never_accepted : (w : WorldState) (o : Offered) → StaysUnaccepted w o → IsNeverAccepted w o
 never_accepted w o n = record { place = n.at.place; talk = n.at.talk; is = n.at.is; stands = n.at.stands; never = n.never }
 
 module _ (l : Grounds) (s : Setting) (w : WorldState) (r : IsReached s w) (k : prefixes.OffersAreKnown w) where
-  known_for : (node : ℕ) (seat : Seat) (x : SessionState) (p : Prefix) → IsKnownOn w node seat x p → IsListedFor w node seat x.view.role x.stream p ⊎ WasSettledFor w node seat x.view.role x.stream p
-  known_for node seat x p (inl o) = inl (among w.offers w node seat x.view.role x.stream p o)
-  known_for node seat x p (inr o) = inr (among w.settled w node seat x.view.role x.stream p o)
+  known_for : (node : ℕ) (x : SessionState) (p : Prefix) → IsKnownOn w node x p → IsListedFor w node x.view.role x.stream p ⊎ WasSettledFor w node x.view.role x.stream p
+  known_for node x p (inl o) = inl (among w.offers w node x.view.role x.stream p o)
+  known_for node x p (inr o) = inr (among w.settled w node x.view.role x.stream p o)
 
   open_offers : (node : ℕ) (seat : Seat) → seat_at w node ≡ Some seat → (x : SessionState) (p : Prefix) → WasMade seat.core.sessions x → x.owner ≡ 1 → IsOpenOffer x.view p
-      → IsListedFor w node seat x.view.role x.stream p ⊎ WasSettledFor w node seat x.view.role x.stream p
-  open_offers node seat here x p made own is_open = known_for node seat x p (open_known l s w r node seat here x p own is_open k made)
+      → IsListedFor w node x.view.role x.stream p ⊎ WasSettledFor w node x.view.role x.stream p
+  open_offers node seat here x p made own is_open = known_for node x p (open_known l s w r node seat here x p own is_open k made)
 
   offers_stand : OffersStand w
   offers_stand = record {
@@ -41,7 +41,7 @@ module _ (l : Grounds) (s : Setting) (w : WorldState) (r : IsReached s w) (k : p
     kept = k.kept;
     carried = k.carried;
     unsent = k.unsent;
-    offered = λ node seat here present side h p o x own. among w.offers w node seat side x.stream p (k.offered node seat here present side h p o x own);
+    offered = λ node seat here present side h p o x own. among w.offers w node side x.stream p (k.offered node seat here present side h p o x own);
     open_offers = open_offers;
     settled = λ o h. never_accepted w o (k.settled o h);
   }

@@ -50,8 +50,8 @@ drain_says s w node max None = same_said w w refl
 drain_says s w node max (Some seat) = from (begin seat.core seat.core.reading) where
   from : (m : NodeState) → NothingSaid w (drained_from s w node seat m max)
   from m place t stands =
-      let put = with_seat w node (seat_with seat (after_drain m max) seat.agent) in
-      let h = (handed_harmless s put node seat (take max m.queue) (closes m max)).forth place t stands in
+      let put = with_seat w node (seat_with (after_drain m max) seat.agent) in
+      let h = (handed_harmless s put node (take max m.queue) (closes m max)).forth place t stands in
       (h.after, (h.stands, h.like.said))
 
 drained_says : (s : Setting) (w : WorldState) (node max : ℕ) → NothingSaid w (network.drained s w node max)
@@ -78,8 +78,8 @@ drain_went s w node max (Some seat) least here sound = from (begin seat.core sea
   from : (m : NodeState) → ((stream : ℕ) → IsGoingOn m.sessions stream → IsGoingOn seat.core.sessions stream)
       → (life : ℕ) (z : Seat) → seat_at (drained_from s w node seat m max) life ≡ Some z → WentOn w life z
   from m goes =
-      one_went w (drained_from s w node seat m max) node seat (seat_with seat (after_drain m max) seat.agent) least here
-      (sending_keeps_nodes s (with_seat w node (seat_with seat (after_drain m max) seat.agent)) node seat (take max m.queue) (closes m max)) goes
+      one_went w (drained_from s w node seat m max) node seat (seat_with (after_drain m max) seat.agent) least here
+      (sending_keeps_nodes s (with_seat w node (seat_with (after_drain m max) seat.agent)) node (take max m.queue) (closes m max)) goes
 
 drained_went : (s : Setting) (w : WorldState) (node max : ℕ) → 1 ≤ node → ((seat : Seat) → seat_at w node ≡ Some seat → IsBoundedNode seat.core)
     → (life : ℕ) (z : Seat) → seat_at (network.drained s w node max) life ≡ Some z → WentOn w life z
@@ -98,7 +98,7 @@ drain_happens s w node max least sound = record {
 pub told_happens : (s : Setting) (w x : WorldState) (e : Event) → Tells s w e x → NothingHappens w x
 told_happens s w x e t = record {
   said = same_said w x (ap (λ (z : WorldState). z.streams) t.after);
-  going = one_went w x t.telling.node t.seat (seat_with t.seat t.seat.core (after_told t.seat.agent t.telling.what)) (one_least w x (one_agent s w e x t)) t.here
+  going = one_went w x t.telling.node t.seat (seat_with t.seat.core (after_told t.seat.agent t.telling.what)) (one_least w x (one_agent s w e x t)) t.here
       (ap (λ (z : WorldState). z.seats) t.after) (λ stream g. g);
   present = λ life seat here is. sym (same_is_present w x life (ap (λ (z : WorldState). z.lives) t.after)) ∙ is;
 }

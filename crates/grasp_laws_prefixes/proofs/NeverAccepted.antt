@@ -124,7 +124,7 @@ module _ (l : Grounds) (s : Setting) (w : WorldState) (r : IsReached s w) (y : W
 
       own_accepts : AcceptsNow w y a c Near now.after → IsAsking w n.at.talk
       own_accepts e =
-          let end_is : now.after.near ≡ end_of a.visit.node a.visit.seat e.stream = same_Some now.after.near (end_of a.visit.node a.visit.seat e.stream) e.ends in
+          let end_is : now.after.near ≡ end_of a.visit.node e.stream = same_Some now.after.near (end_of a.visit.node e.stream) e.ends in
           own_asked (ap (λ (x : StreamEnd). x.node) end_is) (record {
             place = e.accepts.handle.place;
             session = e.accepts.session;
@@ -154,8 +154,8 @@ module _ (l : Grounds) (s : Setting) (w : WorldState) (r : IsReached s w) (y : W
         by_live same (inl goes) = own_asked same (subst (λ k. IsGoingOn begun.sessions k) e.stream goes)
         by_live same (inr next) = absurd (none_next e.session.stream same e.stream next)
 
-        seat_is : now.after.near.node ≡ a.visit.node → e.seat ≡ seat_with a.visit.seat a.core a.agent
-        seat_is same = same_Some e.seat (seat_with a.visit.seat a.core a.agent) (sym e.here ∙ (ap (λ k. seat_at y k) same ∙ a.there))
+        seat_is : now.after.near.node ≡ a.visit.node → e.seat ≡ seat_with a.core a.agent
+        seat_is same = same_Some e.seat (seat_with a.core a.agent) (sym e.here ∙ (ap (λ k. seat_at y k) same ∙ a.there))
 
         by_node : (now.after.near.node ≡ a.visit.node) ⊎ (now.after.near.node ≡ a.visit.node → ⊥) → IsAsking w n.at.talk
         by_node (inr apart) =

@@ -66,19 +66,19 @@ module _ (means : CallsMean) (n after : NodeState) (sound : IsBoundedNode n) (h 
 
 module _ (l : Grounds) (s : Setting) (w y : WorldState) (r : IsReached s w) (q : IsReached s y) (a : AgentStep w y) (c : IsCall w y a) (b : IsBegun w y a c) where
   -- where the agent had no act, nobody has accepted on the stream that the node dials next
-  pub new_open : a.visit.seat.agent.act ≡ None → (place : ℕ) (x : SessionState) → (now : GivesAt y place Near x) → (stream : ℕ) → end_at now.talk Near ≡ Some (end_of a.visit.node a.visit.seat stream)
+  pub new_open : a.visit.seat.agent.act ≡ None → (place : ℕ) (x : SessionState) → (now : GivesAt y place Near x) → (stream : ℕ) → end_at now.talk Near ≡ Some (end_of a.visit.node stream)
       → stream ≡ 2 * (begin a.visit.seat.core c.now).streams.dialled → IsOpenTalk y.streams place
   new_open idle place x now stream ends dialled = by_case (open_or l s y q place Near x now) where
     below : (u d e n : ℕ) → n < 2 * d → n ≡ u → u ≡ 2 * e → e ≡ d → ⊥
     below u d e n lt f g h = omega (arith, lt, f, g, h)
 
     -- such a stream wasn't there before
-    none_was : (e : AcceptedBy w Far now.talk) → (k : HasItsStream w e.node e.seat e.accepted.session) × (k.side ≡ Far) × (k.place ≡ place) → ⊥
+    none_was : (e : AcceptedBy w Far now.talk) → (k : HasItsStream w e.node e.accepted.session) × (k.side ≡ Far) × (k.place ≡ place) → ⊥
     none_was e k =
         let later : Stays y.streams k.0.place k.0.talk = a.streams k.0.place k.0.talk k.0.stands in
         let same : later.after ≡ now.talk = same_Some later.after now.talk (sym later.stands ∙ (ap (λ n. slice_get y.streams n) k.2 ∙ now.stands)) in
-        let near : k.0.talk.near ≡ end_of a.visit.node a.visit.seat stream =
-        same_Some k.0.talk.near (end_of a.visit.node a.visit.seat stream) (sym (later.ends Near k.0.talk.near refl) ∙ (ap (λ (u : StreamState). end_at u Near) same ∙ ends)) in
+        let near : k.0.talk.near ≡ end_of a.visit.node stream =
+        same_Some k.0.talk.near (end_of a.visit.node stream) (sym (later.ends Near k.0.talk.near refl) ∙ (ap (λ (u : StreamState). end_at u Near) same ∙ ends)) in
         below stream a.visit.seat.core.streams.dialled (begin a.visit.seat.core c.now).streams.dialled k.0.talk.near.number
         (every_at (λ (t : StreamState). t.near.node ≡ a.visit.node → t.near.number < 2 * a.visit.seat.core.streams.dialled) w.streams k.0.place k.0.talk (l.ready.next s w r a.visit.node a.visit.seat a.here) k.0.stands
         (ap (λ (u : StreamEnd). u.node) near)) (ap (λ (u : StreamEnd). u.number) near) dialled (beginnings_end a.visit.seat.core c.now).0.dialled

@@ -19,8 +19,8 @@ use Rattle.grasp_laws_prefixes.proofs.Standing.{IsOfferedOn, WasSettledOn, Offer
 use Rattle.grasp_laws_prefixes.specs.Grounds.{Grounds}
 
 -- it is listed for the stream, or was settled
-abbrev pub IsKnownOn : WorldState → ℕ → Seat → SessionState → Prefix → Type 0
-IsKnownOn w node seat x p = IsOfferedOn w node seat x.view.role x.stream p ⊎ WasSettledOn w node seat x.view.role x.stream p
+abbrev pub IsKnownOn : WorldState → ℕ → SessionState → Prefix → Type 0
+IsKnownOn w node x p = IsOfferedOn w node x.view.role x.stream p ⊎ WasSettledOn w node x.view.role x.stream p
 
 module _ (l : Grounds) (s : Setting) (w : WorldState) (r : IsReached s w) (node : ℕ) (seat : Seat) (here : seat_at w node ≡ Some seat) (x : SessionState) (p : Prefix) (own : x.owner ≡ 1) (is_open : IsOpenOffer x.view p) where
   -- what a live session knows is in order
@@ -32,27 +32,27 @@ module _ (l : Grounds) (s : Setting) (w : WorldState) (r : IsReached s w) (node 
     mine : IsOwnSession seat.core.sessions h x.view.role x
     mine = record { at = at_handle seat.core.sessions h x at refl; owner = own; role = refl }
 
-    from : IsTalkOf w node seat x x.view.role → IsLegal (known x.view)
-    from t = trails_legal x.view.role (known x.view) (strip t.talk.said) (l.in_order s w r t.place t.talk t.stands t.negotiation).legal (own_view l s w r node seat x x.view.role t).trails
+    from : IsTalkOf w node x x.view.role → IsLegal (known x.view)
+    from t = trails_legal x.view.role (known x.view) (strip t.talk.said) (l.in_order s w r t.place t.talk t.stands t.negotiation).legal (own_view l s w r node x x.view.role t).trails
 
   -- and it is one in which the agent offers the prefix
   pub live_gave : (place : ℕ) → IsAt seat.core.sessions place x → Gave seat x p
   live_gave place at = own_live l s w r node seat here x p ((l.owned s w r node seat here place x at).own own).1 (live_legal place at) is_open place at own
 
   module _ (k : OffersAreKnown w) where
-    gone_known : Contains seat.core.sessions.gone x → IsKnownOn w node seat x p
+    gone_known : Contains seat.core.sessions.gone x → IsKnownOn w node x p
     gone_known gone = from (k.gone node seat here x p gone own is_open) where
-      from : (IsOfferedOn w node seat x.view.role x.stream p × Contains seat.agent.pool.doubtful p) ⊎ WasSettledOn w node seat x.view.role x.stream p → IsKnownOn w node seat x p
+      from : (IsOfferedOn w node x.view.role x.stream p × Contains seat.agent.pool.doubtful p) ⊎ WasSettledOn w node x.view.role x.stream p → IsKnownOn w node x p
       from (inl listed) = inl listed.0
       from (inr settled) = inr settled
 
-    gave_known : is_present w node ≡ true → Gave seat x p → IsKnownOn w node seat x p
-    gave_known present (by_offer side h o mine) = inl (subst (λ i. IsOfferedOn w node seat i x.stream p) (sym mine.role) (k.offered node seat here present side h p o x mine))
+    gave_known : is_present w node ≡ true → Gave seat x p → IsKnownOn w node x p
+    gave_known present (by_offer side h o mine) = inl (subst (λ i. IsOfferedOn w node i x.stream p) (sym mine.role) (k.offered node seat here present side h p o x mine))
     gave_known present (by_gone gone owner) = gone_known gone
 
-    pub open_known : WasMade seat.core.sessions x → IsKnownOn w node seat x p
+    pub open_known : WasMade seat.core.sessions x → IsKnownOn w node x p
     open_known (inr gone) = gone_known gone
     open_known (inl live) = by_present (is_present w node) refl where
-      by_present : (b : Bool) → is_present w node ≡ b → IsKnownOn w node seat x p
+      by_present : (b : Bool) → is_present w node ≡ b → IsKnownOn w node x p
       by_present true is = gave_known is (live_gave live.0 live.1)
       by_present false is = k.ended node seat here is live.0 x p live.1 own is_open

@@ -78,17 +78,17 @@ module _ (l : Grounds) (s : Setting) (w y : WorldState) (r : IsReached s w) (q :
       from t = subst (IsOwnSession a.visit.seat.core.sessions n.handle side) (sym (t.going n.says.going)) t.own
 
     -- the session at the other side of the stream has this offer open
-    open_there : (place : ℕ) (u : StreamState) → slice_get y.streams place ≡ Some u → end_at u side ≡ Some (end_of a.visit.node a.visit.seat stream) → (x : SessionState) → GivesAt w place (other side) x
+    open_there : (place : ℕ) (u : StreamState) → slice_get y.streams place ≡ Some u → end_at u side ≡ Some (end_of a.visit.node stream) → (x : SessionState) → GivesAt w place (other side) x
         → IsOpenOffer x.view n.prefix
     open_there place u now ends x g = from (own_talk l s w r a.visit.node a.visit.seat a.here n.handle side n.session own) where
       end_is : StreamEnd
-      end_is = end_of a.visit.node a.visit.seat n.session.stream
+      end_is = end_of a.visit.node n.session.stream
 
-      from : IsTalkOf w a.visit.node a.visit.seat n.session side → IsOpenOffer x.view n.prefix
+      from : IsTalkOf w a.visit.node n.session side → IsOpenOffer x.view n.prefix
       from t =
           let later : Stays y.streams t.place t.talk = a.streams t.place t.talk t.stands in
           let at : t.place ≡ place = same_place l.ready s y q end_is t.place place later.after u side side later.stands (later.ends side end_is t.ends) now
-          (ends ∙ ap (λ i. Some (end_of a.visit.node a.visit.seat i)) (sym n.on)) in
+          (ends ∙ ap (λ i. Some (end_of a.visit.node i)) (sym n.on)) in
           let same : t.talk ≡ g.talk = same_Some t.talk g.talk (sym t.stands ∙ (ap (λ i. slice_get w.streams i) at ∙ g.stands)) in
           let saw : view_at w t.talk (other side) ≡ Some x.view = ap (λ (z : StreamState). view_at w z (other side)) same ∙ g.saw in
           let knows : IsKnown w t.talk = l.known s w r t.place t.talk t.stands t.negotiation in
@@ -121,4 +121,4 @@ module _ (l : Grounds) (s : Setting) (w y : WorldState) (r : IsReached s w) (q :
       let at : GivesAt w place (other (other side)) x = subst (λ i. GivesAt w place i x) (sym back) g in
       let is_open = open_there (other side) e.stream e.accepts place u now e.ends x at in
       let same : e.accepts.prefix ≡ p = same_prefix (other side) e.stream e.accepts node seat here place x p at is_open (subst (λ i. GivesIt seat i x p) (sym back) gives) in
-      record { seat = seat_with a.visit.seat a.core a.agent; here = a.there; free = accepted_free (other side) e.stream e.accepts address (subst (λ z. span_of z address) (sym same) span) }
+      record { seat = seat_with a.core a.agent; here = a.there; free = accepted_free (other side) e.stream e.accepts address (subst (λ z. span_of z address) (sym same) span) }

@@ -78,7 +78,7 @@ ends_accepted side (x ∷ c) e = by_test (is_invalid x.message) e (ends_accepted
 
 module _ (l : Grounds) (s : Setting) (w y : WorldState) (r : IsReached s w) (q : IsReached s y) (a : AgentStep w y) (c : IsCall w y a) (b : IsBegun w y a c) where
   abbrev new_seat : Seat
-  new_seat = seat_with a.visit.seat a.core a.agent
+  new_seat = seat_with a.core a.agent
 
   -- the node where the step has begun
   abbrev begun : NodeState
@@ -96,7 +96,7 @@ module _ (l : Grounds) (s : Setting) (w y : WorldState) (r : IsReached s w) (q :
   -- ---- what is offered now
 
   module _ (side : Side) (h : Handle) (p : Prefix) (offers : OffersIn a.agent side h p) (x : SessionState) (own : IsOwnSession a.core.sessions h side x) where
-    offered : IsOfferedOn y a.visit.node new_seat side x.stream p
+    offered : IsOfferedOn y a.visit.node side x.stream p
     offered = now_stands.known.offered a.visit.node new_seat a.there (same_is_present w y a.visit.node a.lives ∙ a.present) side h p offers x own
 
     offer_giver : IsGiver y a.visit.node new_seat side offered.place x
@@ -141,7 +141,7 @@ module _ (l : Grounds) (s : Setting) (w y : WorldState) (r : IsReached s w) (q :
 
     decided_given : (address : ℕ) → span_of p address → EntryStands a.core.sessions a.agent place entry → IsKeptIn y address
     decided_given address span e = offer_kept Far h p offers_it e.session e.own address span is_open where
-      there : IsOfferedOn y a.visit.node new_seat Far e.session.stream p
+      there : IsOfferedOn y a.visit.node Far e.session.stream p
       there = offered Far h p offers_it e.session e.own
 
       deciding : IsDeciding e.session.view
@@ -162,7 +162,7 @@ module _ (l : Grounds) (s : Setting) (w y : WorldState) (r : IsReached s w) (q :
   module _ (h : Handle) (p : Prefix) (next : IsReturning a.visit.seat.agent) (told : started_in (answer_in c.reply) ≡ Some h) (offers : OffersIn a.agent Near h p) where
     requested_given : (address : ℕ) → span_of p address → (x : SessionState) × IsOwnSession a.core.sessions h Near x → IsKeptIn y address
     requested_given address span x = offer_kept Near h p offers x.0 x.1 address span is_open where
-      there : IsOfferedOn y a.visit.node new_seat Near x.0.stream p
+      there : IsOfferedOn y a.visit.node Near x.0.stream p
       there = offered Near h p offers x.0 x.1
 
       is_open : GivesAt y there.place Near x.0 → IsOpenTalk y.streams there.place
@@ -222,7 +222,7 @@ module _ (l : Grounds) (s : Setting) (w y : WorldState) (r : IsReached s w) (q :
     -- at another node
     other_given : node ≢ a.visit.node → IsKeptIn y address
     other_given apart =
-        given_on seat (a.others node apart ∙ here) h.session (giver_on w y a.streams node seat seat refl h.side h.place h.session h.session (same_heard h.session) h.giver.made h.giver) h.gives
+        given_on seat (a.others node apart ∙ here) h.session (giver_on w y a.streams node seat seat h.side h.place h.session h.session (same_heard h.session) h.giver.made h.giver) h.gives
         (others_listed w y a node h.prefix h.place apart h.listed)
 
   -- at the node of the step
@@ -231,7 +231,7 @@ module _ (l : Grounds) (s : Setting) (w y : WorldState) (r : IsReached s w) (q :
     OwnGoes x = IsGiver y a.visit.node new_seat h.side h.place x
 
     heard_goes : (x : SessionState) → OnlyHeard h.session x → WasMade a.core.sessions x → OwnGoes x
-    heard_goes x over made = giver_on w y a.streams a.visit.node a.visit.seat new_seat refl h.side h.place h.session x over made h.giver
+    heard_goes x over made = giver_on w y a.streams a.visit.node a.visit.seat new_seat h.side h.place h.session x over made h.giver
 
     -- a prefix in doubt stays listed, and so the offer of a session that is no longer live
     doubt_given : (x : SessionState) → OwnGoes x → Contains a.agent.pool.doubtful h.prefix → Contains a.core.sessions.gone x → HasOffered x.view h.prefix → IsKeptIn y address
@@ -253,9 +253,9 @@ module _ (l : Grounds) (s : Setting) (w y : WorldState) (r : IsReached s w) (q :
           given_on address a.visit.node a.visit.seat a.here h new_seat a.there x.0 (subst (λ n. IsGiver y a.visit.node new_seat h.side n x.0) place_is (offer_giver h.side handle h.prefix still x.0 x.1))
           (by_offer handle still x.1) (subst (λ n. Contains y.offers (offer_on a.visit.node h.prefix n)) place_is now.listed) where
             end_is : StreamEnd
-            end_is = end_of a.visit.node new_seat x.0.stream
+            end_is = end_of a.visit.node x.0.stream
 
-            now : IsOfferedOn y a.visit.node new_seat h.side x.0.stream h.prefix
+            now : IsOfferedOn y a.visit.node h.side x.0.stream h.prefix
             now = offered h.side handle h.prefix still x.0 x.1
 
             stream : x.0.stream ≡ h.session.stream
@@ -263,8 +263,8 @@ module _ (l : Grounds) (s : Setting) (w y : WorldState) (r : IsReached s w) (q :
 
             there : IsEndAt y.streams h.place h.side end_is
             there =
-                subst (λ n. IsEndAt y.streams h.place h.side (end_of a.visit.node new_seat n)) (sym stream)
-                (end_stays w.streams y.streams a.streams h.place h.side (end_of a.visit.node a.visit.seat h.session.stream) h.giver.at)
+                subst (λ n. IsEndAt y.streams h.place h.side (end_of a.visit.node n)) (sym stream)
+                (end_stays w.streams y.streams a.streams h.place h.side (end_of a.visit.node h.session.stream) h.giver.at)
 
             place_is : now.place ≡ h.place
             place_is = same_place l.ready s y q end_is now.place h.place now.at.talk there.talk h.side h.side now.at.stands now.at.end_is there.stands there.end_is

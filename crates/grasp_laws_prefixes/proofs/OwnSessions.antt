@@ -1,9 +1,8 @@
 -- The sessions of a node by their handles, and by the ends of their streams.
-use Rattle.std.proofs.Common.{◌≡◌, refl, sym, ap, ◌∙◌, subst, ℕ, suc, ◌==◌, Bool, true, false, cond, inl, inr, ◌⊎◌, List, [], ◌∷◌, length, slice_get, slice_index_or, Contains, find, flat_map, option_to_list, Option, Some, None}
-use Rattle.std.proofs.lemmas.Bool.{eqb-true, eq-eqb}
+use Rattle.std.proofs.Common.{◌≡◌, refl, sym, ap, ◌∙◌, subst, ℕ, suc, ◌==◌, Bool, true, false, cond, inl, inr, ◌⊎◌, List, [], ◌∷◌, slice_get, slice_index_or, Contains, find, flat_map, option_to_list, Option, Some, None}
+use Rattle.std.proofs.lemmas.Bool.{eqb-true}
 use Rattle.std.proofs.lemmas.List.Elements.{Contains-append_cases}
 use Rattle.std.proofs.lemmas.Option.{none-some, same_Some}
-use Rattle.grasp_model_node.specs.Node.{NodeState}
 use Rattle.grasp_session.specs.Laws.{IsView}
 use Rattle.grasp_session.specs.Messages.{Side}
 use Rattle.grasp_session.specs.Runs.{WasMade}
@@ -14,14 +13,12 @@ use Rattle.grasp_types.specs.declared.session.Kind.TheVariants.{Negotiation}
 use Rattle.grasp_model_network.specs.Runs.{IsReached}
 use Rattle.grasp_model_network.specs.Setting.{Setting}
 use Rattle.grasp_model_network.specs.Streams.{StreamEnd, StreamState, end_at}
-use Rattle.grasp_laws_network.specs.Views.{core_in, all_sessions, session_on, session_in, session_of_end, view_in, view_at}
-use Rattle.grasp_model_network.specs.World.{Seat, WorldState, seat_at, end_of, life_of}
+use Rattle.grasp_laws_network.specs.Views.{all_sessions, session_in, session_of_end, view_in, view_at}
+use Rattle.grasp_model_network.specs.World.{Seat, WorldState, seat_at, end_of}
 use Rattle.grasp_laws_agents.specs.Giving.{IsOwnSession}
 use Rattle.grasp_laws_agents.specs.GoingOn.{OwnGoOn}
 use Rattle.grasp_laws_agents.specs.Owning.{IsOwned}
-use Rattle.grasp_laws_delivery.proofs.FromReady.{first_lives}
 use Rattle.grasp_laws_negotiation.specs.Streams.{HasItsStream, SessionsHaveStreams}
-use Rattle.grasp_laws_delivery.specs.Ready.{StreamsAreReady}
 use Rattle.grasp_laws_negotiation.specs.Negotiations.{IsNegotiation}
 use Rattle.grasp_laws_node.proofs.Consistent.Declines.{handle_state}
 use Rattle.grasp_laws_prefixes.proofs.Listing.{none_in, first_in, more_in, either_in}
@@ -78,29 +75,18 @@ found_made z stream x e = (
   by_case (inl live) = inl (in_places z.places x live)
   by_case (inr gone) = inr gone
 
-abbrev pub end_with : ℕ → ℕ → ℕ → StreamEnd
-end_with node life number = record { node = node; life = life; number = number }
-
 -- the session at an end of a stream was made by the node there
 pub record IsSessionAt (w : WorldState) (e : StreamEnd) (x : SessionState) : Type 0 where
   pub seat : Seat
   pub here : seat_at w e.node ≡ Some seat
   pub made : WasMade seat.core.sessions x
-  pub end_is : e ≡ end_of e.node seat x.stream
+  pub end_is : e ≡ end_of e.node x.stream
 
-pub session_there : StreamsAreReady → (s : Setting) (w : WorldState) → IsReached s w → (place : ℕ) (t : StreamState) → slice_get w.streams place ≡ Some t → (side : Side) (e : StreamEnd) → end_at t side ≡ Some e
-    → (x : SessionState) → session_of_end w (Some e) ≡ Some x → IsSessionAt w e x
-session_there ready s w r place t stands side e at x found = by_seat (seat_at w e.node) refl found where
-  by_core : (seat : Seat) → seat_at w e.node ≡ Some seat → (life : e.life ≡ life_of seat) → session_on e.number (core_in seat e.life) ≡ Some x → IsSessionAt w e x
-  by_core seat here life f =
-      let now : core_in seat e.life ≡ Some seat.core = ap (λ b. cond b (Some seat.core) (slice_get seat.earlier e.life)) (eq-eqb e.life (life_of seat) life) in
-      let m = found_made seat.core.sessions e.number x (ap (λ (o : Option NodeState). session_on e.number o) (sym now) ∙ f) in
-      record { seat = seat; here = here; made = m.0; end_is = ap (λ n. end_with e.node n e.number) life ∙ ap (λ n. end_with e.node (life_of seat) n) (sym m.1) }
-
+pub session_there : (w : WorldState) (e : StreamEnd) (x : SessionState) → session_of_end w (Some e) ≡ Some x → IsSessionAt w e x
+session_there w e x found = by_seat (seat_at w e.node) refl found where
   by_seat : (o : Option Seat) → seat_at w e.node ≡ o → session_in e o ≡ Some x → IsSessionAt w e x
   by_seat None here f = absurd (none-some x f)
-  by_seat (Some seat) here f =
-      by_core seat here (first_lives ready s w r place t stands side e at ∙ sym (ap (λ (l : List NodeState). length l) (ready.lives s w r e.node seat here))) f
+  by_seat (Some seat) here f = let m = found_made seat.core.sessions e.number x f in record { seat = seat; here = here; made = m.0; end_is = ap (end_of e.node) (sym m.1) }
 
 -- what a side saw is what its session saw
 pub record IsViewOf (w : WorldState) (t : StreamState) (side : Side) (v : Transcript) : Type 0 where
@@ -123,18 +109,18 @@ view_of w t side v saw = by_end (end_at t side) refl saw where
 -- ---- the stream of a session
 
 -- the stream of which a session is this side: a negotiation
-pub record IsTalkOf (w : WorldState) (node : ℕ) (seat : Seat) (x : SessionState) (side : Side) : Type 0 where
+pub record IsTalkOf (w : WorldState) (node : ℕ) (x : SessionState) (side : Side) : Type 0 where
   pub place : ℕ
   pub talk : StreamState
   pub stands : slice_get w.streams place ≡ Some talk
-  pub ends : end_at talk side ≡ Some (end_of node seat x.stream)
+  pub ends : end_at talk side ≡ Some (end_of node x.stream)
   pub saw : view_at w talk side ≡ Some x.view
   pub negotiation : IsNegotiation talk
 
 pub talk_of : SessionsHaveStreams → (s : Setting) (w : WorldState) → IsReached s w → (node : ℕ) (seat : Seat) → seat_at w node ≡ Some seat → (x : SessionState) → WasMade seat.core.sessions x → (side : Side)
-    → x.view.role ≡ side → x.view.kind ≡ Negotiation → IsTalkOf w node seat x side
+    → x.view.role ≡ side → x.view.kind ≡ Negotiation → IsTalkOf w node x side
 talk_of streams s w r node seat here x made side role kind =
-    let h : HasItsStream w node seat x = streams.each s w r node seat here x made in
+    let h : HasItsStream w node x = streams.each s w r node seat here x made in
     let same : h.side ≡ side = sym h.role ∙ role in
     record {
       place = h.place;
@@ -147,11 +133,11 @@ talk_of streams s w r node seat here x made side role kind =
 
 -- of a live session of agent 1
 module _ (l : Grounds) (s : Setting) (w : WorldState) (r : IsReached s w) where
-  pub own_talk : (node : ℕ) (seat : Seat) → seat_at w node ≡ Some seat → (h : Handle) (side : Side) (x : SessionState) → IsOwnSession seat.core.sessions h side x → IsTalkOf w node seat x side
+  pub own_talk : (node : ℕ) (seat : Seat) → seat_at w node ≡ Some seat → (h : Handle) (side : Side) (x : SessionState) → IsOwnSession seat.core.sessions h side x → IsTalkOf w node x side
   own_talk node seat here h side x own =
       let owned : IsOwned x = l.owned s w r node seat here h.place x (handle_state seat.core.sessions h x own.at).0 in
       talk_of l.streams s w r node seat here x (handle_made seat.core.sessions h x own.at) side own.role (owned.own own.owner).0
 
   -- what it saw on its stream
-  pub own_view : (node : ℕ) (seat : Seat) (x : SessionState) (side : Side) → (t : IsTalkOf w node seat x side) → IsView side t.talk.said x.view
-  own_view node seat x side t = (l.known s w r t.place t.talk t.stands t.negotiation).views side x.view t.saw
+  pub own_view : (node : ℕ) (x : SessionState) (side : Side) → (t : IsTalkOf w node x side) → IsView side t.talk.said x.view
+  own_view node x side t = (l.known s w r t.place t.talk t.stands t.negotiation).views side x.view t.saw

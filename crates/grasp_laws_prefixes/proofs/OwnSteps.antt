@@ -74,7 +74,7 @@ agent_call : (s : Setting) (w : WorldState) (node : ℕ) (hold : Bool) (v : Visi
 unfolding agent_visit
 agent_call s w node hold v is = agent_given (present_life w node) v (seat_at w (present_life w node)) is
 
-agent_seats : (w : WorldState) (v : Visit) (c : Choice) → (after_agent w v c).seats ≡ slice_set w.seats (v.node - 1) (seat_with v.seat c.after (after_reply v.seat.agent c.reply))
+agent_seats : (w : WorldState) (v : Visit) (c : Choice) → (after_agent w v c).seats ≡ slice_set w.seats (v.node - 1) (seat_with c.after (after_reply v.seat.agent c.reply))
 unfolding after_agent noted stepped
 agent_seats w v c = refl
 
@@ -125,4 +125,4 @@ module _ (l : Grounds) (s : Setting) where
     called = subst (λ i. NodeStep v.seat.core v.now i c.coming c.reply c.after) (agent_call s w node hold v is) step.steps
 
     new : Seat
-    new = seat_with v.seat c.after (after_reply v.seat.agent c.reply)
+    new = seat_with c.after (after_reply v.seat.agent c.reply)

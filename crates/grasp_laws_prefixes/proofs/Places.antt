@@ -16,7 +16,7 @@ use Rattle.grasp_model_network.specs.Sending.{gained, handed_over}
 use Rattle.grasp_model_network.specs.Setting.{Setting}
 use Rattle.grasp_model_network.specs.Streams.{StreamEnd, StreamState, end_at, has_end, place_of_end, count_at_end}
 use Rattle.grasp_model_network.specs.Visits.{Visit, Choice}
-use Rattle.grasp_model_network.specs.World.{Seat, WorldState}
+use Rattle.grasp_model_network.specs.World.{WorldState}
 use Rattle.grasp_model_network.specs.declared.event.Event.{Event}
 use Rattle.grasp_model_network.specs.declared.event.Event.TheVariants as event
 use Rattle.grasp_laws_delivery.proofs.AfterSteps.{streams_before, streams_stepped}
@@ -71,24 +71,24 @@ EndsStay ts us = (place : ℕ) (t : StreamState) → slice_get ts place ≡ Some
 
 module _ (ready : StreamsAreReady) (s : Setting) (w : WorldState) (r : IsReached s w) where
   arrival_before : (k : ℕ) (v : Visit) (c : Choice) (hold : Bool) → visit_of s w (event.Arrive k hold) ≡ Some v
-      → Premade w.streams (streams_before s w (event.Arrive k hold) v c) v.node v.seat v.input
+      → Premade w.streams (streams_before s w (event.Arrive k hold) v c) v.node v.input
   arrival_before k v c hold is = by_opening (opening_is s w k v is) where
-    by_opening : IsOpening s w k v → Premade w.streams (streams_before s w (event.Arrive k hold) v c) v.node v.seat v.input
+    by_opening : IsOpening s w k v → Premade w.streams (streams_before s w (event.Arrive k hold) v c) v.node v.input
     by_opening p =
         let number = s.arrives_as v.node k in
         let at : Placed w.streams p.talk = numbered_place k w.streams p.talk p.found in
-        subst (λ (z : Option StreamState). Premade w.streams (arrived w v number c.reply z).streams v.node v.seat v.input) (sym p.found)
-        (opened_premade w.streams v.node v.seat v.input p.talk.near number (arrival_by c.reply) (subst (λ z. OpensIt z number) (sym p.is.input_is) refl)
+        subst (λ (z : Option StreamState). Premade w.streams (arrived w v number c.reply z).streams v.node v.input) (sym p.found)
+        (opened_premade w.streams v.node v.input p.talk.near number (arrival_by c.reply) (subst (λ z. OpensIt z number) (sym p.is.input_is) refl)
         (λ place t stands side has. unopened place t stands side p has at)) where
           unopened : (place : ℕ) (t : StreamState) → slice_get w.streams place ≡ Some t → (side : Side) → (p : IsOpening s w k v) → end_at t side ≡ Some p.talk.near → Placed w.streams p.talk → t.far ≡ None
           unopened place t stands side p has at =
               let one : t ≡ p.talk = one_talk p.talk.near w.streams place at.place t p.talk (ready.apart s w r p.talk.near) stands (has_it t p.talk.near side has) at.stands (has_it p.talk p.talk.near Near refl) in
               ap (λ (x : StreamState). x.far) one ∙ every_at FarWaits w.streams at.place p.talk (ready.waits s w r) at.stands p.waiting
 
-  quiet_before : (v : Visit) (us : List StreamState) → Harmless w.streams us → Premade w.streams us v.node v.seat v.input
-  quiet_before v us h = harmless_premade w.streams us v.node v.seat v.input h
+  quiet_before : (v : Visit) (us : List StreamState) → Harmless w.streams us → Premade w.streams us v.node v.input
+  quiet_before v us h = harmless_premade w.streams us v.node v.input h
 
-  step_before : (e : Event) (v : Visit) (c : Choice) → visit_of s w e ≡ Some v → IsStep e → Premade w.streams (streams_before s w e v c) v.node v.seat v.input
+  step_before : (e : Event) (v : Visit) (c : Choice) → visit_of s w e ≡ Some v → IsStep e → Premade w.streams (streams_before s w e v c) v.node v.input
   step_before (event.Want node length longest peer) v c is step = absurd step
   step_before (event.Return node prefix peer) v c is step = absurd step
   step_before (event.Arrive stream hold) v c is step = arrival_before stream v c hold is
@@ -98,17 +98,17 @@ module _ (ready : StreamsAreReady) (s : Setting) (w : WorldState) (r : IsReached
   step_before (event.Drain node max) v c is step = absurd step
   step_before _ v c is step = quiet_before v w.streams (same_talks w.streams)
 
-  voices_end : (node : ℕ) (seat : Seat) (qs : List Queued) (t : StreamState) (side : Side) (e : StreamEnd) → end_at t side ≡ Some e → end_at (with_voices node seat qs t) side ≡ Some e
-  voices_end node seat qs t Near e at = at
-  voices_end node seat qs t Far e at = at
+  voices_end : (node : ℕ) (qs : List Queued) (t : StreamState) (side : Side) (e : StreamEnd) → end_at t side ≡ Some e → end_at (with_voices node qs t) side ≡ Some e
+  voices_end node qs t Near e at = at
+  voices_end node qs t Far e at = at
 
   step_ends : (e : Event) (v : Visit) (c : Choice) → visit_of s w e ≡ Some v → IsStep e → EndsStay w.streams (after_visit s w e v c).streams
   step_ends e v c is step place t stands =
       let p = (step_before e v c is step).forth place t stands in
       let qs = gained v.seat.core c.after in (
-        with_voices v.node v.seat qs p.after,
-        ap (λ (ts : List StreamState). slice_get ts place) (streams_stepped s w e v c step) ∙ made_stays v.node v.seat qs (streams_before s w e v c) place p.after p.stands,
-        λ side end at. voices_end v.node v.seat qs p.after side end (p.ends side end at),
+        with_voices v.node qs p.after,
+        ap (λ (ts : List StreamState). slice_get ts place) (streams_stepped s w e v c step) ∙ made_stays v.node qs (streams_before s w e v c) place p.after p.stands,
+        λ side end at. voices_end v.node qs p.after side end (p.ends side end at),
       )
 
   grown_at : (ts us : List StreamState) → StreamsGrow ts us → (place : ℕ) (t u : StreamState) → slice_get ts place ≡ Some t → slice_get us place ≡ Some u → StreamGrows t u
@@ -128,9 +128,9 @@ module _ (ready : StreamsAreReady) (s : Setting) (w : WorldState) (r : IsReached
 pub same_stay : (ts us : List StreamState) → us ≡ ts → AllStay ts us
 same_stay ts us e place t stands = record { after = t; stands = ap (λ (xs : List StreamState). slice_get xs place) e ∙ stands; ends = λ side end at. at; newer = []; said = refl }
 
-pub handed_stay : (s : Setting) (w : WorldState) (node : ℕ) (seat : Seat) (qs : List Queued) (streams : List ℕ) → AllStay w.streams (handed_over s w node seat qs streams).streams
-handed_stay s w node seat qs streams place t stands =
-    let m = (handed_harmless s w node seat qs streams).forth place t stands in
+pub handed_stay : (s : Setting) (w : WorldState) (node : ℕ) (qs : List Queued) (streams : List ℕ) → AllStay w.streams (handed_over s w node qs streams).streams
+handed_stay s w node qs streams place t stands =
+    let m = (handed_harmless s w node qs streams).forth place t stands in
     record { after = m.after; stands = m.stands; ends = like_ends t m.after m.like; newer = []; said = m.like.said }
 
 -- ---- the ends of a stream

@@ -18,7 +18,7 @@ use Rattle.grasp_model_network.specs.Accepting.{is_return, offering_by, taking_s
 use Rattle.grasp_model_network.specs.Runs.{IsReached}
 use Rattle.grasp_model_network.specs.Setting.{Setting}
 use Rattle.grasp_model_network.specs.Streams.{StreamState}
-use Rattle.grasp_model_network.specs.World.{Seat, Offered, WorldState, seat_at, end_of, life_of, is_present, member_of, present_life}
+use Rattle.grasp_model_network.specs.World.{Seat, Offered, WorldState, seat_at, end_of, is_present, member_of, present_life}
 use Rattle.grasp_laws_agents.proofs.Going.{open_back}
 use Rattle.grasp_laws_agents.proofs.GoingOn.{heard_alike}
 use Rattle.grasp_laws_agents.specs.Giving.{IsOpenOffer, IsOwnSession, OffersIn}
@@ -29,7 +29,7 @@ use Rattle.grasp_laws_prefixes.proofs.Asked.{request_stays, placed_still}
 use Rattle.grasp_laws_prefixes.proofs.EntryOffers.{same_offers, offering_session}
 use Rattle.grasp_laws_prefixes.proofs.NeverAccepted.{quiet_unaccepted, still_unaccepted}
 use Rattle.grasp_laws_prefixes.proofs.OneNode.{seat_there}
-use Rattle.grasp_laws_prefixes.proofs.OwnSessions.{one_session, end_with}
+use Rattle.grasp_laws_prefixes.proofs.OwnSessions.{one_session}
 use Rattle.grasp_laws_prefixes.proofs.Places.{end_stays}
 use Rattle.grasp_laws_prefixes.proofs.Speech.{accepted_before}
 use Rattle.grasp_laws_prefixes.proofs.Standing.{offer_unsent, IsEndAt, IsOfferIn, IsOfferedOn, WasSettledOn, IsPlaced, StaysUnaccepted, PrefixesStand, Stays, AllStay, SeatGoesOn, WorldGoesOn, NothingHappens}
@@ -140,23 +140,23 @@ module _ (l : Grounds) (s : Setting) (w : WorldState) (r : IsReached s w) where
         (doubt_still (present_life w (member_of w o.node)) o.prefix (k.known.carried o (listed_before o h) (sym (same_is_present w y o.node g.lives) ∙ gone)))
 
     -- the stream of a session is that which it was
-    pub among_still : (os us : List Offered) → us ≡ os → (node : ℕ) (seat new : Seat) → SeatGoesOn seat new → (side i : Side) → i ≡ side → (stream now : ℕ) (p : Prefix) → stream ≡ now
-        → IsOfferIn os w node seat side stream p → IsOfferIn us y node new i now p
-    among_still os us list node seat new goes side i side_is stream now p same o = record {
+    pub among_still : (os us : List Offered) → us ≡ os → (node : ℕ) (side i : Side) → i ≡ side → (stream now : ℕ) (p : Prefix) → stream ≡ now
+        → IsOfferIn os w node side stream p → IsOfferIn us y node i now p
+    among_still os us list node side i side_is stream now p same o = record {
       place = o.place;
-      at = subst (λ j. IsEndAt y.streams o.place j (end_of node new now)) (sym side_is)
-          (subst (λ e. IsEndAt y.streams o.place side e) end_is (end_stays w.streams y.streams g.streams o.place side (end_of node seat stream) o.at));
+      at = subst (λ j. IsEndAt y.streams o.place j (end_of node now)) (sym side_is)
+          (subst (λ e. IsEndAt y.streams o.place side e) end_is (end_stays w.streams y.streams g.streams o.place side (end_of node stream) o.at));
       listed = subst (λ (xs : List Offered). Contains xs (offer_on node p o.place)) (sym list) o.listed;
     } where
-      end_is : end_of node seat stream ≡ end_of node new now
-      end_is = ap (λ n. end_with node n stream) (sym goes.life) ∙ ap (λ n. end_with node (life_of new) n) same
+      end_is : end_of node stream ≡ end_of node now
+      end_is = ap (end_of node) same
 
     offered : (node : ℕ) (new : Seat) → seat_at y node ≡ Some new → is_present y node ≡ true → (side : Side) (h : Handle) (p : Prefix) → OffersIn new.agent side h p
-        → (x : SessionState) → IsOwnSession new.core.sessions h side x → IsOfferedOn y node new side x.stream p
+        → (x : SessionState) → IsOwnSession new.core.sessions h side x → IsOfferedOn y node side x.stream p
     offered node new there present side h p o x own =
         let b = g.seats node new there in
         let was = offered_before node b.0 new b.1 b.2 side h p o x own in
-        among_still w.offers y.offers g.offers node b.0 new b.2 side side refl was.1.0.stream x.stream p was.1.2
+        among_still w.offers y.offers g.offers node side side refl was.1.0.stream x.stream p was.1.2
         (k.known.offered node b.0 b.1 (sym (same_is_present w y node g.lives) ∙ present) side h p was.0 was.1.0 was.1.1)
 
     unsent : (node : ℕ) (new : Seat) → seat_at y node ≡ Some new → (p : Prefix) → unsent_of new.agent.back ≡ Some p → Contains y.offers (offer_unsent node p)
@@ -166,33 +166,33 @@ module _ (l : Grounds) (s : Setting) (w : WorldState) (r : IsReached s w) where
         (k.known.unsent node b.0 b.1 p (subst (λ (z : Option Return). unsent_of z ≡ Some p) b.2.back e))
 
     gone : (node : ℕ) (new : Seat) → seat_at y node ≡ Some new → (x : SessionState) (p : Prefix) → Contains new.core.sessions.gone x → x.owner ≡ 1 → IsOpenOffer x.view p
-        → (IsOfferedOn y node new x.view.role x.stream p × Contains new.agent.pool.doubtful p) ⊎ WasSettledOn y node new x.view.role x.stream p
+        → (IsOfferedOn y node x.view.role x.stream p × Contains new.agent.pool.doubtful p) ⊎ WasSettledOn y node x.view.role x.stream p
     gone node new there x p was own is_open = from (g.seats node new there) where
-      from : (seat : Seat) × (seat_at w node ≡ Some seat) × SeatGoesOn seat new → (IsOfferedOn y node new x.view.role x.stream p × Contains new.agent.pool.doubtful p) ⊎ WasSettledOn y node new x.view.role x.stream p
+      from : (seat : Seat) × (seat_at w node ≡ Some seat) × SeatGoesOn seat new → (IsOfferedOn y node x.view.role x.stream p × Contains new.agent.pool.doubtful p) ⊎ WasSettledOn y node x.view.role x.stream p
       from b = by_case (k.known.gone node b.0 b.1 x p (b.2.sessions.left x own was) own is_open) where
-        by_case : (IsOfferedOn w node b.0 x.view.role x.stream p × Contains b.0.agent.pool.doubtful p) ⊎ WasSettledOn w node b.0 x.view.role x.stream p
-            → (IsOfferedOn y node new x.view.role x.stream p × Contains new.agent.pool.doubtful p) ⊎ WasSettledOn y node new x.view.role x.stream p
+        by_case : (IsOfferedOn w node x.view.role x.stream p × Contains b.0.agent.pool.doubtful p) ⊎ WasSettledOn w node x.view.role x.stream p
+            → (IsOfferedOn y node x.view.role x.stream p × Contains new.agent.pool.doubtful p) ⊎ WasSettledOn y node x.view.role x.stream p
         by_case (inl o) = inl (
-          among_still w.offers y.offers g.offers node b.0 new b.2 x.view.role x.view.role refl x.stream x.stream p refl o.0,
+          among_still w.offers y.offers g.offers node x.view.role x.view.role refl x.stream x.stream p refl o.0,
           subst (λ (q : Holding). Contains q.doubtful p) (sym b.2.pool) o.1,
         )
-        by_case (inr o) = inr (among_still w.settled y.settled g.settled node b.0 new b.2 x.view.role x.view.role refl x.stream x.stream p refl o)
+        by_case (inr o) = inr (among_still w.settled y.settled g.settled node x.view.role x.view.role refl x.stream x.stream p refl o)
 
     -- in a life that has ended nothing was said since in any session
     ended : (node : ℕ) (new : Seat) → seat_at y node ≡ Some new → is_present y node ≡ false → (place : ℕ) (x : SessionState) (p : Prefix) → IsAt new.core.sessions place x → x.owner ≡ 1
-        → IsOpenOffer x.view p → IsOfferedOn y node new x.view.role x.stream p ⊎ WasSettledOn y node new x.view.role x.stream p
+        → IsOpenOffer x.view p → IsOfferedOn y node x.view.role x.stream p ⊎ WasSettledOn y node x.view.role x.stream p
     ended node new there past place x p at own is_open = from (g.seats node new there) where
-      from : (seat : Seat) × (seat_at w node ≡ Some seat) × SeatGoesOn seat new → IsOfferedOn y node new x.view.role x.stream p ⊎ WasSettledOn y node new x.view.role x.stream p
+      from : (seat : Seat) × (seat_at w node ≡ Some seat) × SeatGoesOn seat new → IsOfferedOn y node x.view.role x.stream p ⊎ WasSettledOn y node x.view.role x.stream p
       from b = by_session (b.2.sessions.were place x at own) where
-        by_session : (z : SessionState) × IsAt b.0.core.sessions place z × OnlyHeard z x → IsOfferedOn y node new x.view.role x.stream p ⊎ WasSettledOn y node new x.view.role x.stream p
+        by_session : (z : SessionState) × IsAt b.0.core.sessions place z × OnlyHeard z x → IsOfferedOn y node x.view.role x.stream p ⊎ WasSettledOn y node x.view.role x.stream p
         by_session z = by_case (k.known.ended node b.0 b.1 (sym (same_is_present w y node g.lives) ∙ past) place z.0 p z.1 (sym z.2.owner ∙ own) (open_back z.0.view x.view p z.2.view is_open)) where
           role : x.view.role ≡ z.0.view.role
           role = (heard_alike z.0.view x.view z.2.view).role
 
-          by_case : IsOfferedOn w node b.0 z.0.view.role z.0.stream p ⊎ WasSettledOn w node b.0 z.0.view.role z.0.stream p
-              → IsOfferedOn y node new x.view.role x.stream p ⊎ WasSettledOn y node new x.view.role x.stream p
-          by_case (inl o) = inl (among_still w.offers y.offers g.offers node b.0 new b.2 z.0.view.role x.view.role role z.0.stream x.stream p (sym z.2.stream) o)
-          by_case (inr o) = inr (among_still w.settled y.settled g.settled node b.0 new b.2 z.0.view.role x.view.role role z.0.stream x.stream p (sym z.2.stream) o)
+          by_case : IsOfferedOn w node z.0.view.role z.0.stream p ⊎ WasSettledOn w node z.0.view.role z.0.stream p
+              → IsOfferedOn y node x.view.role x.stream p ⊎ WasSettledOn y node x.view.role x.stream p
+          by_case (inl o) = inl (among_still w.offers y.offers g.offers node z.0.view.role x.view.role role z.0.stream x.stream p (sym z.2.stream) o)
+          by_case (inr o) = inr (among_still w.settled y.settled g.settled node z.0.view.role x.view.role role z.0.stream x.stream p (sym z.2.stream) o)
 
     settled : (o : Offered) → Contains y.settled o → StaysUnaccepted y o
     settled o h = by_said said where

@@ -7,18 +7,17 @@ use Rattle.grasp_model_node.specs.Draining as core
 use Rattle.grasp_model_node.specs.Node.{NodeState}
 use Rattle.grasp_model_node.specs.Queue.{encoding}
 use Rattle.grasp_session.specs.Messages.{other}
-use Rattle.grasp_types.specs.declared.reply.Reply.{Reply}
 use Rattle.grasp_types.specs.declared.reply.Reply.TheVariants as reply
 use Rattle.grasp_types.specs.declared.traffic.Input.{Input}
 use Rattle.grasp_types.specs.declared.traffic.Input.TheVariants as input
 use Rattle.grasp_laws_network.proofs.EachNode.{drain_steps}
 use Rattle.grasp_laws_network.proofs.Here.{visits_are_here}
-use Rattle.grasp_laws_network.proofs.Offers.{KeepsOffers, offers_still, handed_offers}
+use Rattle.grasp_laws_network.proofs.Offers.{KeepsOffers, arrived_offers, delivered_offers, handed_offers, offers_still, told_offers}
 use Rattle.grasp_laws_network.proofs.Others.{arrived_keeps, delivered_keeps, told_keeps}
 use Rattle.grasp_laws_network.proofs.SameLives.{visit_lives, handed_lives}
 use Rattle.grasp_laws_network.proofs.Sent.{sending_keeps_nodes}
 use Rattle.grasp_model_network.specs.EventSteps.{after_agent_call, after_arrival, after_clock, after_cut, datagram_visit, after_delivery, after_piece}
-use Rattle.grasp_model_network.specs.StreamChanges.{arrived, told, Reached, reached_side, side_named, delivered}
+use Rattle.grasp_model_network.specs.StreamChanges.{arrived, told, reached_side, side_named, delivered}
 use Rattle.grasp_model_network.specs.Events.{visit_of, after_visit, IsFit, Occurs}
 use Rattle.grasp_laws_network.specs.Keeping.{IsHere}
 use Rattle.grasp_model_network.specs.Notes.{noted}
@@ -26,7 +25,7 @@ use Rattle.grasp_model_network.specs.Runs.{IsReached}
 use Rattle.grasp_model_network.specs.Sending as network
 use Rattle.grasp_model_network.specs.Sending.{seat_with, stepped, drained_from, drained_at}
 use Rattle.grasp_model_network.specs.Setting.{Setting, numbered}
-use Rattle.grasp_model_network.specs.Streams.{StreamState, stream_numbered, next_bytes}
+use Rattle.grasp_model_network.specs.Streams.{stream_numbered, next_bytes}
 use Rattle.grasp_model_network.specs.Visits.{Visit, Choice, MayCome, VisitStep, no_choice}
 use Rattle.grasp_model_network.specs.World.{Seat, WorldState, present_life, seat_at, with_seat}
 use Rattle.grasp_model_network.specs.declared.event.Event.{Event}
@@ -81,11 +80,11 @@ step_others s w _ v o fit is = absurd o
 -- ---- what such a step leaves
 
 -- the node of the step is put, with its agent as it was
-seats_put : (w x y : WorldState) (v : Visit) (core : NodeState) → x.seats ≡ w.seats → y.seats ≡ (stepped x v core v.seat.agent).seats → y.seats ≡ slice_set w.seats (v.node - 1) (seat_with v.seat core v.seat.agent)
+seats_put : (w x y : WorldState) (v : Visit) (core : NodeState) → x.seats ≡ w.seats → y.seats ≡ (stepped x v core v.seat.agent).seats → y.seats ≡ slice_set w.seats (v.node - 1) (seat_with core v.seat.agent)
 unfolding stepped
-seats_put w x y v core e f = f ∙ ap (λ seats. slice_set seats (v.node - 1) (seat_with v.seat core v.seat.agent)) e
+seats_put w x y v core e f = f ∙ ap (λ seats. slice_set seats (v.node - 1) (seat_with core v.seat.agent)) e
 
-step_seats : (s : Setting) (w : WorldState) (e : Event) (v : Visit) (c : Choice) → IsOthersStep e → (after_visit s w e v c).seats ≡ slice_set w.seats (v.node - 1) (seat_with v.seat c.after v.seat.agent)
+step_seats : (s : Setting) (w : WorldState) (e : Event) (v : Visit) (c : Choice) → IsOthersStep e → (after_visit s w e v c).seats ≡ slice_set w.seats (v.node - 1) (seat_with c.after v.seat.agent)
 unfolding after_clock after_agent_call after_delivery after_arrival after_piece after_cut noted
 step_seats s w (event.Clock node millis) v c o = seats_put w w (after_clock w v c) v c.after refl refl
 step_seats s w (event.Api node asa call hold) v c o = seats_put w w (after_agent_call w v asa call c) v c.after refl refl
@@ -100,18 +99,6 @@ step_seats s w (event.Cut stream far hold) v c o =
     seats_put w (told w (reached_side w stream (side_named far))) (after_cut w v stream (side_named far) c) v c.after
     (told_keeps w (reached_side w stream (side_named far))) refl
 step_seats s w _ v c o = absurd o
-
-arrived_offers : (w : WorldState) (v : Visit) (number : ℕ) (r : Reply) (o : Option StreamState) → KeepsOffers w (arrived w v number r o)
-arrived_offers w v number r None = offers_still w
-arrived_offers w v number r (Some t) = record { offers = refl; settled = refl }
-
-delivered_offers : (w : WorldState) (count : ℕ) (o : Option Reached) → KeepsOffers w (delivered w count o)
-delivered_offers w count None = offers_still w
-delivered_offers w count (Some x) = record { offers = refl; settled = refl }
-
-told_offers : (w : WorldState) (o : Option Reached) → KeepsOffers w (told w o)
-told_offers w None = offers_still w
-told_offers w (Some x) = record { offers = refl; settled = refl }
 
 same_offers : (w x y : WorldState) → KeepsOffers w x → y.offers ≡ x.offers → y.settled ≡ x.settled → KeepsOffers w y
 same_offers w x y k e f = record { offers = e ∙ k.offers; settled = f ∙ k.settled }
@@ -134,7 +121,7 @@ step_offers s w _ v c o = absurd o
 -- ---- one node goes on, and the others are the same
 
 pub seat_still : (seat : Seat) → SeatGoesOn seat seat
-seat_still seat = record { life = refl; pool = refl; giving = refl; back = refl; sessions = same_sessions seat.core.sessions }
+seat_still seat = record { pool = refl; giving = refl; back = refl; sessions = same_sessions seat.core.sessions }
 
 pub goes_on_from : (w y : WorldState) (node : ℕ) (seat new : Seat) → 1 ≤ node → seat_at w node ≡ Some seat → y.seats ≡ slice_set w.seats (node - 1) new → KeepsOffers w y → y.lives ≡ w.lives
     → AllStay w.streams y.streams → SeatGoesOn seat new → WorldGoesOn w y
@@ -169,10 +156,9 @@ module _ (l : Grounds) (s : Setting) where
   others_go_on w e c v r o is others =
       let here : IsHere w v = visits_are_here s w e v is in
       let step : VisitStep v c = subst (λ (x : Option Visit). MayCome x c) is o.comes in
-      goes_on_from w (after_visit s w e v c) v.node v.seat (seat_with v.seat c.after v.seat.agent) here.member.least here.stands (step_seats s w e v c others) (step_offers s w e v c others) (visit_lives s w e v c)
+      goes_on_from w (after_visit s w e v c) v.node v.seat (seat_with c.after v.seat.agent) here.member.least here.stands (step_seats s w e v c others) (step_offers s w e v c others) (visit_lives s w e v c)
       (step_stays l.ready s w r e v c is (steps_so e others))
       (record {
-        life = refl;
         pool = refl;
         giving = refl;
         back = refl;
@@ -186,20 +172,19 @@ module _ (l : Grounds) (s : Setting) where
   drained_by w node max (Some seat) r least here =
       from (begin seat.core seat.core.reading)
       (record {
-        life = refl;
         pool = refl;
         giving = refl;
         back = refl;
         sessions = l.goes_on.steps s w r node seat here seat.core.reading (input.Drain max) no_choice.coming (reply.Outputs (core.drained (begin seat.core seat.core.reading) max))
-            (after_drain (begin seat.core seat.core.reading) max) tt (drain_steps seat.core max no_choice.coming);
+            (after_drain (begin seat.core seat.core.reading) max) tt (drain_steps seat.core seat.core.reading max no_choice.coming);
       })
     where
-      from : (m : NodeState) → SeatGoesOn seat (seat_with seat (after_drain m max) seat.agent) → WorldGoesOn w (drained_from s w node seat m max)
+      from : (m : NodeState) → SeatGoesOn seat (seat_with (after_drain m max) seat.agent) → WorldGoesOn w (drained_from s w node seat m max)
       from m goes =
-          let put = with_seat w node (seat_with seat (after_drain m max) seat.agent) in
-          let offers = handed_offers s put node seat (take max m.queue) (closes m max) in
-          goes_on_from w (drained_from s w node seat m max) node seat (seat_with seat (after_drain m max) seat.agent) least here (sending_keeps_nodes s put node seat (take max m.queue) (closes m max))
-          (record { offers = offers.offers; settled = offers.settled }) (handed_lives s put node seat (take max m.queue) (closes m max)) (handed_stay s put node seat (take max m.queue) (closes m max)) goes
+          let put = with_seat w node (seat_with (after_drain m max) seat.agent) in
+          let offers = handed_offers s put node (take max m.queue) (closes m max) in
+          goes_on_from w (drained_from s w node seat m max) node seat (seat_with (after_drain m max) seat.agent) least here (sending_keeps_nodes s put node (take max m.queue) (closes m max))
+          (record { offers = offers.offers; settled = offers.settled }) (handed_lives s put node (take max m.queue) (closes m max)) (handed_stay s put node (take max m.queue) (closes m max)) goes
 
   pub drains_go_on : (w : WorldState) (node max : ℕ) → IsReached s w → 1 ≤ node → WorldGoesOn w (network.drained s w node max)
   unfolding network.drained

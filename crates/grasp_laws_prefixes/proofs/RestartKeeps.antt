@@ -43,7 +43,7 @@ use Rattle.grasp_laws_prefixes.proofs.OwnSessions.{one_session}
 use Rattle.grasp_laws_prefixes.proofs.Places.{end_stays}
 use Rattle.grasp_laws_prefixes.proofs.QuietKeeps.{may_before}
 use Rattle.grasp_laws_prefixes.proofs.Speech.{deciding_closed}
-use Rattle.grasp_laws_prefixes.proofs.Standing.{offer_unsent, IsEndAt, IsOfferIn, IsOfferedOn, WasSettledOn, OffersAreKnown, PrefixesStand, AllStay, NothingHappens}
+use Rattle.grasp_laws_prefixes.proofs.Standing.{offer_unsent, IsOfferIn, IsOfferedOn, WasSettledOn, OffersAreKnown, PrefixesStand, AllStay, NothingHappens}
 use Rattle.grasp_laws_prefixes.proofs.ToOffer.{decided_entry, decided_offers, unsent_is, to_offer_reserved, IsAuthorityOf, decided_there, to_offer_authority}
 use Rattle.grasp_laws_prefixes.specs.Apart.{HeldApart, offer_on}
 use Rattle.grasp_laws_prefixes.specs.Grounds.{Grounds}
@@ -196,25 +196,25 @@ module _ (l : Grounds) (s : Setting) (w x : WorldState) (node : ℕ) (image : Po
 
     -- ---- what is listed
 
-    on_stream : (os us : List Offered) (n : ℕ) (seat now : Seat) (side : Side) (stream : ℕ) (q : Prefix) → end_of n seat stream ≡ end_of n now stream → (o : IsOfferIn os w n seat side stream q)
-        → Contains us (offer_on n q o.place) → IsOfferIn us x n now side stream q
-    on_stream os us n seat now side stream q same o listed = record {
+    on_stream : (os us : List Offered) (n : ℕ) (side : Side) (stream : ℕ) (q : Prefix) → (o : IsOfferIn os w n side stream q)
+        → Contains us (offer_on n q o.place) → IsOfferIn us x n side stream q
+    on_stream os us n side stream q o listed = record {
       place = o.place;
-      at = subst (λ e. IsEndAt x.streams o.place side e) same (end_stays w.streams x.streams all_stay o.place side (end_of n seat stream) o.at);
+      at = end_stays w.streams x.streams all_stay o.place side (end_of n stream) o.at;
       listed = listed;
     }
 
-    pub settled_on : (n : ℕ) (seat now : Seat) (side : Side) (stream : ℕ) (q : Prefix) → end_of n seat stream ≡ end_of n now stream → WasSettledOn w n seat side stream q → WasSettledOn x n now side stream q
-    settled_on n seat now side stream q same o =
-        on_stream w.settled x.settled n seat now side stream q same o (subst (λ (os : List Offered). Contains os (offer_on n q o.place)) (sym t.settled) o.listed)
+    pub settled_on : (n : ℕ) (side : Side) (stream : ℕ) (q : Prefix) → WasSettledOn w n side stream q → WasSettledOn x n side stream q
+    settled_on n side stream q o =
+        on_stream w.settled x.settled n side stream q o (subst (λ (os : List Offered). Contains os (offer_on n q o.place)) (sym t.settled) o.listed)
 
     -- of another life
-    pub listed_on : (n : ℕ) (seat : Seat) (side : Side) (stream : ℕ) (q : Prefix) → n ≢ life → IsOfferedOn w n seat side stream q → IsOfferedOn x n seat side stream q
-    listed_on n seat side stream q apart o = on_stream w.offers x.offers n seat seat side stream q refl o (t.others_offered (offer_on n q o.place) o.listed apart)
+    pub listed_on : (n : ℕ) (side : Side) (stream : ℕ) (q : Prefix) → n ≢ life → IsOfferedOn w n side stream q → IsOfferedOn x n side stream q
+    listed_on n side stream q apart o = on_stream w.offers x.offers n side stream q o (t.others_offered (offer_on n q o.place) o.listed apart)
 
     -- of the life that ends, where it is still listed there
-    pub left_on : (side : Side) (stream : ℕ) (q : Prefix) → IsListed (retired t.seat.agent).pool q → IsOfferedOn w life t.seat side stream q → IsOfferedOn x life left side stream q
-    left_on side stream q listed o = on_stream w.offers x.offers (present_life w node) t.seat left side stream q refl o (t.stays_offered (offer_on (present_life w node) q o.place) o.listed listed)
+    pub left_on : (side : Side) (stream : ℕ) (q : Prefix) → IsListed (retired t.seat.agent).pool q → IsOfferedOn w life side stream q → IsOfferedOn x life side stream q
+    left_on side stream q listed o = on_stream w.offers x.offers (present_life w node) side stream q o (t.stays_offered (offer_on (present_life w node) q o.place) o.listed listed)
 
     in_doubt : (q : Prefix) → Contains t.seat.agent.pool.doubtful q → Contains (retired t.seat.agent).pool.doubtful q
     in_doubt q doubtful = subst (λ ps. Contains ps q) (sym retires.doubtful) doubtful
@@ -294,27 +294,27 @@ module _ (l : Grounds) (s : Setting) (w x : WorldState) (node : ℕ) (image : Po
     same_presence m z here apart = restart_still_present s w node image x t lives m z here apart
 
     offered : (n : ℕ) (seat : Seat) → seat_at x n ≡ Some seat → is_present x n ≡ true → (side : Side) (h : Handle) (q : Prefix) → OffersIn seat.agent side h q
-        → (z : SessionState) → IsOwnSession seat.core.sessions h side z → IsOfferedOn x n seat side z.stream q
+        → (z : SessionState) → IsOwnSession seat.core.sessions h side z → IsOfferedOn x n side z.stream q
     offered n seat found present side h q o z own = by_life
-        (λ m y. is_present x m ≡ true → OffersIn y.agent side h q → IsOwnSession y.core.sessions h side z → IsOfferedOn x m y side z.stream q)
+        (λ m y. is_present x m ≡ true → OffersIn y.agent side h q → IsOwnSession y.core.sessions h side z → IsOfferedOn x m side z.stream q)
         (λ is there mine. absurd (true≢false (sym is ∙ restart_ends s w node image x t lives))) (λ is there mine. absurd (none_offered side h q there))
-        (λ m y apart here is there mine. listed_on m y side z.stream q apart (k.known.offered m y here (sym (same_presence m y here apart) ∙ is) side h q there z mine)) n seat found present o own
+        (λ m y apart here is there mine. listed_on m side z.stream q apart (k.known.offered m y here (sym (same_presence m y here apart) ∙ is) side h q there z mine)) n seat found present o own
 
     gone : (n : ℕ) (seat : Seat) → seat_at x n ≡ Some seat → (z : SessionState) (q : Prefix) → Contains seat.core.sessions.gone z → z.owner ≡ 1 → IsOpenOffer z.view q
-        → (IsOfferedOn x n seat z.view.role z.stream q × Contains seat.agent.pool.doubtful q) ⊎ WasSettledOn x n seat z.view.role z.stream q
+        → (IsOfferedOn x n z.view.role z.stream q × Contains seat.agent.pool.doubtful q) ⊎ WasSettledOn x n z.view.role z.stream q
     gone n seat found z q was own is_open = by_life
-        (λ m y. Contains y.core.sessions.gone z → (IsOfferedOn x m y z.view.role z.stream q × Contains y.agent.pool.doubtful q) ⊎ WasSettledOn x m y z.view.role z.stream q)
+        (λ m y. Contains y.core.sessions.gone z → (IsOfferedOn x m z.view.role z.stream q × Contains y.agent.pool.doubtful q) ⊎ WasSettledOn x m z.view.role z.stream q)
         (λ there. mine (k.known.gone (present_life w node) t.seat t.here z q there own is_open)) (λ there. absurd (none_gone_there z there))
         (λ m y apart here there. theirs m y apart (k.known.gone m y here z q there own is_open)) n seat found was where
-          mine : (IsOfferedOn w life t.seat z.view.role z.stream q × Contains t.seat.agent.pool.doubtful q) ⊎ WasSettledOn w life t.seat z.view.role z.stream q
-              → (IsOfferedOn x life left z.view.role z.stream q × Contains (retired t.seat.agent).pool.doubtful q) ⊎ WasSettledOn x life left z.view.role z.stream q
+          mine : (IsOfferedOn w life z.view.role z.stream q × Contains t.seat.agent.pool.doubtful q) ⊎ WasSettledOn w life z.view.role z.stream q
+              → (IsOfferedOn x life z.view.role z.stream q × Contains (retired t.seat.agent).pool.doubtful q) ⊎ WasSettledOn x life z.view.role z.stream q
           mine (inl o) = inl (left_on z.view.role z.stream q (inr (in_doubt q o.1)) o.0, in_doubt q o.1)
-          mine (inr o) = inr (settled_on (present_life w node) t.seat left z.view.role z.stream q refl o)
+          mine (inr o) = inr (settled_on (present_life w node) z.view.role z.stream q o)
 
-          theirs : (m : ℕ) (y : Seat) → m ≢ life → (IsOfferedOn w m y z.view.role z.stream q × Contains y.agent.pool.doubtful q) ⊎ WasSettledOn w m y z.view.role z.stream q
-              → (IsOfferedOn x m y z.view.role z.stream q × Contains y.agent.pool.doubtful q) ⊎ WasSettledOn x m y z.view.role z.stream q
-          theirs m y apart (inl o) = inl (listed_on m y z.view.role z.stream q apart o.0, o.1)
-          theirs m y apart (inr o) = inr (settled_on m y y z.view.role z.stream q refl o)
+          theirs : (m : ℕ) (y : Seat) → m ≢ life → (IsOfferedOn w m z.view.role z.stream q × Contains y.agent.pool.doubtful q) ⊎ WasSettledOn w m z.view.role z.stream q
+              → (IsOfferedOn x m z.view.role z.stream q × Contains y.agent.pool.doubtful q) ⊎ WasSettledOn x m z.view.role z.stream q
+          theirs m y apart (inl o) = inl (listed_on m z.view.role z.stream q apart o.0, o.1)
+          theirs m y apart (inr o) = inr (settled_on m z.view.role z.stream q o)
 
     -- ---- what is open in the life that ends
 
@@ -329,30 +329,30 @@ module _ (l : Grounds) (s : Setting) (w x : WorldState) (node : ℕ) (image : Po
             let same : e.0.session ≡ z = one_session t.seat.core.sessions j e.0.session z e.0.own.at (subst (λ u. IsOwnSession t.seat.core.sessions u side z) handle mine).at in
             deciding_closed z.view q (live_legal l s w r (present_life w node) t.seat t.here z q own is_open place at) (subst (λ (u : SessionState). IsDeciding u.view) same e.1) is_open
 
-      left_open : IsOfferedOn x life left z.view.role z.stream q ⊎ WasSettledOn x life left z.view.role z.stream q
+      left_open : IsOfferedOn x life z.view.role z.stream q ⊎ WasSettledOn x life z.view.role z.stream q
       left_open = by_gave (live_gave l s w r (present_life w node) t.seat t.here z q own is_open place at) where
-        by_gave : Gave t.seat z q → IsOfferedOn x life left z.view.role z.stream q ⊎ WasSettledOn x life left z.view.role z.stream q
+        by_gave : Gave t.seat z q → IsOfferedOn x life z.view.role z.stream q ⊎ WasSettledOn x life z.view.role z.stream q
         by_gave (by_offer side h offers mine) =
             inl
-            (subst (λ i. IsOfferedOn x life left i z.stream q) (sym mine.role)
+            (subst (λ i. IsOfferedOn x life i z.stream q) (sym mine.role)
             (left_on side z.stream q (inl ((retires.reserved was_kept q).1 (offers_reserved t.seat.agent side h q was_kept offers, not_to_offer side h offers mine)))
             (k.known.offered (present_life w node) t.seat t.here life_present side h q offers z mine)))
         by_gave (by_gone gone mine) = by_case (k.known.gone (present_life w node) t.seat t.here z q gone mine is_open) where
-          by_case : (IsOfferedOn w life t.seat z.view.role z.stream q × Contains t.seat.agent.pool.doubtful q) ⊎ WasSettledOn w life t.seat z.view.role z.stream q
-              → IsOfferedOn x life left z.view.role z.stream q ⊎ WasSettledOn x life left z.view.role z.stream q
+          by_case : (IsOfferedOn w life z.view.role z.stream q × Contains t.seat.agent.pool.doubtful q) ⊎ WasSettledOn w life z.view.role z.stream q
+              → IsOfferedOn x life z.view.role z.stream q ⊎ WasSettledOn x life z.view.role z.stream q
           by_case (inl o) = inl (left_on z.view.role z.stream q (inr (in_doubt q o.1)) o.0)
-          by_case (inr o) = inr (settled_on (present_life w node) t.seat left z.view.role z.stream q refl o)
+          by_case (inr o) = inr (settled_on (present_life w node) z.view.role z.stream q o)
 
     ended_open : (n : ℕ) (seat : Seat) → seat_at x n ≡ Some seat → is_present x n ≡ false → (place : ℕ) (z : SessionState) (q : Prefix) → IsAt seat.core.sessions place z → z.owner ≡ 1 → IsOpenOffer z.view q
-        → IsOfferedOn x n seat z.view.role z.stream q ⊎ WasSettledOn x n seat z.view.role z.stream q
+        → IsOfferedOn x n z.view.role z.stream q ⊎ WasSettledOn x n z.view.role z.stream q
     ended_open n seat found past place z q at own is_open = by_life
-        (λ m y. is_present x m ≡ false → IsAt y.core.sessions place z → IsOfferedOn x m y z.view.role z.stream q ⊎ WasSettledOn x m y z.view.role z.stream q)
+        (λ m y. is_present x m ≡ false → IsAt y.core.sessions place z → IsOfferedOn x m z.view.role z.stream q ⊎ WasSettledOn x m z.view.role z.stream q)
         (λ is there. left_open place z q there own is_open) (λ is there. absurd (none_live_there place z there))
-        (λ m y apart here is there. theirs m y apart (k.known.ended m y here (sym (same_presence m y here apart) ∙ is) place z q there own is_open)) n seat found past at where
-          theirs : (m : ℕ) (y : Seat) → m ≢ life → IsOfferedOn w m y z.view.role z.stream q ⊎ WasSettledOn w m y z.view.role z.stream q
-              → IsOfferedOn x m y z.view.role z.stream q ⊎ WasSettledOn x m y z.view.role z.stream q
-          theirs m y apart (inl o) = inl (listed_on m y z.view.role z.stream q apart o)
-          theirs m y apart (inr o) = inr (settled_on m y y z.view.role z.stream q refl o)
+        (λ m y apart here is there. theirs m apart (k.known.ended m y here (sym (same_presence m y here apart) ∙ is) place z q there own is_open)) n seat found past at where
+          theirs : (m : ℕ) → m ≢ life → IsOfferedOn w m z.view.role z.stream q ⊎ WasSettledOn w m z.view.role z.stream q
+              → IsOfferedOn x m z.view.role z.stream q ⊎ WasSettledOn x m z.view.role z.stream q
+          theirs m apart (inl o) = inl (listed_on m z.view.role z.stream q apart o)
+          theirs m apart (inr o) = inr (settled_on m z.view.role z.stream q o)
 
     offers_known : OffersAreKnown x
     offers_known = record {

@@ -34,7 +34,6 @@ use Rattle.grasp_model_network.specs.Offers.{is_offer_of, put_offer}
 use Rattle.grasp_model_network.specs.Runs.{IsReached}
 use Rattle.grasp_model_network.specs.Sending.{seat_with}
 use Rattle.grasp_model_network.specs.Setting.{Setting}
-use Rattle.grasp_model_network.specs.Streams.{StreamEnd}
 use Rattle.grasp_model_network.specs.Telling.{with_return, after_telling}
 use Rattle.grasp_model_network.specs.World.{Seat, Offered, WorldState, seat_at, with_seat, end_of, is_present, member_of, present_life}
 use Rattle.grasp_model_network.specs.declared.event.Event.{Event}
@@ -64,7 +63,7 @@ pub record Takes (w x : WorldState) : Type 0 where
   pub agent : AgentState
   pub here : seat_at w node ≡ Some seat
   pub present : is_present w node ≡ true
-  pub there : seat_at x node ≡ Some (seat_with seat seat.core agent)
+  pub there : seat_at x node ≡ Some (seat_with seat.core agent)
   pub others : (n : ℕ) → n ≢ node → seat_at x n ≡ seat_at w n
   pub offers : x.offers ≡ put_offer w.offers node prefix None
   pub settled : x.settled ≡ w.settled
@@ -101,21 +100,21 @@ holder_present s w lives node seat here a free = by_test (is_present w node) ref
 module _ (l : Grounds) (s : Setting) (w : WorldState) (r : IsReached s w) (e : Event) (x : WorldState) (t : Tells s w e x) where
   -- the agent of the telling's node is this one now
   abbrev IsAfter : AgentState → Type 0
-  IsAfter b = x ≡ record (with_seat w t.telling.node (seat_with t.seat t.seat.core b)) { offers = w.offers }
+  IsAfter b = x ≡ record (with_seat w t.telling.node (seat_with t.seat.core b)) { offers = w.offers }
 
-  quiet : (b : AgentState) → SeatGoesOn t.seat (seat_with t.seat t.seat.core b) → IsAfter b → WorldGoesOn w x
+  quiet : (b : AgentState) → SeatGoesOn t.seat (seat_with t.seat.core b) → IsAfter b → WorldGoesOn w x
   quiet b goes after =
-      goes_on_from w x t.telling.node t.seat (seat_with t.seat t.seat.core b) (one_least w x (one_agent s w e x t)) t.here
+      goes_on_from w x t.telling.node t.seat (seat_with t.seat.core b) (one_least w x (one_agent s w e x t)) t.here
       (ap (λ (y : WorldState). y.seats) after) (record { offers = ap (λ (y : WorldState). y.offers) after; settled = ap (λ (y : WorldState). y.settled) after })
       (ap (λ (y : WorldState). y.lives) after) (same_stay w.streams x.streams (ap (λ (y : WorldState). y.streams) after)) goes
 
   by_want : (n longest : ℕ) (peer : Locator) (z : Result (Unit {0}) WantFault) → IsAfter (after_want t.seat.agent n longest peer z) → WorldGoesOn w x
   by_want n longest peer (Ok done) after =
-      quiet (after_want t.seat.agent n longest peer (Ok done)) (record { life = refl; pool = refl; giving = refl; back = refl; sessions = same_sessions t.seat.core.sessions }) after
+      quiet (after_want t.seat.agent n longest peer (Ok done)) (record { pool = refl; giving = refl; back = refl; sessions = same_sessions t.seat.core.sessions }) after
   by_want n longest peer (Err fault) after = quiet t.seat.agent (seat_still t.seat) after
 
   by_return : (p : Prefix) (peer : Locator) → IsPrefix p.address p.length → (z : Result (Unit {0}) ReturnFault) → return_reply t.seat.agent p ≡ z
-      → x ≡ record (with_seat w t.telling.node (seat_with t.seat t.seat.core (after_return t.seat.agent p peer z))) { offers = with_return w.offers t.telling.node p z } → WorldGoesOn w x ⊎ Takes w x
+      → x ≡ record (with_seat w t.telling.node (seat_with t.seat.core (after_return t.seat.agent p peer z))) { offers = with_return w.offers t.telling.node p z } → WorldGoesOn w x ⊎ Takes w x
   by_return p peer valid (Err fault) is after = inl (quiet t.seat.agent (seat_still t.seat) after)
   by_return p peer valid (Ok done) is after = inr (record {
     node = t.telling.node;
@@ -124,9 +123,9 @@ module _ (l : Grounds) (s : Setting) (w : WorldState) (r : IsReached s w) (e : E
     agent = after_return t.seat.agent p peer (Ok done);
     here = t.here;
     present = holder_present s w (l.lives s w r) t.telling.node t.seat t.here p.address (taken.was p.address (first_in p));
-    there = ap (λ (y : WorldState). seat_at y t.telling.node) after ∙ put_here w.seats t.telling.node t.seat (seat_with t.seat t.seat.core (after_return t.seat.agent p peer (Ok done))) t.here;
+    there = ap (λ (y : WorldState). seat_at y t.telling.node) after ∙ put_here w.seats t.telling.node t.seat (seat_with t.seat.core (after_return t.seat.agent p peer (Ok done))) t.here;
     others = λ n apart. ap (λ (y : WorldState). seat_at y n) after
-        ∙ put_elsewhere w.seats t.telling.node n (seat_with t.seat t.seat.core (after_return t.seat.agent p peer (Ok done))) (one_least w x (one_agent s w e x t)) apart;
+        ∙ put_elsewhere w.seats t.telling.node n (seat_with t.seat.core (after_return t.seat.agent p peer (Ok done))) (one_least w x (one_agent s w e x t)) apart;
     offers = ap (λ (y : WorldState). y.offers) after;
     settled = ap (λ (y : WorldState). y.settled) after;
     lives = ap (λ (y : WorldState). y.lives) after;
@@ -150,7 +149,7 @@ module _ (l : Grounds) (s : Setting) (w : WorldState) (r : IsReached s w) (e : E
 
 module _ (l : Grounds) (s : Setting) (w x : WorldState) (r : IsReached s w) (t : Takes w x) where
   abbrev pub new : Seat
-  new = seat_with t.seat t.seat.core t.agent
+  new = seat_with t.seat.core t.agent
 
   -- its addresses were held
   pub was_held : (a : ℕ) → span_of t.prefix a → Holds w t.node a
@@ -180,19 +179,19 @@ module _ (l : Grounds) (s : Setting) (w x : WorldState) (r : IsReached s w) (t :
   differs : (o : Offered) → is_offer_of t.node t.prefix o ≡ false → o.node ≡ t.node → o.prefix ≡ t.prefix → ⊥
   differs o none e f = true≢false (sym (offer_of t.node t.prefix o e f) ∙ none)
 
-  pub still_on : (n : ℕ) (seat now : Seat) (side : Side) (stream : ℕ) (p : Prefix) → end_of n seat stream ≡ end_of n now stream → (n ≡ t.node → p ≡ t.prefix → ⊥) → IsOfferedOn w n seat side stream p
-      → IsOfferedOn x n now side stream p
-  still_on n seat now side stream p same none o = record {
+  pub still_on : (n : ℕ) (side : Side) (stream : ℕ) (p : Prefix) → (n ≡ t.node → p ≡ t.prefix → ⊥) → IsOfferedOn w n side stream p
+      → IsOfferedOn x n side stream p
+  still_on n side stream p none o = record {
     place = o.place;
-    at = subst (λ (e : StreamEnd). IsEndAt x.streams o.place side e) same (subst (λ ts. IsEndAt ts o.place side (end_of n seat stream)) (sym t.streams) o.at);
+    at = subst (λ ts. IsEndAt ts o.place side (end_of n stream)) (sym t.streams) o.at;
     listed = still_listed (offer_on n p o.place) o.listed none;
   }
 
   -- what was settled is so
-  pub settled_on : (n : ℕ) (seat now : Seat) (side : Side) (stream : ℕ) (p : Prefix) → end_of n seat stream ≡ end_of n now stream → WasSettledOn w n seat side stream p → WasSettledOn x n now side stream p
-  settled_on n seat now side stream p same o = record {
+  pub settled_on : (n : ℕ) (side : Side) (stream : ℕ) (p : Prefix) → WasSettledOn w n side stream p → WasSettledOn x n side stream p
+  settled_on n side stream p o = record {
     place = o.place;
-    at = subst (λ (e : StreamEnd). IsEndAt x.streams o.place side e) same (subst (λ ts. IsEndAt ts o.place side (end_of n seat stream)) (sym t.streams) o.at);
+    at = subst (λ ts. IsEndAt ts o.place side (end_of n stream)) (sym t.streams) o.at;
     listed = subst (λ (os : List Offered). Contains os (offer_on n p o.place)) (sym t.settled) o.listed;
   }
 
@@ -259,9 +258,9 @@ module _ (l : Grounds) (s : Setting) (w x : WorldState) (r : IsReached s w) (t :
     carried o (inr a) past = absurd (true≢false (sym t.present ∙ (sym (ap (λ (z : Offered). is_present w z.node) a) ∙ (sym (same_presence o.node) ∙ past))))
 
     -- an offer of the node is listed for its stream still
-    own_on : (side : Side) (stream : ℕ) (p : Prefix) → IsOfferedOn w t.node t.seat side stream p → IsOfferedOn x t.node new side stream p
+    own_on : (side : Side) (stream : ℕ) (p : Prefix) → IsOfferedOn w t.node side stream p → IsOfferedOn x t.node side stream p
     own_on side stream p o =
-        still_on t.node t.seat new side stream p refl (λ e f. was_unlisted (subst (λ q. IsListed t.seat.agent.pool q) f (listed_there w k.known t.node t.seat t.here (offer_on t.node p o.place) o.listed refl))) o
+        still_on t.node side stream p (λ e f. was_unlisted (subst (λ q. IsListed t.seat.agent.pool q) f (listed_there w k.known t.node t.seat t.here (offer_on t.node p o.place) o.listed refl))) o
 
     unsent : (n : ℕ) (seat : Seat) → seat_at x n ≡ Some seat → (p : Prefix) → unsent_of seat.agent.back ≡ Some p → Contains x.offers (offer_unsent n p)
     unsent n seat found p = by_node (λ m y. unsent_of y.agent.back ≡ Some p → Contains x.offers (offer_unsent m p))
@@ -274,37 +273,37 @@ module _ (l : Grounds) (s : Setting) (w x : WorldState) (r : IsReached s w) (t :
     own_offers side h p (in_return near z is on e) = absurd (not_requested t.agent.back z h t.prefix t.unsent is on)
 
     offered : (n : ℕ) (seat : Seat) → seat_at x n ≡ Some seat → is_present x n ≡ true → (side : Side) (h : Handle) (p : Prefix) → OffersIn seat.agent side h p
-        → (z : SessionState) → IsOwnSession seat.core.sessions h side z → IsOfferedOn x n seat side z.stream p
+        → (z : SessionState) → IsOwnSession seat.core.sessions h side z → IsOfferedOn x n side z.stream p
     offered n seat found present side h p o z own = by_node
-        (λ m y. is_present x m ≡ true → OffersIn y.agent side h p → IsOwnSession y.core.sessions h side z → IsOfferedOn x m y side z.stream p)
+        (λ m y. is_present x m ≡ true → OffersIn y.agent side h p → IsOwnSession y.core.sessions h side z → IsOfferedOn x m side z.stream p)
         (λ is there mine. own_on side z.stream p (k.known.offered t.node t.seat t.here t.present side h p (own_offers side h p there) z mine))
-        (λ m y apart here is there mine. still_on m y y side z.stream p refl (λ g f. apart g) (k.known.offered m y here (sym (same_presence m) ∙ is) side h p there z mine)) n seat found present o own
+        (λ m y apart here is there mine. still_on m side z.stream p (λ g f. apart g) (k.known.offered m y here (sym (same_presence m) ∙ is) side h p there z mine)) n seat found present o own
 
     gone : (n : ℕ) (seat : Seat) → seat_at x n ≡ Some seat → (z : SessionState) (p : Prefix) → Contains seat.core.sessions.gone z → z.owner ≡ 1 → IsOpenOffer z.view p
-        → (IsOfferedOn x n seat z.view.role z.stream p × Contains seat.agent.pool.doubtful p) ⊎ WasSettledOn x n seat z.view.role z.stream p
+        → (IsOfferedOn x n z.view.role z.stream p × Contains seat.agent.pool.doubtful p) ⊎ WasSettledOn x n z.view.role z.stream p
     gone n seat found z p was own is_open = by_node
-        (λ m y. Contains y.core.sessions.gone z → (IsOfferedOn x m y z.view.role z.stream p × Contains y.agent.pool.doubtful p) ⊎ WasSettledOn x m y z.view.role z.stream p)
+        (λ m y. Contains y.core.sessions.gone z → (IsOfferedOn x m z.view.role z.stream p × Contains y.agent.pool.doubtful p) ⊎ WasSettledOn x m z.view.role z.stream p)
         (λ there. mine (k.known.gone t.node t.seat t.here z p there own is_open)) (λ m y apart here there. theirs m y apart (k.known.gone m y here z p there own is_open)) n seat found was where
-          mine : (IsOfferedOn w t.node t.seat z.view.role z.stream p × Contains t.seat.agent.pool.doubtful p) ⊎ WasSettledOn w t.node t.seat z.view.role z.stream p
-              → (IsOfferedOn x t.node new z.view.role z.stream p × Contains t.agent.pool.doubtful p) ⊎ WasSettledOn x t.node new z.view.role z.stream p
+          mine : (IsOfferedOn w t.node z.view.role z.stream p × Contains t.seat.agent.pool.doubtful p) ⊎ WasSettledOn w t.node z.view.role z.stream p
+              → (IsOfferedOn x t.node z.view.role z.stream p × Contains t.agent.pool.doubtful p) ⊎ WasSettledOn x t.node z.view.role z.stream p
           mine (inl o) = inl (own_on z.view.role z.stream p o.0, subst (λ ps. Contains ps p) (sym t.reserves.doubtful) o.1)
-          mine (inr o) = inr (settled_on t.node t.seat new z.view.role z.stream p refl o)
+          mine (inr o) = inr (settled_on t.node z.view.role z.stream p o)
 
-          theirs : (m : ℕ) (y : Seat) → m ≢ t.node → (IsOfferedOn w m y z.view.role z.stream p × Contains y.agent.pool.doubtful p) ⊎ WasSettledOn w m y z.view.role z.stream p
-              → (IsOfferedOn x m y z.view.role z.stream p × Contains y.agent.pool.doubtful p) ⊎ WasSettledOn x m y z.view.role z.stream p
-          theirs m y apart (inl o) = inl (still_on m y y z.view.role z.stream p refl (λ g f. apart g) o.0, o.1)
-          theirs m y apart (inr o) = inr (settled_on m y y z.view.role z.stream p refl o)
+          theirs : (m : ℕ) (y : Seat) → m ≢ t.node → (IsOfferedOn w m z.view.role z.stream p × Contains y.agent.pool.doubtful p) ⊎ WasSettledOn w m z.view.role z.stream p
+              → (IsOfferedOn x m z.view.role z.stream p × Contains y.agent.pool.doubtful p) ⊎ WasSettledOn x m z.view.role z.stream p
+          theirs m y apart (inl o) = inl (still_on m z.view.role z.stream p (λ g f. apart g) o.0, o.1)
+          theirs m y apart (inr o) = inr (settled_on m z.view.role z.stream p o)
 
     ended : (n : ℕ) (seat : Seat) → seat_at x n ≡ Some seat → is_present x n ≡ false → (place : ℕ) (z : SessionState) (p : Prefix) → IsAt seat.core.sessions place z → z.owner ≡ 1 → IsOpenOffer z.view p
-        → IsOfferedOn x n seat z.view.role z.stream p ⊎ WasSettledOn x n seat z.view.role z.stream p
+        → IsOfferedOn x n z.view.role z.stream p ⊎ WasSettledOn x n z.view.role z.stream p
     ended n seat found past place z p at own is_open = by_node
-        (λ m y. is_present x m ≡ false → IsAt y.core.sessions place z → IsOfferedOn x m y z.view.role z.stream p ⊎ WasSettledOn x m y z.view.role z.stream p)
+        (λ m y. is_present x m ≡ false → IsAt y.core.sessions place z → IsOfferedOn x m z.view.role z.stream p ⊎ WasSettledOn x m z.view.role z.stream p)
         (λ is there. absurd (true≢false (sym t.present ∙ (sym (same_presence t.node) ∙ is))))
-        (λ m y apart here is there. theirs m y apart (k.known.ended m y here (sym (same_presence m) ∙ is) place z p there own is_open)) n seat found past at where
-          theirs : (m : ℕ) (y : Seat) → m ≢ t.node → IsOfferedOn w m y z.view.role z.stream p ⊎ WasSettledOn w m y z.view.role z.stream p
-              → IsOfferedOn x m y z.view.role z.stream p ⊎ WasSettledOn x m y z.view.role z.stream p
-          theirs m y apart (inl o) = inl (still_on m y y z.view.role z.stream p refl (λ g f. apart g) o)
-          theirs m y apart (inr o) = inr (settled_on m y y z.view.role z.stream p refl o)
+        (λ m y apart here is there. theirs m apart (k.known.ended m y here (sym (same_presence m) ∙ is) place z p there own is_open)) n seat found past at where
+          theirs : (m : ℕ) → m ≢ t.node → IsOfferedOn w m z.view.role z.stream p ⊎ WasSettledOn w m z.view.role z.stream p
+              → IsOfferedOn x m z.view.role z.stream p ⊎ WasSettledOn x m z.view.role z.stream p
+          theirs m apart (inl o) = inl (still_on m z.view.role z.stream p (λ g f. apart g) o)
+          theirs m apart (inr o) = inr (settled_on m z.view.role z.stream p o)
 
     offers_known : NothingHappens w x → OffersAreKnown x
     offers_known none = record {

@@ -59,7 +59,7 @@ module _ (l : Grounds) (s : Setting) (w : WorldState) (r : IsReached s w) (k : O
       at = same_Some z.at e (sym z.ends ∙ giver.end_is)
 
       there : IsSessionAt w e z.session
-      there = session_there l.ready s w r place giver.talk giver.stands (offering_side giver.talk) e giver.end_is z.session (ap (λ k. session_of_end w (Some k)) (sym at) ∙ z.found)
+      there = session_there w e z.session (ap (λ k. session_of_end w (Some k)) (sym at) ∙ z.found)
 
       session_open : IsOpenOffer z.session.view p
       session_open = subst (λ u. IsOpenOffer u p) (sym z.view) is_open
@@ -70,7 +70,7 @@ module _ (l : Grounds) (s : Setting) (w : WorldState) (r : IsReached s w) (k : O
           (gave_there l s w r e (offering_side giver.talk) place giver.talk giver.stands giver.negotiation z.session there p
           (subst (λ u. IsView (offering_side giver.talk) giver.talk.said u) (sym z.view) view) name session_open)
 
-      by_known : IsKnownOn w e.node there.seat z.session p → IsSetAside w (present_life w (member_of w e.node)) p ⊎ Contains w.settled (offer_on e.node p place)
+      by_known : IsKnownOn w e.node z.session p → IsSetAside w (present_life w (member_of w e.node)) p ⊎ Contains w.settled (offer_on e.node p place)
       by_known (inl o) = inl (listed_aside e.node p o.place o.listed)
       by_known (inr o) = inr
           (subst (λ n. Contains w.settled (offer_on e.node p n))

@@ -21,7 +21,6 @@ use Rattle.grasp_laws_network.specs.Authorities.{Holds, Reserves, Keeps, MayAcce
 use Rattle.grasp_model_network.specs.Runs.{IsReached}
 use Rattle.grasp_model_network.specs.Sending.{seat_with}
 use Rattle.grasp_model_network.specs.Setting.{Setting, numbered}
-use Rattle.grasp_model_network.specs.Streams.{StreamEnd}
 use Rattle.grasp_model_network.specs.World.{Seat, Offered, WorldState, seat_at, end_of, is_present, member_of, present_life}
 use Rattle.grasp_laws_agents.specs.Giving.{IsOpenOffer, IsOwnSession, OffersIn}
 use Rattle.grasp_laws_prefixes.proofs.Asked.{placed_still}
@@ -44,7 +43,7 @@ module _ (l : Grounds) (s : Setting) (w x : WorldState) (node : ℕ) (p : Prefix
   life = present_life w node
 
   abbrev pub new : Seat
-  new = seat_with t.seat t.seat.core (after_settling t.seat.agent p)
+  new = seat_with t.seat.core (after_settling t.seat.agent p)
 
   pub settles : Settles t.seat.agent.pool (after_settle t.seat.agent.pool p) p
   settles = settle_means t.seat.agent.pool p (l.kept s w r (present_life w node) t.seat t.here).pool t.doubtful
@@ -164,33 +163,33 @@ module _ (l : Grounds) (s : Setting) (w x : WorldState) (node : ℕ) (p : Prefix
       by_case (inr e) = absurd (none-some t.place (sym (ap (λ (z : Offered). z.talk) e) ∙ t.on))
 
     -- an offer in a session is listed for its stream, and isn't the settled one; or it is that
-    on_stream : (os us : List Offered) (n : ℕ) (seat now : Seat) (side : Side) (stream : ℕ) (q : Prefix) → end_of n seat stream ≡ end_of n now stream → (o : IsOfferIn os w n seat side stream q)
-        → Contains us (offer_on n q o.place) → IsOfferIn us x n now side stream q
-    on_stream os us n seat now side stream q same o listed = record {
+    on_stream : (os us : List Offered) (n : ℕ) (side : Side) (stream : ℕ) (q : Prefix) → (o : IsOfferIn os w n side stream q)
+        → Contains us (offer_on n q o.place) → IsOfferIn us x n side stream q
+    on_stream os us n side stream q o listed = record {
       place = o.place;
-      at = subst (λ (e : StreamEnd). IsEndAt x.streams o.place side e) same (subst (λ ts. IsEndAt ts o.place side (end_of n seat stream)) (sym t.streams) o.at);
+      at = subst (λ ts. IsEndAt ts o.place side (end_of n stream)) (sym t.streams) o.at;
       listed = listed;
     }
 
     -- what was settled before is so
-    settled_on : (n : ℕ) (seat now : Seat) (side : Side) (stream : ℕ) (q : Prefix) → end_of n seat stream ≡ end_of n now stream → WasSettledOn w n seat side stream q → WasSettledOn x n now side stream q
-    settled_on n seat now side stream q same o = on_stream w.settled x.settled n seat now side stream q same o (t.stays_settled (offer_on n q o.place) o.listed)
+    settled_on : (n : ℕ) (side : Side) (stream : ℕ) (q : Prefix) → WasSettledOn w n side stream q → WasSettledOn x n side stream q
+    settled_on n side stream q o = on_stream w.settled x.settled n side stream q o (t.stays_settled (offer_on n q o.place) o.listed)
 
     -- and what was listed
-    listed_on : (n : ℕ) (seat now : Seat) (side : Side) (stream : ℕ) (q : Prefix) → end_of n seat stream ≡ end_of n now stream → (o : IsOfferedOn w n seat side stream q)
-        → (IsOfferedOn x n now side stream q × (¬ IsSameOffer t.offer (offer_on n q o.place))) ⊎ (WasSettledOn x n now side stream q × (t.offer ≡ offer_on n q o.place))
-    listed_on n seat now side stream q same o = by_case (still (offer_on n q o.place) o.listed) where
+    listed_on : (n : ℕ) (side : Side) (stream : ℕ) (q : Prefix) → (o : IsOfferedOn w n side stream q)
+        → (IsOfferedOn x n side stream q × (¬ IsSameOffer t.offer (offer_on n q o.place))) ⊎ (WasSettledOn x n side stream q × (t.offer ≡ offer_on n q o.place))
+    listed_on n side stream q o = by_case (still (offer_on n q o.place) o.listed) where
       by_case : IsStill (offer_on n q o.place)
-          → (IsOfferedOn x n now side stream q × (¬ IsSameOffer t.offer (offer_on n q o.place))) ⊎ (WasSettledOn x n now side stream q × (t.offer ≡ offer_on n q o.place))
-      by_case (inl stays) = inl (on_stream w.offers x.offers n seat now side stream q same o stays.0, stays.1)
-      by_case (inr e) = inr (on_stream w.offers x.settled n seat now side stream q same o (subst (λ z. Contains x.settled z) e t.joins), e)
+          → (IsOfferedOn x n side stream q × (¬ IsSameOffer t.offer (offer_on n q o.place))) ⊎ (WasSettledOn x n side stream q × (t.offer ≡ offer_on n q o.place))
+      by_case (inl stays) = inl (on_stream w.offers x.offers n side stream q o stays.0, stays.1)
+      by_case (inr e) = inr (on_stream w.offers x.settled n side stream q o (subst (λ z. Contains x.settled z) e t.joins), e)
 
-    pub known_on : (n : ℕ) (seat now : Seat) (side : Side) (stream : ℕ) (q : Prefix) → end_of n seat stream ≡ end_of n now stream → IsOfferedOn w n seat side stream q ⊎ WasSettledOn w n seat side stream q
-        → IsOfferedOn x n now side stream q ⊎ WasSettledOn x n now side stream q
-    known_on n seat now side stream q same (inr o) = inr (settled_on n seat now side stream q same o)
-    known_on n seat now side stream q same (inl o) = by_case (listed_on n seat now side stream q same o) where
-      by_case : (IsOfferedOn x n now side stream q × (¬ IsSameOffer t.offer (offer_on n q o.place))) ⊎ (WasSettledOn x n now side stream q × (t.offer ≡ offer_on n q o.place))
-          → IsOfferedOn x n now side stream q ⊎ WasSettledOn x n now side stream q
+    pub known_on : (n : ℕ) (side : Side) (stream : ℕ) (q : Prefix) → IsOfferedOn w n side stream q ⊎ WasSettledOn w n side stream q
+        → IsOfferedOn x n side stream q ⊎ WasSettledOn x n side stream q
+    known_on n side stream q (inr o) = inr (settled_on n side stream q o)
+    known_on n side stream q (inl o) = by_case (listed_on n side stream q o) where
+      by_case : (IsOfferedOn x n side stream q × (¬ IsSameOffer t.offer (offer_on n q o.place))) ⊎ (WasSettledOn x n side stream q × (t.offer ≡ offer_on n q o.place))
+          → IsOfferedOn x n side stream q ⊎ WasSettledOn x n side stream q
       by_case (inl a) = inl a.0
       by_case (inr a) = inr a.0
 
@@ -243,30 +242,30 @@ module _ (l : Grounds) (s : Setting) (w x : WorldState) (node : ℕ) (p : Prefix
 
     -- what is offered in a session isn't in doubt, and so it isn't what was settled
     offered : (n : ℕ) (seat : Seat) → seat_at x n ≡ Some seat → is_present x n ≡ true → (side : Side) (h : Handle) (q : Prefix) → OffersIn seat.agent side h q
-        → (z : SessionState) → IsOwnSession seat.core.sessions h side z → IsOfferedOn x n seat side z.stream q
+        → (z : SessionState) → IsOwnSession seat.core.sessions h side z → IsOfferedOn x n side z.stream q
     offered n seat found present side h q o z own = by_life
-        (λ m y. is_present x m ≡ true → OffersIn y.agent side h q → IsOwnSession y.core.sessions h side z → IsOfferedOn x m y side z.stream q) (λ is there mine. here_on there mine)
+        (λ m y. is_present x m ≡ true → OffersIn y.agent side h q → IsOwnSession y.core.sessions h side z → IsOfferedOn x m side z.stream q) (λ is there mine. here_on there mine)
         (λ m y apart here is there mine. there_on m y apart here (sym (same_presence m) ∙ is) there mine) n seat found present o own where
-          here_on : OffersIn (after_settling t.seat.agent p) side h q → IsOwnSession t.seat.core.sessions h side z → IsOfferedOn x life new side z.stream q
+          here_on : OffersIn (after_settling t.seat.agent p) side h q → IsOwnSession t.seat.core.sessions h side z → IsOfferedOn x life side z.stream q
           here_on there mine = by_case (k.known.offered (present_life w node) t.seat t.here life_present side h q offers z mine) where
             offers : OffersIn t.seat.agent side h q
             offers = same_offers t.seat.agent (after_settling t.seat.agent p) side h q refl refl there
 
-            by_case : IsOfferedOn w life t.seat side z.stream q → IsOfferedOn x life new side z.stream q
-            by_case i = from (listed_on (present_life w node) t.seat new side z.stream q refl i) where
-              from : (IsOfferedOn x life new side z.stream q × (¬ IsSameOffer t.offer (offer_on life q i.place))) ⊎ (WasSettledOn x life new side z.stream q × (t.offer ≡ offer_on life q i.place))
-                  → IsOfferedOn x life new side z.stream q
+            by_case : IsOfferedOn w life side z.stream q → IsOfferedOn x life side z.stream q
+            by_case i = from (listed_on (present_life w node) side z.stream q i) where
+              from : (IsOfferedOn x life side z.stream q × (¬ IsSameOffer t.offer (offer_on life q i.place))) ⊎ (WasSettledOn x life side z.stream q × (t.offer ≡ offer_on life q i.place))
+                  → IsOfferedOn x life side z.stream q
               from (inl a) = a.0
               from (inr a) =
                   absurd
                   ((l.kept s w r (present_life w node) t.seat t.here).pool.once q (offers_reserved t.seat.agent side h q (l.kept s w r (present_life w node) t.seat t.here) offers)
                   (subst (λ u. Contains t.seat.agent.pool.doubtful u) (sym t.is.prefix ∙ ap (λ (u : Offered). u.prefix) a.1) t.doubtful))
 
-          there_on : (m : ℕ) (y : Seat) → m ≢ life → seat_at w m ≡ Some y → is_present w m ≡ true → OffersIn y.agent side h q → IsOwnSession y.core.sessions h side z → IsOfferedOn x m y side z.stream q
+          there_on : (m : ℕ) (y : Seat) → m ≢ life → seat_at w m ≡ Some y → is_present w m ≡ true → OffersIn y.agent side h q → IsOwnSession y.core.sessions h side z → IsOfferedOn x m side z.stream q
           there_on m y apart here is there mine = by_case (k.known.offered m y here is side h q there z mine) where
-            by_case : IsOfferedOn w m y side z.stream q → IsOfferedOn x m y side z.stream q
-            by_case i = from (listed_on m y y side z.stream q refl i) where
-              from : (IsOfferedOn x m y side z.stream q × (¬ IsSameOffer t.offer (offer_on m q i.place))) ⊎ (WasSettledOn x m y side z.stream q × (t.offer ≡ offer_on m q i.place)) → IsOfferedOn x m y side z.stream q
+            by_case : IsOfferedOn w m side z.stream q → IsOfferedOn x m side z.stream q
+            by_case i = from (listed_on m side z.stream q i) where
+              from : (IsOfferedOn x m side z.stream q × (¬ IsSameOffer t.offer (offer_on m q i.place))) ⊎ (WasSettledOn x m side z.stream q × (t.offer ≡ offer_on m q i.place)) → IsOfferedOn x m side z.stream q
               from (inl a) = a.0
               from (inr a) =
                   absurd
@@ -275,34 +274,34 @@ module _ (l : Grounds) (s : Setting) (w x : WorldState) (node : ℕ) (p : Prefix
                   ∙ ap (λ n. present_life w n) (sym (ap (λ (u : Offered). member_of w u.node) a.1) ∙ t.is.member)))
 
     gone : (n : ℕ) (seat : Seat) → seat_at x n ≡ Some seat → (z : SessionState) (q : Prefix) → Contains seat.core.sessions.gone z → z.owner ≡ 1 → IsOpenOffer z.view q
-        → (IsOfferedOn x n seat z.view.role z.stream q × Contains seat.agent.pool.doubtful q) ⊎ WasSettledOn x n seat z.view.role z.stream q
+        → (IsOfferedOn x n z.view.role z.stream q × Contains seat.agent.pool.doubtful q) ⊎ WasSettledOn x n z.view.role z.stream q
     gone n seat found z q was own is_open = by_life
-        (λ m y. Contains y.core.sessions.gone z → (IsOfferedOn x m y z.view.role z.stream q × Contains y.agent.pool.doubtful q) ⊎ WasSettledOn x m y z.view.role z.stream q)
+        (λ m y. Contains y.core.sessions.gone z → (IsOfferedOn x m z.view.role z.stream q × Contains y.agent.pool.doubtful q) ⊎ WasSettledOn x m z.view.role z.stream q)
         (λ there. mine (k.known.gone (present_life w node) t.seat t.here z q there own is_open)) (λ m y apart here there. theirs m y (k.known.gone m y here z q there own is_open)) n seat found was where
-          mine : (IsOfferedOn w life t.seat z.view.role z.stream q × Contains t.seat.agent.pool.doubtful q) ⊎ WasSettledOn w life t.seat z.view.role z.stream q
-              → (IsOfferedOn x life new z.view.role z.stream q × Contains (after_settle t.seat.agent.pool p).doubtful q) ⊎ WasSettledOn x life new z.view.role z.stream q
-          mine (inr o) = inr (settled_on (present_life w node) t.seat new z.view.role z.stream q refl o)
-          mine (inl o) = from (listed_on (present_life w node) t.seat new z.view.role z.stream q refl o.0) where
-            from : (IsOfferedOn x life new z.view.role z.stream q × (¬ IsSameOffer t.offer (offer_on life q o.0.place))) ⊎ (WasSettledOn x life new z.view.role z.stream q × (t.offer ≡ offer_on life q o.0.place))
-                → (IsOfferedOn x life new z.view.role z.stream q × Contains (after_settle t.seat.agent.pool p).doubtful q) ⊎ WasSettledOn x life new z.view.role z.stream q
+          mine : (IsOfferedOn w life z.view.role z.stream q × Contains t.seat.agent.pool.doubtful q) ⊎ WasSettledOn w life z.view.role z.stream q
+              → (IsOfferedOn x life z.view.role z.stream q × Contains (after_settle t.seat.agent.pool p).doubtful q) ⊎ WasSettledOn x life z.view.role z.stream q
+          mine (inr o) = inr (settled_on (present_life w node) z.view.role z.stream q o)
+          mine (inl o) = from (listed_on (present_life w node) z.view.role z.stream q o.0) where
+            from : (IsOfferedOn x life z.view.role z.stream q × (¬ IsSameOffer t.offer (offer_on life q o.0.place))) ⊎ (WasSettledOn x life z.view.role z.stream q × (t.offer ≡ offer_on life q o.0.place))
+                → (IsOfferedOn x life z.view.role z.stream q × Contains (after_settle t.seat.agent.pool p).doubtful q) ⊎ WasSettledOn x life z.view.role z.stream q
             from (inl a) = inl (a.0, (settles.doubtful q).1 (o.1, another (offer_on (present_life w node) q o.0.place) o.0.listed a.1 life_own))
             from (inr a) = inr a.0
 
-          theirs : (m : ℕ) (y : Seat) → (IsOfferedOn w m y z.view.role z.stream q × Contains y.agent.pool.doubtful q) ⊎ WasSettledOn w m y z.view.role z.stream q
-              → (IsOfferedOn x m y z.view.role z.stream q × Contains y.agent.pool.doubtful q) ⊎ WasSettledOn x m y z.view.role z.stream q
-          theirs m y (inr o) = inr (settled_on m y y z.view.role z.stream q refl o)
-          theirs m y (inl o) = from (listed_on m y y z.view.role z.stream q refl o.0) where
-            from : (IsOfferedOn x m y z.view.role z.stream q × (¬ IsSameOffer t.offer (offer_on m q o.0.place))) ⊎ (WasSettledOn x m y z.view.role z.stream q × (t.offer ≡ offer_on m q o.0.place))
-                → (IsOfferedOn x m y z.view.role z.stream q × Contains y.agent.pool.doubtful q) ⊎ WasSettledOn x m y z.view.role z.stream q
+          theirs : (m : ℕ) (y : Seat) → (IsOfferedOn w m z.view.role z.stream q × Contains y.agent.pool.doubtful q) ⊎ WasSettledOn w m z.view.role z.stream q
+              → (IsOfferedOn x m z.view.role z.stream q × Contains y.agent.pool.doubtful q) ⊎ WasSettledOn x m z.view.role z.stream q
+          theirs m y (inr o) = inr (settled_on m z.view.role z.stream q o)
+          theirs m y (inl o) = from (listed_on m z.view.role z.stream q o.0) where
+            from : (IsOfferedOn x m z.view.role z.stream q × (¬ IsSameOffer t.offer (offer_on m q o.0.place))) ⊎ (WasSettledOn x m z.view.role z.stream q × (t.offer ≡ offer_on m q o.0.place))
+                → (IsOfferedOn x m z.view.role z.stream q × Contains y.agent.pool.doubtful q) ⊎ WasSettledOn x m z.view.role z.stream q
             from (inl a) = inl (a.0, o.1)
             from (inr a) = inr a.0
 
     ended : (n : ℕ) (seat : Seat) → seat_at x n ≡ Some seat → is_present x n ≡ false → (place : ℕ) (z : SessionState) (q : Prefix) → IsAt seat.core.sessions place z → z.owner ≡ 1 → IsOpenOffer z.view q
-        → IsOfferedOn x n seat z.view.role z.stream q ⊎ WasSettledOn x n seat z.view.role z.stream q
+        → IsOfferedOn x n z.view.role z.stream q ⊎ WasSettledOn x n z.view.role z.stream q
     ended n seat found past place z q at own is_open = by_life
-        (λ m y. is_present x m ≡ false → IsAt y.core.sessions place z → IsOfferedOn x m y z.view.role z.stream q ⊎ WasSettledOn x m y z.view.role z.stream q)
+        (λ m y. is_present x m ≡ false → IsAt y.core.sessions place z → IsOfferedOn x m z.view.role z.stream q ⊎ WasSettledOn x m z.view.role z.stream q)
         (λ is there. absurd (true≢false (sym life_present ∙ (sym (same_presence (present_life w node)) ∙ is))))
-        (λ m y apart here is there. known_on m y y z.view.role z.stream q refl (k.known.ended m y here (sym (same_presence m) ∙ is) place z q there own is_open)) n seat found past at
+        (λ m y apart here is there. known_on m z.view.role z.stream q (k.known.ended m y here (sym (same_presence m) ∙ is) place z q there own is_open)) n seat found past at
 
     settled : (o : Offered) → Contains x.settled o → StaysUnaccepted x o
     settled o h = by_case (t.was_settled o h) where

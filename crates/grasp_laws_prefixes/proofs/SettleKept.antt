@@ -15,7 +15,7 @@ use Rattle.grasp_model_network.specs.Runs.{IsReached}
 use Rattle.grasp_model_network.specs.Sending.{seat_with}
 use Rattle.grasp_model_network.specs.Setting.{Setting}
 use Rattle.grasp_model_network.specs.Streams.{StreamState}
-use Rattle.grasp_model_network.specs.World.{Seat, Offered, WorldState, seat_at, life_of, present_life}
+use Rattle.grasp_model_network.specs.World.{Seat, Offered, WorldState, seat_at, present_life}
 use Rattle.grasp_laws_prefixes.proofs.EntryOffers.{same_offers}
 use Rattle.grasp_laws_prefixes.proofs.Keeping.{GivesIt, by_offer, in_doubt, IsGivenAt, IsGiven, IsUnsentAt, IsKeptIn, same_heard}
 use Rattle.grasp_laws_prefixes.proofs.Safe.{stand}
@@ -30,7 +30,7 @@ module _ (l : Grounds) (s : Setting) (w x : WorldState) (node : ℕ) (p : Prefix
   life = present_life w node
 
   abbrev new : Seat
-  new = seat_with t.seat t.seat.core (after_settling t.seat.agent p)
+  new = seat_with t.seat.core (after_settling t.seat.agent p)
 
   known : PrefixesStand w
   known = stand l s w r
@@ -47,9 +47,9 @@ module _ (l : Grounds) (s : Setting) (w x : WorldState) (node : ℕ) (p : Prefix
     by_node (inr apart) = inl (n, record { seat = h.seat; here = t.others n apart ∙ h.here; free = h.free })
 
   -- an offer that isn't the settled one stands where its session does
-  given_by : (a n : ℕ) (seat z : Seat) (h : IsGivenAt w a n seat) → seat_at x n ≡ Some z → life_of z ≡ life_of seat → WasMade z.core.sessions h.session → GivesIt z h.side h.session h.prefix
+  given_by : (a n : ℕ) (seat z : Seat) (h : IsGivenAt w a n seat) → seat_at x n ≡ Some z → WasMade z.core.sessions h.session → GivesIt z h.side h.session h.prefix
       → Contains x.offers (offer_on n h.prefix h.place) → IsKeptIn x a
-  given_by a n seat z h there same made gives listed = inr (inl (record {
+  given_by a n seat z h there made gives listed = inr (inl (record {
     node = n;
     seat = z;
     here = there;
@@ -58,7 +58,7 @@ module _ (l : Grounds) (s : Setting) (w x : WorldState) (node : ℕ) (p : Prefix
       place = h.place;
       session = h.session;
       prefix = h.prefix;
-      giver = giver_on w x (all_stay l s w x node p r t) n seat z same h.side h.place h.session h.session (same_heard h.session) made h.giver;
+      giver = giver_on w x (all_stay l s w x node p r t) n seat z h.side h.place h.session h.session (same_heard h.session) made h.giver;
       gives = gives;
       span = h.span;
       listed = listed;
@@ -80,13 +80,13 @@ module _ (l : Grounds) (s : Setting) (w x : WorldState) (node : ℕ) (p : Prefix
   own_given : (a : ℕ) → IsGivenAt w a life t.seat → IsKeptIn x a
   own_given a h = by_case (still l s w x node p r t known (offer_on (present_life w node) h.prefix h.place) h.listed) where
     by_case : IsStill l s w x node p r t known (offer_on life h.prefix h.place) → IsKeptIn x a
-    by_case (inl stays) = given_by a (present_life w node) t.seat new h t.own refl h.giver.made (own_gives h.side h.session h.prefix h.place h.listed stays.1 h.gives) stays.0
+    by_case (inl stays) = given_by a (present_life w node) t.seat new h t.own h.giver.made (own_gives h.side h.session h.prefix h.place h.listed stays.1 h.gives) stays.0
     by_case (inr e) = settled_held a (present_life w node) h.place h.prefix h.span e
 
   other_given : (a n : ℕ) (seat : Seat) → seat_at w n ≡ Some seat → (n ≡ life → ⊥) → IsGivenAt w a n seat → IsKeptIn x a
   other_given a n seat here apart h = by_case (still l s w x node p r t known (offer_on n h.prefix h.place) h.listed) where
     by_case : IsStill l s w x node p r t known (offer_on n h.prefix h.place) → IsKeptIn x a
-    by_case (inl stays) = given_by a n seat seat h (t.others n apart ∙ here) refl h.giver.made h.gives stays.0
+    by_case (inl stays) = given_by a n seat seat h (t.others n apart ∙ here) h.giver.made h.gives stays.0
     by_case (inr e) = settled_held a n h.place h.prefix h.span e
 
   given_still : (a : ℕ) → IsGiven w a → IsKeptIn x a

@@ -10,7 +10,7 @@ use Rattle.grasp_laws_prefixes.specs.Settled.{SettledAreHeld}
 
 pub settled_are_held : Grounds → SettledAreHeld
 settled_are_held l s w r node p d a span = record {
-  seat = seat_with t.seat t.seat.core (after_settling t.seat.agent p);
+  seat = seat_with t.seat.core (after_settling t.seat.agent p);
   here = t.own;
   free = ((settles l s w (after_settle w node p) node p r t).free a).1 (inr span);
 } where

@@ -12,7 +12,7 @@ use Rattle.grasp_types.specs.declared.session.Handle.{Handle}
 use Rattle.grasp_laws_network.specs.Authorities.{Keeps}
 use Rattle.grasp_model_network.specs.Settling.{NeverAccepts}
 use Rattle.grasp_model_network.specs.Streams.{StreamEnd, StreamState, end_at}
-use Rattle.grasp_model_network.specs.World.{Seat, Offered, WorldState, seat_at, end_of, life_of, present_life, member_of, is_present}
+use Rattle.grasp_model_network.specs.World.{Seat, Offered, WorldState, seat_at, end_of, present_life, member_of, is_present}
 use Rattle.grasp_laws_agents.specs.GoingOn.{OwnGoOn}
 use Rattle.grasp_laws_agents.specs.Giving.{IsOpenOffer, IsOwnSession, OffersIn}
 use Rattle.grasp_laws_negotiation.specs.Negotiations.{IsNegotiation}
@@ -32,18 +32,18 @@ pub record IsEndAt (ts : List StreamState) (place : ℕ) (side : Side) (e : Stre
   pub end_is : end_at talk side ≡ Some e
 
 -- an offer of the prefix for this stream of the life, of which the life is this side, is among these
-pub record IsOfferIn (os : List Offered) (w : WorldState) (node : ℕ) (seat : Seat) (side : Side) (stream : ℕ) (p : Prefix) : Type 0 where
+pub record IsOfferIn (os : List Offered) (w : WorldState) (node : ℕ) (side : Side) (stream : ℕ) (p : Prefix) : Type 0 where
   pub place : ℕ
-  pub at : IsEndAt w.streams place side (end_of node seat stream)
+  pub at : IsEndAt w.streams place side (end_of node stream)
   pub listed : Contains os (offer_on node p place)
 
 -- it is listed
-abbrev pub IsOfferedOn : WorldState → ℕ → Seat → Side → ℕ → Prefix → Type 0
-IsOfferedOn w node seat side stream p = IsOfferIn w.offers w node seat side stream p
+abbrev pub IsOfferedOn : WorldState → ℕ → Side → ℕ → Prefix → Type 0
+IsOfferedOn w node side stream p = IsOfferIn w.offers w node side stream p
 
 -- it was settled
-abbrev pub WasSettledOn : WorldState → ℕ → Seat → Side → ℕ → Prefix → Type 0
-WasSettledOn w node seat side stream p = IsOfferIn w.settled w node seat side stream p
+abbrev pub WasSettledOn : WorldState → ℕ → Side → ℕ → Prefix → Type 0
+WasSettledOn w node side stream p = IsOfferIn w.settled w node side stream p
 
 -- the offer is for a stream of the network on which a negotiation of PrefixManager was requested
 pub record IsPlaced (ts : List StreamState) (o : Offered) : Type 0 where
@@ -72,11 +72,11 @@ pub record OffersAreKnown (w : WorldState) : Type 0 where
   pub carried : (o : Offered) → Contains w.offers o → is_present w o.node ≡ false → HasInDoubt w (present_life w (member_of w o.node)) o.prefix
   pub unsent : (node : ℕ) (seat : Seat) → seat_at w node ≡ Some seat → (p : Prefix) → unsent_of seat.agent.back ≡ Some p → Contains w.offers (offer_unsent node p)
   pub offered : (node : ℕ) (seat : Seat) → seat_at w node ≡ Some seat → is_present w node ≡ true → (side : Side) (h : Handle) (p : Prefix) → OffersIn seat.agent side h p
-      → (x : SessionState) → IsOwnSession seat.core.sessions h side x → IsOfferedOn w node seat side x.stream p
+      → (x : SessionState) → IsOwnSession seat.core.sessions h side x → IsOfferedOn w node side x.stream p
   pub gone : (node : ℕ) (seat : Seat) → seat_at w node ≡ Some seat → (x : SessionState) (p : Prefix) → Contains seat.core.sessions.gone x → x.owner ≡ 1 → IsOpenOffer x.view p
-      → (IsOfferedOn w node seat x.view.role x.stream p × Contains seat.agent.pool.doubtful p) ⊎ WasSettledOn w node seat x.view.role x.stream p
+      → (IsOfferedOn w node x.view.role x.stream p × Contains seat.agent.pool.doubtful p) ⊎ WasSettledOn w node x.view.role x.stream p
   pub ended : (node : ℕ) (seat : Seat) → seat_at w node ≡ Some seat → is_present w node ≡ false → (place : ℕ) (x : SessionState) (p : Prefix) → IsAt seat.core.sessions place x → x.owner ≡ 1
-      → IsOpenOffer x.view p → IsOfferedOn w node seat x.view.role x.stream p ⊎ WasSettledOn w node seat x.view.role x.stream p
+      → IsOpenOffer x.view p → IsOfferedOn w node x.view.role x.stream p ⊎ WasSettledOn w node x.view.role x.stream p
   pub settled : (o : Offered) → Contains w.settled o → StaysUnaccepted w o
 
 -- all that is kept
@@ -100,7 +100,6 @@ AllStay ts us = (place : ℕ) (t : StreamState) → slice_get ts place ≡ Some 
 
 -- the agent has what it had, and its sessions go on
 pub record SeatGoesOn (seat new : Seat) : Type 0 where
-  pub life : life_of new ≡ life_of seat
   pub pool : new.agent.pool ≡ seat.agent.pool
   pub giving : new.agent.giving ≡ seat.agent.giving
   pub back : new.agent.back ≡ seat.agent.back

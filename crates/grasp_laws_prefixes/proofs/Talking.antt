@@ -21,14 +21,14 @@ use Rattle.grasp_model_network.specs.Runs.{IsReached}
 use Rattle.grasp_model_network.specs.Setting.{Setting}
 use Rattle.grasp_model_network.specs.Streams.{StreamEnd, StreamState, end_at}
 use Rattle.grasp_laws_network.specs.Views.{has_ended, stage_by, session_of_end, view_at, view_in}
-use Rattle.grasp_model_network.specs.World.{Seat, WorldState, seat_at, end_of, life_of}
+use Rattle.grasp_model_network.specs.World.{Seat, WorldState, seat_at, end_of}
 use Rattle.grasp_laws_agents.proofs.GoingOn.{heard_alike}
 use Rattle.grasp_laws_agents.specs.Giving.{IsOffering}
 use Rattle.grasp_laws_agents.specs.GoingOn.{OnlyHeard}
 use Rattle.grasp_laws_negotiation.specs.Streams.{HasItsStream}
 use Rattle.grasp_laws_delivery.proofs.Worlds.{reached_in_order}
 use Rattle.grasp_laws_negotiation.specs.Negotiations.{IsNegotiation, IsTalk}
-use Rattle.grasp_laws_prefixes.proofs.OwnSessions.{IsSessionAt, session_there, IsTalkOf, talk_of, end_with}
+use Rattle.grasp_laws_prefixes.proofs.OwnSessions.{IsSessionAt, session_there, IsTalkOf, talk_of}
 use Rattle.grasp_laws_prefixes.proofs.Places.{end_stays, same_place}
 use Rattle.grasp_laws_prefixes.proofs.Speech.{same_requested}
 use Rattle.grasp_laws_prefixes.proofs.Standing.{IsEndAt, Stays, AllStay, WorldGoesOn}
@@ -56,12 +56,12 @@ pub record IsGiver (w : WorldState) (node : ℕ) (seat : Seat) (side : Side) (pl
   pub kind : x.view.kind ≡ Negotiation
   pub name : (request_of x.view).name ≡ objective_name
   pub offering : IsOffering x.view
-  pub at : IsEndAt w.streams place side (end_of node seat x.stream)
+  pub at : IsEndAt w.streams place side (end_of node x.stream)
 
 -- where its end has only heard, a session is one still
-pub giver_on : (w y : WorldState) → AllStay w.streams y.streams → (node : ℕ) (seat new : Seat) → life_of new ≡ life_of seat → (side : Side) (place : ℕ) (x z : SessionState) → OnlyHeard x z
+pub giver_on : (w y : WorldState) → AllStay w.streams y.streams → (node : ℕ) (seat new : Seat) → (side : Side) (place : ℕ) (x z : SessionState) → OnlyHeard x z
     → WasMade new.core.sessions z → IsGiver w node seat side place x → IsGiver y node new side place z
-giver_on w y stay node seat new life side place x z over made g =
+giver_on w y stay node seat new side place x z over made g =
     let alike = heard_alike x.view z.view over.view in
     record {
       made = made;
@@ -70,8 +70,8 @@ giver_on w y stay node seat new life side place x z over made g =
       kind = alike.kind ∙ g.kind;
       name = ap (λ (o : Objective). o.name) alike.request ∙ g.name;
       offering = ap (λ (o : Objective). offering_by (is_return o.value)) alike.request ∙ (g.offering ∙ sym alike.role);
-      at = subst (λ e. IsEndAt y.streams place side e) (sym (ap (λ n. end_with node n z.stream) life ∙ ap (λ n. end_with node (life_of seat) n) over.stream))
-          (end_stays w.streams y.streams stay place side (end_of node seat x.stream) g.at);
+      at = subst (λ e. IsEndAt y.streams place side e) (sym (ap (end_of node) over.stream))
+          (end_stays w.streams y.streams stay place side (end_of node x.stream) g.at);
     }
 
 -- the negotiation for which the offer is listed, as this session at its offering side saw it
@@ -87,9 +87,9 @@ pub record GivesAt (w : WorldState) (place : ℕ) (side : Side) (x : SessionStat
 module _ (l : Grounds) (s : Setting) (w : WorldState) (r : IsReached s w) where
   pub gives_at : (node : ℕ) (seat : Seat) → seat_at w node ≡ Some seat → (side : Side) (place : ℕ) (x : SessionState) → IsGiver w node seat side place x → GivesAt w place side x
   gives_at node seat here side place x g = from (talk_of l.streams s w r node seat here x g.made side g.role g.kind) where
-    from : IsTalkOf w node seat x side → GivesAt w place side x
+    from : IsTalkOf w node x side → GivesAt w place side x
     from t =
-        let same : t.place ≡ place = same_place l.ready s w r (end_of node seat x.stream) t.place place t.talk g.at.talk side side t.stands t.ends g.at.stands g.at.end_is in
+        let same : t.place ≡ place = same_place l.ready s w r (end_of node x.stream) t.place place t.talk g.at.talk side side t.stands t.ends g.at.stands g.at.end_is in
         let view : IsView side t.talk.said x.view = (l.known s w r t.place t.talk t.stands t.negotiation).views side x.view t.saw in
         record {
           talk = t.talk;
@@ -109,7 +109,7 @@ pub record AcceptedBy (w : WorldState) (side : Side) (t : StreamState) : Type 0 
   pub seat : Seat
   pub here : seat_at w node ≡ Some seat
   pub stream : ℕ
-  pub ends : end_at t side ≡ Some (end_of node seat stream)
+  pub ends : end_at t side ≡ Some (end_of node stream)
   pub accepted : HasAccepted seat.core.sessions side stream
 
 -- where no agent did anything, one that has accepted had so before
@@ -121,7 +121,7 @@ quiet_accepted w y g side u a =
       seat = b.0;
       here = b.1;
       stream = a.stream;
-      ends = a.ends ∙ ap (λ n. Some (end_with a.node n a.stream)) b.2.life;
+      ends = a.ends;
       accepted = accepted_back b.0.core.sessions a.seat.core.sessions b.2.sessions side a.stream a.accepted;
     }
 
@@ -135,7 +135,7 @@ module _ (l : Grounds) (s : Setting) (w : WorldState) (r : IsReached s w) (place
 
   module _ (e : StreamEnd) (at : end_at t side ≡ Some e) (x : SessionState) (found : session_of_end w (Some e) ≡ Some x) where
     there : IsSessionAt w e x
-    there = session_there l.ready s w r place t stands side e at x found
+    there = session_there w e x found
 
     view : IsView side t.said x.view
     view = (l.known s w r place t stands negotiation).views side x.view (ap (λ o. view_in (session_of_end w o)) at ∙ ap view_in found)
@@ -207,15 +207,15 @@ open_or l s y q place side z now = by_test (is_accepted now.talk) refl where
 module _ (l : Grounds) (s : Setting) (w y : WorldState) (r : IsReached s w) (q : IsReached s y) (stay : AllStay w.streams y.streams) where
   -- the stream at this place, where a session of agent 1 had accepted at this side of it, was at this place
   pub stream_was : (place : ℕ) (u : StreamState) → slice_get y.streams place ≡ Some u → (side : Side) → (a : AcceptedBy w side u)
-      → (k : HasItsStream w a.node a.seat a.accepted.session) × (k.side ≡ side) × (k.place ≡ place)
+      → (k : HasItsStream w a.node a.accepted.session) × (k.side ≡ side) × (k.place ≡ place)
   stream_was place u now side a = from (l.streams.each s w r a.node a.seat a.here a.accepted.session a.accepted.made) where
-    from : HasItsStream w a.node a.seat a.accepted.session → (k : HasItsStream w a.node a.seat a.accepted.session) × (k.side ≡ side) × (k.place ≡ place)
+    from : HasItsStream w a.node a.accepted.session → (k : HasItsStream w a.node a.accepted.session) × (k.side ≡ side) × (k.place ≡ place)
     from k =
         let later : Stays y.streams k.place k.talk = stay k.place k.talk k.stands in (
           k,
           sym k.role ∙ a.accepted.role,
-          same_place l.ready s y q (end_of a.node a.seat a.accepted.session.stream) k.place place later.after u k.side side later.stands
-              (later.ends k.side (end_of a.node a.seat a.accepted.session.stream) k.ends) now (a.ends ∙ ap (λ n. Some (end_of a.node a.seat n)) (sym a.accepted.on)),
+          same_place l.ready s y q (end_of a.node a.accepted.session.stream) k.place place later.after u k.side side later.stands
+              (later.ends k.side (end_of a.node a.accepted.session.stream) k.ends) now (a.ends ∙ ap (λ n. Some (end_of a.node n)) (sym a.accepted.on)),
         )
 
   -- and there the side had accepted

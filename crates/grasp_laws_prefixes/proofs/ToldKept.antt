@@ -20,7 +20,7 @@ use Rattle.grasp_model_network.specs.Runs.{IsReached}
 use Rattle.grasp_model_network.specs.Sending.{seat_with}
 use Rattle.grasp_model_network.specs.Setting.{Setting}
 use Rattle.grasp_model_network.specs.Streams.{StreamState}
-use Rattle.grasp_model_network.specs.World.{Seat, Offered, WorldState, seat_at, life_of}
+use Rattle.grasp_model_network.specs.World.{Seat, Offered, WorldState, seat_at}
 use Rattle.grasp_model_network.specs.declared.event.Event.{Event}
 use Rattle.grasp_laws_agents.specs.Giving.{OffersIn, in_entry, in_return}
 use Rattle.grasp_laws_prefixes.proofs.AgentPools.{span_tells}
@@ -45,7 +45,7 @@ told_back a (agent.replied z) v other is = absurd other
 
 module _ (s : Setting) (w y : WorldState) (e : Event) (t : Tells s w e y) where
   abbrev told_seat : Seat
-  told_seat = seat_with t.seat t.seat.core (after_event t.seat.agent t.telling.what)
+  told_seat = seat_with t.seat.core (after_event t.seat.agent t.telling.what)
 
   back_stays : (v : Return) (n : ℕ) (seat z : Seat) → seat_at w n ≡ Some seat → seat_at y n ≡ Some z → seat.agent.back ≡ Some v → z.agent.back ≡ Some v
   back_stays v n seat z here there = each_node w y t.telling.node told_seat now others (λ m x. (u : Seat) → seat_at w m ≡ Some u → u.agent.back ≡ Some v → x.agent.back ≡ Some v)
@@ -61,7 +61,7 @@ module _ (s : Setting) (w y : WorldState) (e : Event) (t : Tells s w e y) where
 
 module _ (l : Grounds) (s : Setting) (w y : WorldState) (r : IsReached s w) (e : Event) (t : Tells s w e y) (g : Takes w y) where
   abbrev new : Seat
-  new = seat_with g.seat g.seat.core g.agent
+  new = seat_with g.seat.core g.agent
 
   -- what a node held it holds, or its node is to return it now
   held_taken : (n a : ℕ) → Holds w n a → IsKeptIn y a
@@ -78,8 +78,8 @@ module _ (l : Grounds) (s : Setting) (w y : WorldState) (r : IsReached s w) (e :
 
   -- an offer of another prefix, or of another node, stands where its session and its prefix do
   module _ (a n : ℕ) (seat : Seat) (h : IsGivenAt w a n seat) where
-    given_by : (z : Seat) → seat_at y n ≡ Some z → life_of z ≡ life_of seat → WasMade z.core.sessions h.session → GivesIt z h.side h.session h.prefix → (n ≡ g.node → h.prefix ≡ g.prefix → ⊥) → IsKeptIn y a
-    given_by z there life made gives differ = inr (inl (record {
+    given_by : (z : Seat) → seat_at y n ≡ Some z → WasMade z.core.sessions h.session → GivesIt z h.side h.session h.prefix → (n ≡ g.node → h.prefix ≡ g.prefix → ⊥) → IsKeptIn y a
+    given_by z there made gives differ = inr (inl (record {
       node = n;
       seat = z;
       here = there;
@@ -88,7 +88,7 @@ module _ (l : Grounds) (s : Setting) (w y : WorldState) (r : IsReached s w) (e :
         place = h.place;
         session = h.session;
         prefix = h.prefix;
-        giver = giver_on w y (same_stay w.streams y.streams g.streams) n seat z life h.side h.place h.session h.session (same_heard h.session) made h.giver;
+        giver = giver_on w y (same_stay w.streams y.streams g.streams) n seat z h.side h.place h.session h.session (same_heard h.session) made h.giver;
         gives = gives;
         span = h.span;
         listed = subst (λ (os : List Offered). Contains os (offer_on n h.prefix h.place)) (sym g.offers)
@@ -98,7 +98,7 @@ module _ (l : Grounds) (s : Setting) (w y : WorldState) (r : IsReached s w) (e :
     }))
 
   own_given : (a : ℕ) → IsGivenAt w a g.node g.seat → IsKeptIn y a
-  own_given a h = given_by a g.node g.seat h new g.there refl h.giver.made (still h.gives) (λ same. differs) where
+  own_given a h = given_by a g.node g.seat h new g.there h.giver.made (still h.gives) (λ same. differs) where
     offers_still : (k : Handle) → OffersIn g.seat.agent h.side k h.prefix → OffersIn g.agent h.side k h.prefix
     offers_still k (in_entry far place f at on offer) = in_entry far place f (ap (λ (gs : List Giving). slice_get gs place) g.giving ∙ at) on offer
     offers_still k (in_return near v is on same) = absurd (not_requested g.agent.back v k g.prefix g.unsent (back_stays s w y e t v g.node g.seat new g.here g.there is) on)
@@ -115,7 +115,7 @@ module _ (l : Grounds) (s : Setting) (w y : WorldState) (r : IsReached s w) (e :
   given_taken : (a : ℕ) → IsGiven w a → IsKeptIn y a
   given_taken a h = by_node (cases_eq h.node g.node) where
     by_node : (h.node ≡ g.node) ⊎ (h.node ≡ g.node → ⊥) → IsKeptIn y a
-    by_node (inr apart) = given_by a h.node h.seat h.given h.seat (g.others h.node apart ∙ h.here) refl h.given.giver.made h.given.gives (λ same. absurd (apart same))
+    by_node (inr apart) = given_by a h.node h.seat h.given h.seat (g.others h.node apart ∙ h.here) h.given.giver.made h.given.gives (λ same. absurd (apart same))
     by_node (inl same) =
         own_given a (subst (λ z. IsGivenAt w a g.node z) (same_Some h.seat g.seat (sym h.here ∙ (ap (λ n. seat_at w n) same ∙ g.here))) (subst (λ n. IsGivenAt w a n h.seat) same h.given))
 

@@ -23,20 +23,20 @@ pub record HasStream (w : WorldState) (o : Offered) : Type 0 where
   pub stands : slice_get w.streams place ≡ Some talk
 
 -- an offer of this prefix by this life, for the stream that has this number there, and of which the life is this side, is among these
-pub record IsOfferAmong (offers : List Offered) (w : WorldState) (life : ℕ) (seat : Seat) (side : Side) (stream : ℕ) (p : Prefix) : Type 0 where
+pub record IsOfferAmong (offers : List Offered) (w : WorldState) (life : ℕ) (side : Side) (stream : ℕ) (p : Prefix) : Type 0 where
   pub place : ℕ
   pub talk : StreamState
   pub stands : slice_get w.streams place ≡ Some talk
-  pub ends : end_at talk side ≡ Some (end_of life seat stream)
+  pub ends : end_at talk side ≡ Some (end_of life stream)
   pub listed : Contains offers (offer_on life p place)
 
 -- it is listed
-abbrev pub IsListedFor : WorldState → ℕ → Seat → Side → ℕ → Prefix → Type 0
-IsListedFor w life seat side stream p = IsOfferAmong w.offers w life seat side stream p
+abbrev pub IsListedFor : WorldState → ℕ → Side → ℕ → Prefix → Type 0
+IsListedFor w life side stream p = IsOfferAmong w.offers w life side stream p
 
 -- it was settled
-abbrev pub WasSettledFor : WorldState → ℕ → Seat → Side → ℕ → Prefix → Type 0
-WasSettledFor w life seat side stream p = IsOfferAmong w.settled w life seat side stream p
+abbrev pub WasSettledFor : WorldState → ℕ → Side → ℕ → Prefix → Type 0
+WasSettledFor w life side stream p = IsOfferAmong w.settled w life side stream p
 
 -- this life has the prefix in doubt
 pub record HasInDoubt (w : WorldState) (life : ℕ) (p : Prefix) : Type 0 where
@@ -66,10 +66,10 @@ pub record OffersStand (w : WorldState) : Type 0 where
       → Contains w.offers (record { node = node; prefix = p; talk = None })
   -- what the agent of a present life offers in a session is listed for the stream of that session
   pub offered : (node : ℕ) (seat : Seat) → seat_at w node ≡ Some seat → is_present w node ≡ true → (side : Side) (h : Handle) (p : Prefix) → OffersIn seat.agent side h p
-      → (x : SessionState) → IsOwnSession seat.core.sessions h side x → IsListedFor w node seat side x.stream p
+      → (x : SessionState) → IsOwnSession seat.core.sessions h side x → IsListedFor w node side x.stream p
   -- an open offer of any session that was made for the agent, in any life, is listed for the stream of that session, or was settled
   pub open_offers : (life : ℕ) (seat : Seat) → seat_at w life ≡ Some seat → (x : SessionState) (p : Prefix) → WasMade seat.core.sessions x → x.owner ≡ 1
-      → IsOpenOffer x.view p → IsListedFor w life seat x.view.role x.stream p ⊎ WasSettledFor w life seat x.view.role x.stream p
+      → IsOpenOffer x.view p → IsListedFor w life x.view.role x.stream p ⊎ WasSettledFor w life x.view.role x.stream p
   -- what was settled is accepted never
   pub settled : (o : Offered) → Contains w.settled o → IsNeverAccepted w o
 

@@ -25,4 +25,4 @@ DeadAreFound = (s : Setting) (w : WorldState) → IsReached s w → (o : Offered
 -- what the agent of a life, present or ended, offers in a session is listed for the stream of that session, or was settled
 abbrev pub FormerOffersAreKnown : Type 0
 FormerOffersAreKnown = (s : Setting) (w : WorldState) → IsReached s w → (life : ℕ) (seat : Seat) → seat_at w life ≡ Some seat → (side : Side) (h : Handle) (p : Prefix) → OffersIn seat.agent side h p
-    → (x : SessionState) → IsOwnSession seat.core.sessions h side x → IsListedFor w life seat side x.stream p ⊎ WasSettledFor w life seat side x.stream p
+    → (x : SessionState) → IsOwnSession seat.core.sessions h side x → IsListedFor w life side x.stream p ⊎ WasSettledFor w life side x.stream p

@@ -109,7 +109,7 @@ module _ (ready : StreamsAreReady) (s : Setting) (w : WorldState) (r : IsReached
 
   arrived_stay : (k : ℕ) (hold : Bool) (v : Visit) (number : ℕ) (q : Reply) → Arrives s w k v → StreamsStay w.streams (arrived w v number q (stream_numbered w.streams k)).streams
   arrived_stay k hold v number q x =
-      subst (λ o. StreamsStay w.streams (arrived w v number q o).streams) (sym x.found) (opened_stay k hold (end_of v.node v.seat number) (arrival_by q) v x)
+      subst (λ o. StreamsStay w.streams (arrived w v number q o).streams) (sym x.found) (opened_stay k hold (end_of v.node number) (arrival_by q) v x)
 
   piece_stay : (k : ℕ) (to : Side) (count : ℕ) (o : Option Reached) → reached_side w k to ≡ o → StreamsStay w.streams (delivered w count o).streams
   piece_stay k to count None is = same_stay w.streams

@@ -106,21 +106,21 @@ more_stay ts more = record { each = λ place side t is e. (t, place_kept ts more
 
 -- ---- what is made
 
-made_stays : (node : ℕ) (seat : Seat) (ts : List StreamState) (q : Queued) → StreamsStay ts (having_made node seat ts q)
-made_stays node seat ts (datagram link to m) = same_stay ts
-made_stays node seat ts (dial stream to) = more_stay ts (fresh_stream (end_of node seat stream) to ∷ [])
-made_stays node seat ts (send stream m) = leaving_stays ts (end_of node seat stream) (with_said m) (said_leaves m)
+made_stays : (node : ℕ) (ts : List StreamState) (q : Queued) → StreamsStay ts (having_made node ts q)
+made_stays node ts (datagram link to m) = same_stay ts
+made_stays node ts (dial stream to) = more_stay ts (fresh_stream (end_of node stream) to ∷ [])
+made_stays node ts (send stream m) = leaving_stays ts (end_of node stream) (with_said m) (said_leaves m)
 
-all_made_stay : (node : ℕ) (seat : Seat) (qs : List Queued) (ts : List StreamState) → StreamsStay ts (streams_made node seat ts qs)
+all_made_stay : (node : ℕ) (qs : List Queued) (ts : List StreamState) → StreamsStay ts (streams_made node ts qs)
 unfolding streams_made
-all_made_stay node seat [] ts = same_stay ts
-all_made_stay node seat (q ∷ qs) ts =
-    stay_then ts (having_made node seat ts q) (streams_made node seat (having_made node seat ts q) qs) (made_stays node seat ts q) (all_made_stay node seat qs (having_made node seat ts q))
+all_made_stay node [] ts = same_stay ts
+all_made_stay node (q ∷ qs) ts =
+    stay_then ts (having_made node ts q) (streams_made node (having_made node ts q) qs) (made_stays node ts q) (all_made_stay node qs (having_made node ts q))
 
 pub stepped_stay : (w x : WorldState) (v : Visit) (core : NodeState) (agent : AgentState) → StreamsStay w.streams x.streams → StreamsStay w.streams (stepped x v core agent).streams
 unfolding stepped
 stepped_stay w x v core agent a =
-    stay_then w.streams x.streams (streams_made v.node v.seat x.streams (gained v.seat.core core)) a (all_made_stay v.node v.seat (gained v.seat.core core) x.streams)
+    stay_then w.streams x.streams (streams_made v.node x.streams (gained v.seat.core core)) a (all_made_stay v.node (gained v.seat.core core) x.streams)
 
 -- ---- what is sent
 
@@ -128,34 +128,34 @@ posted_stay : (w : WorldState) (m : Message) (route : Option Route) → StreamsS
 posted_stay w m None = same_stay w.streams
 posted_stay w m (Some route) = same_stay w.streams
 
-sent_stay : (s : Setting) (node : ℕ) (seat : Seat) (w : WorldState) (q : Queued) → StreamsStay w.streams (having_sent s node seat w q).streams
-sent_stay s node seat w (datagram link to m) = posted_stay w m (route_of s (member_of w node) link to)
-sent_stay s node seat w (dial stream to) = leaving_stays w.streams (end_of node seat stream) (with_number (w.dials + 1)) (number_leaves (w.dials + 1))
-sent_stay s node seat w (send stream m) = leaving_stays w.streams (end_of node seat stream) (with_sent m) (sent_leaves m)
+sent_stay : (s : Setting) (node : ℕ) (w : WorldState) (q : Queued) → StreamsStay w.streams (having_sent s node w q).streams
+sent_stay s node w (datagram link to m) = posted_stay w m (route_of s (member_of w node) link to)
+sent_stay s node w (dial stream to) = leaving_stays w.streams (end_of node stream) (with_number (w.dials + 1)) (number_leaves (w.dials + 1))
+sent_stay s node w (send stream m) = leaving_stays w.streams (end_of node stream) (with_sent m) (sent_leaves m)
 
-all_sent_stay : (s : Setting) (node : ℕ) (seat : Seat) (qs : List Queued) (w : WorldState) → StreamsStay w.streams (fold (having_sent s node seat) w qs).streams
-all_sent_stay s node seat [] w = same_stay w.streams
-all_sent_stay s node seat (q ∷ qs) w =
-    stay_then w.streams (having_sent s node seat w q).streams (fold (having_sent s node seat) (having_sent s node seat w q) qs).streams (sent_stay s node seat w q)
-    (all_sent_stay s node seat qs (having_sent s node seat w q))
+all_sent_stay : (s : Setting) (node : ℕ) (qs : List Queued) (w : WorldState) → StreamsStay w.streams (fold (having_sent s node) w qs).streams
+all_sent_stay s node [] w = same_stay w.streams
+all_sent_stay s node (q ∷ qs) w =
+    stay_then w.streams (having_sent s node w q).streams (fold (having_sent s node) (having_sent s node w q) qs).streams (sent_stay s node w q)
+    (all_sent_stay s node qs (having_sent s node w q))
 
-all_closed_stay : (node : ℕ) (seat : Seat) (streams : List ℕ) (w : WorldState) → StreamsStay w.streams (fold (having_closed node seat) w streams).streams
-all_closed_stay node seat [] w = same_stay w.streams
-all_closed_stay node seat (stream ∷ streams) w =
-    stay_then w.streams (having_closed node seat w stream).streams (fold (having_closed node seat) (having_closed node seat w stream) streams).streams
-    (leaving_stays w.streams (end_of node seat stream) with_ended ended_leaves) (all_closed_stay node seat streams (having_closed node seat w stream))
+all_closed_stay : (node : ℕ) (streams : List ℕ) (w : WorldState) → StreamsStay w.streams (fold (having_closed node) w streams).streams
+all_closed_stay node [] w = same_stay w.streams
+all_closed_stay node (stream ∷ streams) w =
+    stay_then w.streams (having_closed node w stream).streams (fold (having_closed node) (having_closed node w stream) streams).streams
+    (leaving_stays w.streams (end_of node stream) with_ended ended_leaves) (all_closed_stay node streams (having_closed node w stream))
 
-handed_stay : (s : Setting) (w : WorldState) (node : ℕ) (seat : Seat) (qs : List Queued) (streams : List ℕ) → StreamsStay w.streams (handed_over s w node seat qs streams).streams
+handed_stay : (s : Setting) (w : WorldState) (node : ℕ) (qs : List Queued) (streams : List ℕ) → StreamsStay w.streams (handed_over s w node qs streams).streams
 unfolding handed_over
-handed_stay s w node seat qs streams =
-    stay_then w.streams (fold (having_sent s node seat) w qs).streams (fold (having_closed node seat) (fold (having_sent s node seat) w qs) streams).streams (all_sent_stay s node seat qs w)
-    (all_closed_stay node seat streams (fold (having_sent s node seat) w qs))
+handed_stay s w node qs streams =
+    stay_then w.streams (fold (having_sent s node) w qs).streams (fold (having_closed node) (fold (having_sent s node) w qs) streams).streams (all_sent_stay s node qs w)
+    (all_closed_stay node streams (fold (having_sent s node) w qs))
 
 drained_by_stay : (s : Setting) (w : WorldState) (node max : ℕ) (o : Option Seat) → StreamsStay w.streams (drained_at s w node max o).streams
 drained_by_stay s w node max None = same_stay w.streams
 drained_by_stay s w node max (Some seat) = from (begin seat.core seat.core.reading) where
   from : (m : NodeState) → StreamsStay w.streams (drained_from s w node seat m max).streams
-  from m = handed_stay s (with_seat w node (seat_with seat (after_drain m max) seat.agent)) node seat (take max m.queue) (closes m max)
+  from m = handed_stay s (with_seat w node (seat_with (after_drain m max) seat.agent)) node (take max m.queue) (closes m max)
 
 pub drained_stay : (s : Setting) (w : WorldState) (node max : ℕ) → StreamsStay w.streams (drained s w node max).streams
 unfolding drained

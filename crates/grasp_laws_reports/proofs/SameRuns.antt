@@ -2,7 +2,7 @@
 use Rattle.std.proofs.Common.{◌≡◌, refl, sym, ap, ◌∙◌, subst, List, [], ◌∷◌}
 use Rattle.grasp_laws_network.proofs.Agreeing.{outcomes_agree}
 use Rattle.grasp_laws_network.proofs.Going.{reached_more}
-use Rattle.grasp_laws_network.proofs.GoodPlans.{scripts_are_good}
+use Rattle.grasp_laws_network.proofs.GoodPlans.{plan_reached}
 use Rattle.grasp_model_network.proofs.Facts.{first_reached}
 use Rattle.grasp_model_network.specs.Events.{Occurs, after_event}
 use Rattle.grasp_laws_network.specs.Keeping.{IsSameOutcome}
@@ -68,5 +68,5 @@ runs_agree = record {
   events = events_agree;
   onward = λ s w hs gs r a b e. runs_onward s hs gs w r a b e;
   runs = λ s hs gs good a b e. runs_onward s hs gs (first_world s) (first_reached s good) a b e;
-  scripts = λ p hs gs good a b e. runs_onward (script_setting p) hs gs (world_of p) (first_reached (script_setting p) (scripts_are_good p good)) a b e;
+  scripts = λ p hs gs good a b e. runs_onward (script_setting p) hs gs (world_of p) (plan_reached p good) a b e;
 }

@@ -58,7 +58,7 @@ use Rattle.grasp_laws_reports.specs.Outcomes.{IsOver}
 -- the network has this node after the step, in place of the one before it
 pub record IsPut (w x : WorldState) (v : Visit) (c : Choice) : Type 0 where
   pub agent : AgentState
-  pub seats : x.seats ≡ slice_set w.seats (v.node - 1) (seat_with v.seat c.after agent)
+  pub seats : x.seats ≡ slice_set w.seats (v.node - 1) (seat_with c.after agent)
 
 call_puts : (s : Setting) (w : WorldState) (e : Event) (v : Visit) (c : Choice) (asa : ℕ) (it : Call) → visit_of s w e ≡ Some v → v.input ≡ input.Api asa it → IsPut w (after_visit s w e v c) v c
 unfolding after_clock after_agent after_agent_call after_delivery after_arrival after_piece after_cut noted stepped
@@ -70,15 +70,15 @@ call_puts s w (event.Api node agent call hold) v c asa it is own = record { agen
 call_puts s w (event.Datagram index hold) v c asa it is own = record { agent = v.seat.agent; seats = refl }
 call_puts s w (event.Arrive stream hold) v c asa it is own = record {
   agent = v.seat.agent;
-  seats = ap (λ seats. slice_set seats (v.node - 1) (seat_with v.seat c.after v.seat.agent)) (arrived_keeps w v (s.arrives_as v.node stream) c.reply (stream_numbered w.streams stream));
+  seats = ap (λ seats. slice_set seats (v.node - 1) (seat_with c.after v.seat.agent)) (arrived_keeps w v (s.arrives_as v.node stream) c.reply (stream_numbered w.streams stream));
 }
 call_puts s w (event.Bytes stream far count hold) v c asa it is own = record {
   agent = v.seat.agent;
-  seats = ap (λ seats. slice_set seats (v.node - 1) (seat_with v.seat c.after v.seat.agent)) (delivered_keeps w count (reached_side w stream (side_named far)));
+  seats = ap (λ seats. slice_set seats (v.node - 1) (seat_with c.after v.seat.agent)) (delivered_keeps w count (reached_side w stream (side_named far)));
 }
 call_puts s w (event.Cut stream far hold) v c asa it is own = record {
   agent = v.seat.agent;
-  seats = ap (λ seats. slice_set seats (v.node - 1) (seat_with v.seat c.after v.seat.agent)) (told_keeps w (reached_side w stream (side_named far)));
+  seats = ap (λ seats. slice_set seats (v.node - 1) (seat_with c.after v.seat.agent)) (told_keeps w (reached_side w stream (side_named far)));
 }
 call_puts s w (event.Drain node max) v c asa it is own =
     let drains : input.Drain max ≡ input.Api asa it = visit_input (present_life w node) (input.Drain max) v (seat_at w (present_life w node)) is ∙ own in absurd (cc)
@@ -154,7 +154,7 @@ module _ (means : PollMeans) (s : Setting) (w : WorldState) (r : IsReached s w) 
 
   visited : IsPut w (after_visit s w e v c) v c → OfEachNode (KeepsGone v.node x) (after_visit s w e v c)
   visited p =
-      put_one (KeepsGone v.node x) w (after_visit s w e v c) v.node (seat_with v.seat c.after p.agent) here.member.least p.seats
+      put_one (KeepsGone v.node x) w (after_visit s w e v c) v.node (seat_with c.after p.agent) here.member.least p.seats
       (nodes_kept.1 v.seat.core c.after v.now v.input c.coming c.reply (nodes_are_sound.sound s w r v.node v.seat here.stands) comes.steps, λ same. left)
       (λ n other apart found. (nodes_are_sound.sound s w r n other found, λ same. absurd (apart same)))
 

@@ -14,13 +14,13 @@ use Rattle.grasp_types.specs.declared.reply.ApiAnswer.TheVariants as answer
 use Rattle.grasp_types.specs.declared.reply.Reply.{Reply}
 use Rattle.grasp_types.specs.declared.session.Handle.{Handle}
 use Rattle.grasp_model_network.specs.Visits.{Visit}
-use Rattle.grasp_model_network.specs.World.{FloodCall, SearchCall, GivenHandle, WorldState, life_of}
+use Rattle.grasp_model_network.specs.World.{FloodCall, SearchCall, GivenHandle, WorldState}
 
 -- ---- handles
 
 abbrev pub given_by : Visit → Option Handle → List GivenHandle
 given_by v None = []
-given_by v (Some h) = record { node = v.node; life = life_of v.seat; handle = h } ∷ []
+given_by v (Some h) = record { node = v.node; handle = h } ∷ []
 
 -- a session that began, at this node or by a peer, has a new handle
 unfoldable pub handles_in : Visit → Reply → List GivenHandle
@@ -56,7 +56,7 @@ is_searching _ = false
 unfoldable pub searches_in : Visit → Reply → List SearchCall
 searches_in v r =
     if is_searching (answer_in r)
-    then record { node = v.node; address = v.seat.core.plan.address; life = life_of v.seat; session = next_session (begin v.seat.core v.now) } ∷ []
+    then record { node = v.node; address = v.seat.core.plan.address; session = next_session (begin v.seat.core v.now) } ∷ []
     else []
 
 -- no two searches were begun under one session number at one address: a node that begins anew draws its numbers again, and a discovery tells

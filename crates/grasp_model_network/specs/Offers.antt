@@ -30,7 +30,7 @@ is_offer_of node p o = o.node == node && is_same_prefix p o.prefix
 
 abbrev pub talk_on : List StreamState → Visit → Option ℕ → Option ℕ
 talk_on ts v None = None
-talk_on ts v (Some stream) = place_of_end ts (end_of v.node v.seat stream)
+talk_on ts v (Some stream) = place_of_end ts (end_of v.node stream)
 
 -- the place of the stream of a session of this node
 abbrev pub talk_of_handle : List StreamState → Visit → NodeState → Handle → Option ℕ

@@ -18,11 +18,11 @@ use Rattle.grasp_model_network.specs.World.{Seat}
 
 -- a node in which nothing has happened, and an agent that has made no call and has this pool
 abbrev pub fresh_seat : NodePlan → Holding → Seat
-fresh_seat plan h = record { core = first_node plan; earlier = []; agent = first_agent h }
+fresh_seat plan h = record { core = first_node plan; agent = first_agent h }
 
 -- the agent has made its next call, at reading 0, and this was answered
 unfoldable pub answered_seat : Seat → ApiAnswer → Seat
-answered_seat seat a = seat_with seat (after_call (begin seat.core 0) seat.agent.asa (next_call seat.agent) (Ok a)) (after_reply seat.agent (reply.Api a))
+answered_seat seat a = seat_with (after_call (begin seat.core 0) seat.agent.asa (next_call seat.agent) (Ok a)) (after_reply seat.agent (reply.Api a))
 
 -- what the opening calls of an agent are answered: it is agent 1, its objective is registered, and nothing has come yet
 abbrev pub opening_answers : List ApiAnswer

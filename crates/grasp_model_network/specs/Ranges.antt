@@ -1,5 +1,5 @@
 -- The ranges of what calls carry: texts are UTF-8, values have an encoding, and numbers are within the ranges of their types.
-use Rattle.std.specs.Prelude.{ℕ, ◌≤◌, ◌<◌, ◌^◌, IfSome}
+use Rattle.std.specs.Prelude.{◌≤◌, ◌<◌, ◌^◌, IfSome}
 use Rattle.std.specs.Str.{IsUtf8}
 use Rattle.grasp_types.specs.Message.{IsVerdict}
 use Rattle.grasp_types.specs.Objective.{IsValue}

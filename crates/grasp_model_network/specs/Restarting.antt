@@ -47,7 +47,7 @@ told_at s node life t = told_if (is_of_life life t.far || waits_for s node t) Fa
 -- that offered it
 abbrev pub restarted : Setting → WorldState → ℕ → ℕ → PoolImage → Seat → Member → WorldState
 restarted s w node life image seat m = record w {
-  seats = slice_set w.seats (life - 1) (seat_with seat seat.core (retired seat.agent)) ++ opened_seat m.plan (pool_of_image image) ∷ [];
+  seats = slice_set w.seats (life - 1) (seat_with seat.core (retired seat.agent)) ++ opened_seat m.plan (pool_of_image image) ∷ [];
   lives = w.lives ++ node ∷ [];
   streams = map (told_at s node life) w.streams;
   offers = filter (is_kept life (retired seat.agent).pool) w.offers;

@@ -19,23 +19,23 @@ abbrev pub gained : NodeState → NodeState → List Queued
 gained before after = drop (length before.queue) after.queue
 
 -- a stream is there from the step on that queues its dial, and a message is said by the step that queues it
-abbrev pub having_made : ℕ → Seat → List StreamState → Queued → List StreamState
-having_made node seat ts (datagram link to m) = ts
-having_made node seat ts (dial stream to) = ts ++ fresh_stream (end_of node seat stream) to ∷ []
-having_made node seat ts (send stream m) = change_at_end ts (end_of node seat stream) (with_said m)
+abbrev pub having_made : ℕ → List StreamState → Queued → List StreamState
+having_made node ts (datagram link to m) = ts
+having_made node ts (dial stream to) = ts ++ fresh_stream (end_of node stream) to ∷ []
+having_made node ts (send stream m) = change_at_end ts (end_of node stream) (with_said m)
 
-unfoldable pub streams_made : ℕ → Seat → List StreamState → List Queued → List StreamState
-streams_made node seat ts queued = fold (having_made node seat) ts queued
+unfoldable pub streams_made : ℕ → List StreamState → List Queued → List StreamState
+streams_made node ts queued = fold (having_made node) ts queued
 
 -- the node and its agent in this life
-abbrev pub seat_with : Seat → NodeState → AgentState → Seat
-seat_with seat core agent = record { core = core; earlier = seat.earlier; agent = agent }
+abbrev pub seat_with : NodeState → AgentState → Seat
+seat_with core agent = record { core = core; agent = agent }
 
 -- the network after a step: the node and its agent are these now, and what the step has queued was made
 unfoldable pub stepped : WorldState → Visit → NodeState → AgentState → WorldState
 stepped w v core agent = record w {
-  seats = slice_set w.seats (v.node - 1) (seat_with v.seat core agent);
-  streams = streams_made v.node v.seat w.streams (gained v.seat.core core);
+  seats = slice_set w.seats (v.node - 1) (seat_with core agent);
+  streams = streams_made v.node w.streams (gained v.seat.core core);
 }
 
 -- ---- what is sent
@@ -57,24 +57,24 @@ sent_at w e m = record w {
 }
 
 -- what is sent of the queue: a datagram goes the way of the life's member
-abbrev pub having_sent : Setting → ℕ → Seat → WorldState → Queued → WorldState
-having_sent s node seat w (datagram link to m) = posted w m (route_of s (member_of w node) link to)
-having_sent s node seat w (dial stream to) = dialled w (end_of node seat stream)
-having_sent s node seat w (send stream m) = sent_at w (end_of node seat stream) m
+abbrev pub having_sent : Setting → ℕ → WorldState → Queued → WorldState
+having_sent s node w (datagram link to m) = posted w m (route_of s (member_of w node) link to)
+having_sent s node w (dial stream to) = dialled w (end_of node stream)
+having_sent s node w (send stream m) = sent_at w (end_of node stream) m
 
 -- a closing ends the node's direction of the stream
-abbrev pub having_closed : ℕ → Seat → WorldState → ℕ → WorldState
-having_closed node seat w stream = record w { streams = change_at_end w.streams (end_of node seat stream) with_ended }
+abbrev pub having_closed : ℕ → WorldState → ℕ → WorldState
+having_closed node w stream = record w { streams = change_at_end w.streams (end_of node stream) with_ended }
 
 -- the network once a node has sent these outputs, in order, and then the closings of these streams
-unfoldable pub handed_over : Setting → WorldState → ℕ → Seat → List Queued → List ℕ → WorldState
-handed_over s w node seat queued streams = fold (having_closed node seat) (fold (having_sent s node seat) w queued) streams
+unfoldable pub handed_over : Setting → WorldState → ℕ → List Queued → List ℕ → WorldState
+handed_over s w node queued streams = fold (having_closed node) (fold (having_sent s node) w queued) streams
 
 -- ---- drains
 
 -- the network after a drain of so many outputs of this node, whose step has begun
 abbrev pub drained_from : Setting → WorldState → ℕ → Seat → NodeState → ℕ → WorldState
-drained_from s w node seat n max = handed_over s (with_seat w node (seat_with seat (after_drain n max) seat.agent)) node seat (take max n.queue) (closes n max)
+drained_from s w node seat n max = handed_over s (with_seat w node (seat_with (after_drain n max) seat.agent)) node (take max n.queue) (closes n max)
 
 abbrev pub drained_at : Setting → WorldState → ℕ → ℕ → Option Seat → WorldState
 drained_at s w node max None = w

@@ -56,7 +56,7 @@ is_other o x = not (o.node == x.node && is_same_prefix o.prefix x.prefix)
 
 -- the prefix is free again at this life of its node, and its offer is a settled one
 abbrev pub settled_by : WorldState → ℕ → Prefix → Option Seat → Option Offered → WorldState
-settled_by w life p (Some seat) (Some o) = record (with_seat w life (seat_with seat seat.core (after_settling seat.agent p))) {
+settled_by w life p (Some seat) (Some o) = record (with_seat w life (seat_with seat.core (after_settling seat.agent p))) {
   offers = filter (is_other o) w.offers;
   settled = w.settled ++ o ∷ [];
 }

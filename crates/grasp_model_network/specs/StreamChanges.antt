@@ -49,4 +49,4 @@ arrival_by _ = lives
 -- the stream with this near end is opened at this node, under this number
 abbrev pub arrived : WorldState → Visit → ℕ → Reply → Option StreamState → WorldState
 arrived w v number r None = w
-arrived w v number r (Some t) = record w { streams = change_at_end w.streams t.near (with_far (end_of v.node v.seat number) (arrival_by r)) }
+arrived w v number r (Some t) = record w { streams = change_at_end w.streams t.near (with_far (end_of v.node number) (arrival_by r)) }

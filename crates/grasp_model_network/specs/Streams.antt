@@ -6,14 +6,13 @@ use Rattle.grasp_types.specs.declared.address.Locator.{Locator}
 use Rattle.grasp_types.specs.declared.message.Message.{Message}
 use Rattle.grasp_wire.specs.Laws.{encoded}
 
--- a stream at a node: the node, which of its lives, and the number that the stream has there
+-- a stream at a node: which of the nodes' lives, and the number that the stream has there
 pub record StreamEnd : Type 0 where
   pub node : ℕ
-  pub life : ℕ
   pub number : ℕ
 
 abbrev pub is_same_end : StreamEnd → StreamEnd → Bool
-is_same_end a b = a.node == b.node && (a.life == b.life && a.number == b.number)
+is_same_end a b = a.node == b.node && a.number == b.number
 
 -- how a side of a stream stands: it isn't opened there yet, it lives, it was turned away, or it was told that the stream is closed
 pub data Arrival : Type 0 where

@@ -46,7 +46,7 @@ offers_told offers node agent (replied r) = offers
 abbrev pub after_telling : WorldState → Telling → Option Seat → WorldState
 after_telling w t None = w
 after_telling w t (Some seat) =
-    record (with_seat w t.node (seat_with seat seat.core (after_event seat.agent t.what))) { offers = offers_told w.offers t.node seat.agent t.what }
+    record (with_seat w t.node (seat_with seat.core (after_event seat.agent t.what))) { offers = offers_told w.offers t.node seat.agent t.what }
 
 abbrev pub after_told : WorldState → Option Telling → WorldState
 after_told w None = w

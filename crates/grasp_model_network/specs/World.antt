@@ -16,15 +16,10 @@ use Rattle.grasp_model_network.specs.Routes.{Route}
 use Rattle.grasp_model_network.specs.Setting.{numbered}
 use Rattle.grasp_model_network.specs.Streams.{StreamEnd, StreamState}
 
--- one life of a node: the node and its agent, which stay at the life's end as they are then. Earlier lives are seats of their own: `earlier` is empty
+-- one life of a node: the node and its agent, which stay at the life's end as they are then
 pub record Seat : Type 0 where
   pub core : NodeState
-  pub earlier : List NodeState
   pub agent : AgentState
-
--- the number of a node's present life, from 0
-abbrev pub life_of : Seat → ℕ
-life_of seat = length seat.earlier
 
 -- a datagram that was sent: where it goes, and its message
 pub record SentDatagram : Type 0 where
@@ -43,7 +38,6 @@ pub record FloodCall : Type 0 where
 pub record SearchCall : Type 0 where
   pub node : ℕ
   pub address : Address
-  pub life : ℕ
   pub session : ℕ
 
 -- a discovery that a member answered with its own locator: what was looked for, and the flags that it had registered
@@ -55,7 +49,6 @@ pub record DiscoveryAnswer : Type 0 where
 -- a handle that a node gave in this life
 pub record GivenHandle : Type 0 where
   pub node : ℕ
-  pub life : ℕ
   pub handle : Handle
 
 -- a prefix that was offered in this life of a node: its node has it reserved or in doubt, since then in each of its lives. And the place of the
@@ -114,26 +107,22 @@ abbrev pub with_seat : WorldState → ℕ → Seat → WorldState
 with_seat w node seat = record w { seats = slice_set w.seats (node - 1) seat }
 
 -- the stream of this number at a node in this life
-abbrev pub end_of : ℕ → Seat → ℕ → StreamEnd
-end_of node seat stream = record { node = node; life = life_of seat; number = stream }
+abbrev pub end_of : ℕ → ℕ → StreamEnd
+end_of node stream = record { node = node; number = stream }
 
 -- ---- handles
 
 -- the handle of this number was given in this life
-abbrev pub is_given : ℕ → ℕ → ℕ → GivenHandle → Bool
-is_given node life number g = g.node == node && (g.life == life && g.handle.number == number)
+abbrev pub is_given : ℕ → ℕ → GivenHandle → Bool
+is_given node number g = g.node == node && g.handle.number == number
 
 abbrev pub place_in : Option GivenHandle → ℕ
 place_in None = 0
 place_in (Some g) = g.handle.place
 
-abbrev pub place_at : WorldState → ℕ → ℕ → Option Seat → ℕ
-place_at w node number None = 0
-place_at w node number (Some seat) = place_in (find (is_given node (life_of seat) number) w.handles)
-
 -- the place of the handle with this number that was given in this life, and 0 where none was
 abbrev pub handle_place : WorldState → ℕ → ℕ → ℕ
-handle_place w node number = place_at w node number (seat_at w node)
+handle_place w node number = place_in (find (is_given node number) w.handles)
 
 -- ---- how much was sent
 

@@ -2,9 +2,8 @@
 use Rattle.std.proofs.Common.{◌≡◌, refl, ap, ◌∙◌, List, [], ◌∷◌, ◌++◌, All}
 use Rattle.std.proofs.lemmas.List.Elements.{All-nil, All-cons}
 use Rattle.grasp_laws_network.proofs.Going.{reached_more}
-use Rattle.grasp_laws_network.proofs.GoodPlans.{member_count, scripts_are_good}
+use Rattle.grasp_laws_network.proofs.GoodPlans.{member_count, plan_reached}
 use Rattle.grasp_laws_network.specs.Lives.{EventsKeepLives}
-use Rattle.grasp_model_network.proofs.Facts.{first_reached as setting_reached}
 use Rattle.grasp_model_network.specs.Plans.{IsGoodPlan}
 use Rattle.grasp_model_network.specs.Runs.{Happening, IsRun, IsReached, world_after, world_of, first_world}
 use Rattle.grasp_model_network.specs.Setting.{Setting, numbers_from, script_setting}
@@ -49,9 +48,6 @@ pub act_reached : (s : Setting) (w : WorldState) (a : LineAct) (c : Choice) → 
 act_reached s w (act.Event e) c r h = reached_more s w (placed_event w e) c r h
 act_reached s w (act.State node) c r h = r
 
-pub first_reached : (plan : WorldPlan) → IsGoodPlan plan → IsReached (script_setting plan) (world_of plan)
-first_reached plan good = setting_reached (script_setting plan) (scripts_are_good plan good)
-
 -- what is so of every network that turns lead to
 pub record Grounds : Type 0 where
   pub negotiations : TalksAreSafe
@@ -71,7 +67,7 @@ all_safe k s w (x ∷ xs) r h =
     All-cons (IsSafe s) w (networks_from s (after_line s w x) xs) (is_safe s w k r) (all_safe k s (after_line s w x) xs (act_reached s w x.line.act x.choice r h.0) h.1)
 
 pub run_safely : Grounds → (plan : WorldPlan) (xs : List LineRun) → IsGoodPlan plan → MayRunAll (script_setting plan) (world_of plan) xs → RunsSafely plan xs
-run_safely k plan xs good h = record { may_run = h; safe = all_safe k (script_setting plan) (world_of plan) xs (first_reached plan good) h }
+run_safely k plan xs good h = record { may_run = h; safe = all_safe k (script_setting plan) (world_of plan) xs (plan_reached plan good) h }
 
 pub each_run_is_safe : Grounds → EachRunIsSafe
 each_run_is_safe k plan xs good h = run_safely k plan xs good h

@@ -1,3 +1,4 @@
+pub mod Begins
 pub mod Configured
 pub mod Crosses
 pub mod Ending
@@ -7,7 +8,6 @@ pub mod Histories
 pub mod Lining
 pub mod Lists
 pub mod MainRuns
-pub mod Opened
 pub mod Outcomes
 pub mod Passing
 pub mod Pushed

@@ -1,14 +1,14 @@
 //! What a turn exchanges with the links.
 
-ghost use Rattle.std.specs.Prelude.{◌≡◌, [], if◌then◌else◌};
+ghost use Rattle.std.specs.Prelude.{◌≡◌};
 ghost use Rattle.grasp_shared.specs.Handles.{IsRootOf, out_of};
 ghost use Rattle.grasp_node_main.specs.Steps.{TakesIn, GivesIn, DrainsOut, Exchanges};
-ghost use Rattle.grasp_node_main.specs.Tells.{HandsOnly, links_told, told};
-ghost use Rattle.grasp_node_main.specs.Turns.{opened_in, is_away, closings, outputs_in};
+ghost use Rattle.grasp_node_main.specs.Tells.{links_told, told};
 
+use crate::handing::{away_of, close_again, hand_over, opened};
 use grasp_io::{Asked, Clock, Links};
 use grasp_shared::{Root, Shared};
-use grasp_types::{Input, Output, Reply};
+use grasp_types::Input;
 use std::sync::Wait;
 
 /// A turn drains at most so many outputs.
@@ -73,30 +73,6 @@ fn give_in<R: Wait>(rt: &R, shared: &Shared, now: u64, root: &mut Root, input: I
     away_of(stream, &reply)
 }
 
-/// The stream, where its opening was turned away or there was no memory for it.
-fn away_of(stream: Option<u64>, reply: &Reply) -> Option<u64>
-    ensures { closings result ≡ (if is_away reply.now then closings stream else []) }
-{
-    if is_away(reply) { stream } else { None }
-}
-
-/// The stream that a peer opened.
-fn opened(input: &Input) -> Option<u64>
-    ensures { result ≡ opened_in input.now }
-{
-    match input {
-        Input::Opened { stream, .. } => Some(*stream),
-        _ => None,
-    }
-}
-
-/// Whether an input was turned away, or there was no memory for it.
-fn is_away(reply: &Reply) -> bool
-    ensures { result ≡ is_away reply.now }
-{
-    matches!(reply, Reply::Turned | Reply::OutOfMemory)
-}
-
 /// Drains the node, and hands its outputs over.
 fn drain_out<R: Wait, L: Links>(rt: &R, shared: &Shared, now: u64, root: &mut Root, links: &mut L)
     requires { IsRootOf shared.now root.old }
@@ -121,48 +97,5 @@ pub(crate) fn drain_last<L: Links>(shared: &Shared, now: u64, root: &mut Root, l
     match shared.root_try_call(root, now, Input::Drain { max: LAST_DRAIN }) {
         Ok(reply) => hand_over(links, &reply),
         Err(_) => unreachable!(),
-    }
-}
-
-/// Hands over the outputs that a drain was answered.
-#[tactic(auto, using(crate::proofs::Told::hands_nothing))]
-fn hand_over<L: Links>(links: &mut L, reply: &Reply)
-    ensures { HandsOnly (links_told (L.is_open links.old) (L.plans links.old) (L.waits links.old) (L.given links.old)
-        (L.handed links.old) (L.faults links.old)) (outputs_in reply.now)
-        (links_told (L.is_open links.new) (L.plans links.new) (L.waits links.new) (L.given links.new) (L.handed links.new)
-        (L.faults links.new)) }
-{
-    match reply {
-        Reply::Outputs(outputs) => send_all(links, outputs.slice()),
-        Reply::Api(_) => (),
-        Reply::Refused(_) => (),
-        Reply::Taken => (),
-        Reply::Turned => (),
-        Reply::OutOfMemory => (),
-    }
-}
-
-/// Hands over outputs in order.
-fn send_all<L: Links>(links: &mut L, outputs: &[Output])
-    ensures { HandsOnly (links_told (L.is_open links.old) (L.plans links.old) (L.waits links.old) (L.given links.old)
-        (L.handed links.old) (L.faults links.old)) outputs.now
-        (links_told (L.is_open links.new) (L.plans links.new) (L.waits links.new) (L.given links.new) (L.handed links.new)
-        (L.faults links.new)) }
-{
-    for output in outputs {
-        let _sent = links.send(output);
-    }
-}
-
-/// Closes a stream that was turned away.
-#[tactic(auto, using(crate::proofs::Told::hands_nothing))]
-fn close_again<L: Links>(links: &mut L, away: Option<u64>)
-    ensures { HandsOnly (links_told (L.is_open links.old) (L.plans links.old) (L.waits links.old) (L.given links.old)
-        (L.handed links.old) (L.faults links.old)) (closings away)
-        (links_told (L.is_open links.new) (L.plans links.new) (L.waits links.new) (L.given links.new) (L.handed links.new)
-        (L.faults links.new)) }
-{
-    if let Some(stream) = away {
-        let _sent = links.send(&Output::Close { stream });
     }
 }

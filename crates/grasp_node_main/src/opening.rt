@@ -45,8 +45,8 @@ impl Daemon {
     }
 }
 
-/// A core to which nothing has happened.
-fn open_core(alloc: Global, node: NodePlan) -> Result<NodeCore, OutOfMemory>
+/// A core to which nothing has happened. A bad plan is answered as want of memory.
+pub fn open_core(alloc: Global, node: NodePlan) -> Result<NodeCore, OutOfMemory>
     ensures { IfOk result (λ core. Reaches (first_node node) [] core) }
 {
     match NodeCore::open(alloc, node) {

@@ -3,6 +3,7 @@ pub mod Buddies
 pub mod Carving
 pub mod Changes
 pub mod Cleaning
+pub mod Disjoint
 pub mod Dyadic
 pub mod Equal
 pub mod Gaining

@@ -20,5 +20,7 @@ pub use laws::{
     one_canonical_list, one_lowest_free, reopened_means, reserved_calls_mean, same_sets_same_pool,
     settle_means, take_at_means, take_means,
 };
+pub use overlapping::overlaps;
 pub use pool::Pool;
 pub use roots::RootPrefix;
+pub use sorted_list::insert_prefix;

@@ -1,9 +1,10 @@
--- An answer to a call or a want is read where its words are, and nowhere else.
+-- An answer to a call, a want or a return is read where its words are, and nowhere else.
 use Rattle.std.proofs.Common.{◌≡◌, ℕ, ◌≤◌, ◌<◌, Bool, true, false, eqb, List, [], ◌∷◌, ◌++◌, length, Ok, Err, refl, sym, ap, subst, ◌∙◌, append_assoc, arith}
 use Rattle.std.specs.Prelude.{All, codes, decimal}
 use Rattle.std.specs.List.{AllByRecursion}
 use Rattle.std.proofs.lemmas.Bool.{eqb-true, eq-eqb}
 use Rattle.std.proofs.lemmas.List.Elements.{All-from_recursion, All-head, All-tail}
+use Rattle.grasp_agent.specs.declared.back.ReturnFault.TheVariants as back
 use Rattle.grasp_agent.specs.declared.want.WantFault.TheVariants.{Busy, Full}
 use Rattle.grasp_types.specs.Address.{IsLocator}
 use Rattle.grasp_types.specs.Message.{AreLocators}
@@ -20,25 +21,28 @@ use Rattle.grasp_types.specs.declared.reply.ApiAnswer.TheVariants as api
 use Rattle.grasp_types.specs.declared.session.Handle.{Handle}
 use Rattle.grasp_types.specs.declared.session.Outcome.{Outcome}
 use Rattle.grasp_types.specs.declared.session.Progress.TheVariants as progress
+use Rattle.grasp_types.specs.Prefix.{AddressBlock}
 use Rattle.grasp_text.specs.Grammar.{ending, locator_at}
-use Rattle.grasp_text.specs.Line.{address_word, objective_words, locator_words, all_locator_words, locator_or_none}
+use Rattle.grasp_text.specs.Line.{address_word, prefix_word, objective_words, locator_words, all_locator_words, locator_or_none}
 use Rattle.grasp_text.specs.Reading.{Parsed}
 use Rattle.grasp_text.proofs.Lawful.{ok_is}
 use Rattle.grasp_text.proofs.Readers.{addresses_read, objectives_read, locators_read, optional_locators_read}
 use Rattle.grasp_script.specs.Answers.{outcome_words, answer_words, flood_read_words, all_flood_read_words}
 use Rattle.grasp_script.proofs.Fields.{taken, ended, after, Means}
-use Rattle.grasp_script.proofs.WordReaders.{read8, read32, small8, small32, within8, within32, read_handle}
-use Rattle.grasp_record.specs.Answers.{told_words, IsOutcome, IsApiAnswer, IsFloodRead, IsOfCall, IsOfWant}
-use Rattle.grasp_record.specs.Grammar.{outcome_at, asa_at, started_at, found_at, not_yet, incoming_at, turn_at, ended_at, flood_read_at, each_at, as_floods, refused_at, as_api, answered_at, of_call_at, busy_at, wanted_at, of_want_at}
+use Rattle.grasp_script.proofs.WordReaders.{read8, read32, small8, small32, within8, within32, read_handle, read_prefix}
+use Rattle.grasp_record.specs.Answers.{told_words, IsOutcome, IsApiAnswer, IsFloodRead, IsOfCall, IsOfWant, IsOfReturn}
+use Rattle.grasp_record.specs.Grammar.{outcome_at, asa_at, started_at, found_at, not_yet, incoming_at, turn_at, ended_at, flood_read_at, each_at, as_floods, refused_at, as_api, answered_at, of_call_at, busy_at, wanted_at, of_want_at, busy_return_at, returned_at, of_return_at}
 use Rattle.grasp_record.specs.declared.line.RecordAnswer.{RecordAnswer}
 use Rattle.grasp_record.specs.declared.line.RecordAnswer.TheVariants as answer
 use Rattle.grasp_record.specs.declared.names.AnswerName.{AnswerName}
 use Rattle.grasp_record.specs.declared.names.AnswerName.TheVariants as answered
+use Rattle.grasp_record.specs.declared.names.ReturnName.{ReturnName}
+use Rattle.grasp_record.specs.declared.names.ReturnName.TheVariants as returned
 use Rattle.grasp_record.specs.declared.names.WantName.{WantName}
 use Rattle.grasp_record.specs.declared.names.WantName.TheVariants as wanted
 use Rattle.grasp_record.proofs.Each.{each_only, each_found}
 use Rattle.grasp_record.proofs.InputLaws.{passed}
-use Rattle.grasp_record.proofs.NameReaders.{answer_word, answer_again, read_answer, outcome_again, read_outcome, want_word, want_again, read_want, read_refusal}
+use Rattle.grasp_record.proofs.NameReaders.{answer_word, answer_again, read_answer, outcome_again, read_outcome, want_word, want_again, read_want, return_word, return_again, read_return, read_refusal}
 use Rattle.grasp_record.proofs.OutcomeLaws.{objective_found, outcome_only, outcome_found}
 use Rattle.grasp_record.proofs.SomeWords.{IsExact, exact, taken_words, behind, at_end, was_read}
 
@@ -281,15 +285,16 @@ busy_only ws x e =
     let z = ended (answer.Want (Err (Busy a.first b.first))) b.rest x b.more in
     subst (λ (y : RecordAnswer). Wants (codes "busy") y ws) (sym z.value) (record { ranges = (small8 a.is, small8 b.is); spelled = ap (λ (t : List (List ℕ)). codes "busy" ∷ t) (after a.parts (after b.parts z.words)) })
 
-want_alone : (word : List ℕ) (a : RecordAnswer) → IsOfWant a → told_words a ≡ word ∷ [] → (ws : List (List ℕ)) (x : RecordAnswer × List (List ℕ)) → ending a ws ≡ Ok x → Wants word x.0 ws
-want_alone word a is words ws x e =
+-- an answer of one word
+alone : (IsOne : RecordAnswer → Type 0) (word : List ℕ) (a : RecordAnswer) → IsOne a → told_words a ≡ word ∷ [] → (ws : List (List ℕ)) (x : RecordAnswer × List (List ℕ)) → ending a ws ≡ Ok x → Means IsOne told_words x.0 (word ∷ ws)
+alone IsOne word a is words ws x e =
     let z = ended a ws x e in
-    subst (λ (y : RecordAnswer). Wants word y ws) (sym z.value) (record { ranges = is; spelled = ap (λ (t : List (List ℕ)). word ∷ t) z.words ∙ sym words })
+    subst (λ (y : RecordAnswer). Means IsOne told_words y (word ∷ ws)) (sym z.value) (record { ranges = is; spelled = ap (λ (t : List (List ℕ)). word ∷ t) z.words ∙ sym words })
 
 wanted_only : (n : WantName) (ws : List (List ℕ)) (x : RecordAnswer × List (List ℕ)) → wanted_at n ws ≡ Ok x → Wants (want_word n) x.0 ws
-wanted_only wanted.Fine ws x e = want_alone (codes "ok") (answer.Want (Ok tt)) tt refl ws x e
+wanted_only wanted.Fine ws x e = alone IsOfWant (codes "ok") (answer.Want (Ok tt)) tt refl ws x e
 wanted_only wanted.Busy ws x e = busy_only ws x e
-wanted_only wanted.Full ws x e = want_alone (codes "full") (answer.Want (Err Full)) tt refl ws x e
+wanted_only wanted.Full ws x e = alone IsOfWant (codes "full") (answer.Want (Err Full)) tt refl ws x e
 
 pub of_want_only : (ws : List (List ℕ)) (x : RecordAnswer × List (List ℕ)) → of_want_at ws ≡ Ok x → Means IsOfWant told_words x.0 ws
 unfolding of_want_at
@@ -311,3 +316,43 @@ of_want_found (answer.Want (Ok u)) h = want_begun wanted.Fine _
 of_want_found (answer.Want (Err (Busy length longest))) h = want_begun wanted.Busy _ ∙ busy_found length longest h
 of_want_found (answer.Want (Err Full)) h = want_begun wanted.Full _
 of_want_found _ h = absurd h
+
+-- ---- answers to returns
+
+abbrev Returns : List ℕ → RecordAnswer → List (List ℕ) → Type 0
+Returns word a ws = Means IsOfReturn told_words a (word ∷ ws)
+
+busy_return_only : (ws : List (List ℕ)) (x : RecordAnswer × List (List ℕ)) → busy_return_at ws ≡ Ok x → Returns (codes "busy") x.0 ws
+unfolding busy_return_at
+busy_return_only ws x e =
+    let a = taken read_prefix _ ws x e in
+    let z = ended (answer.Return (Err (back.Busy a.first))) a.rest x a.more in
+    subst (λ (y : RecordAnswer). Returns (codes "busy") y ws) (sym z.value) (record { ranges = a.is; spelled = ap (λ (t : List (List ℕ)). codes "busy" ∷ t) (after a.parts z.words) })
+
+returned_only : (n : ReturnName) (ws : List (List ℕ)) (x : RecordAnswer × List (List ℕ)) → returned_at n ws ≡ Ok x → Returns (return_word n) x.0 ws
+returned_only returned.Fine ws x e = alone IsOfReturn (codes "ok") (answer.Return (Ok tt)) tt refl ws x e
+returned_only returned.Busy ws x e = busy_return_only ws x e
+returned_only returned.NotFree ws x e = alone IsOfReturn (codes "notfree") (answer.Return (Err back.NotFree)) tt refl ws x e
+returned_only returned.Full ws x e = alone IsOfReturn (codes "full") (answer.Return (Err back.Full)) tt refl ws x e
+
+pub of_return_only : (ws : List (List ℕ)) (x : RecordAnswer × List (List ℕ)) → of_return_at ws ≡ Ok x → Means IsOfReturn told_words x.0 ws
+unfolding of_return_at
+of_return_only ws x e =
+    let n = taken read_return _ ws x e in
+    let m = returned_only n.first n.rest x n.more in
+    record { ranges = m.ranges; spelled = n.parts ∙ m.spelled }
+
+busy_return_found : (p : AddressBlock) → IsOfReturn (answer.Return (Err (back.Busy p))) → busy_return_at (prefix_word p ∷ []) ≡ Ok (answer.Return (Err (back.Busy p)), [])
+unfolding busy_return_at
+busy_return_found p h = rw (read_prefix.found p h) refl
+
+return_begun : (n : ReturnName) (ws : List (List ℕ)) → of_return_at (return_word n ∷ ws) ≡ returned_at n ws
+unfolding of_return_at
+return_begun n ws = rw (return_again n) refl
+
+pub of_return_found : (a : RecordAnswer) → IsOfReturn a → of_return_at (told_words a) ≡ Ok (a, [])
+of_return_found (answer.Return (Ok u)) h = return_begun returned.Fine _
+of_return_found (answer.Return (Err (back.Busy p))) h = return_begun returned.Busy _ ∙ busy_return_found p h
+of_return_found (answer.Return (Err back.NotFree)) h = return_begun returned.NotFree _
+of_return_found (answer.Return (Err back.Full)) h = return_begun returned.Full _
+of_return_found _ h = absurd h

@@ -3,7 +3,8 @@ use Rattle.std.proofs.Common.{◌≡◌, ℕ, ◌≤◌, Bool, true, false, List
 use Rattle.std.specs.Prelude.{codes, decimal}
 use Rattle.grasp_types.specs.declared.address.Address.{Address}
 use Rattle.grasp_types.specs.declared.call.Call.{Call}
-use Rattle.grasp_text.specs.Line.{address_word, bytes_word}
+use Rattle.grasp_types.specs.Prefix.{AddressBlock}
+use Rattle.grasp_text.specs.Line.{address_word, bytes_word, prefix_word}
 use Rattle.grasp_text.proofs.Lawful.{ok_is}
 use Rattle.grasp_text.proofs.Readers.{addresses_read}
 use Rattle.grasp_model_network.specs.Plans.{IsNode}
@@ -12,8 +13,8 @@ use Rattle.grasp_script.specs.Grammar.{call_at, are_lengths, only_if}
 use Rattle.grasp_script.proofs.ActLaws.{lengths_true, true_lengths}
 use Rattle.grasp_script.proofs.CallLaws.{call_only, call_found}
 use Rattle.grasp_script.proofs.Fields.{taken, Ended, ended, after, Means}
-use Rattle.grasp_script.proofs.WordReaders.{read8, read32, read64, small8, small32, small64, within8, within32, within64, read_node}
-use Rattle.grasp_record.specs.Grammar.{api_at, agent_at, want_at, datagram_at, opened_at, bytes_at, closed_at, drain_at, allowed, took_at, asked_at}
+use Rattle.grasp_script.proofs.WordReaders.{read8, read32, read64, small8, small32, small64, within8, within32, within64, read_node, read_prefix}
+use Rattle.grasp_record.specs.Grammar.{api_at, agent_at, want_at, return_at, datagram_at, opened_at, bytes_at, closed_at, drain_at, allowed, took_at, asked_at}
 use Rattle.grasp_record.specs.Inputs.{input_words, IsInput}
 use Rattle.grasp_record.specs.declared.inputs.Asked.{Asked}
 use Rattle.grasp_record.specs.declared.line.RecordInput.{RecordInput}
@@ -91,6 +92,17 @@ module _ (nodes : ℕ) (few : nodes ≤ 255) where
         spelled = ap (λ (t : List (List ℕ)). codes "want" ∷ t) (after a.parts (after b.parts (after c.parts p.over.words)));
       })
 
+  return_only : (ws : List (List ℕ)) (x : RecordInput × List (List ℕ)) → return_at nodes ws ≡ Ok x → Named (codes "return") x.0 ws
+  unfolding return_at
+  return_only ws x e =
+      let a = taken read_prefix _ ws x e in
+      let b = taken (read_node nodes few) _ a.rest x a.more in
+      let z = ended (input.Return a.first b.first) b.rest x b.more in
+      subst (λ (y : RecordInput). Named (codes "return") y ws) (sym z.value) (record {
+        ranges = (a.is, b.is);
+        spelled = ap (λ (t : List (List ℕ)). codes "return" ∷ t) (after a.parts (after b.parts z.words));
+      })
+
   datagram_only : (ws : List (List ℕ)) (x : RecordInput × List (List ℕ)) → datagram_at ws ≡ Ok x → Named (codes "datagram") x.0 ws
   unfolding datagram_at
   datagram_only ws x e =
@@ -149,6 +161,7 @@ module _ (nodes : ℕ) (few : nodes ≤ 255) where
   took_only took.Api ws x e = api_only ws x e
   took_only took.Agent ws x e = agent_only ws x e
   took_only took.Want ws x e = want_only ws x e
+  took_only took.Return ws x e = return_only ws x e
   took_only took.Datagram ws x e = datagram_only ws x e
   took_only took.Opened ws x e = opened_only ws x e
   took_only took.Bytes ws x e = bytes_only ws x e
@@ -184,6 +197,10 @@ module _ (nodes : ℕ) (few : nodes ≤ 255) where
       let most : longest ≤ 128 = h.0.most in
       rw (read8.found length (omega arith), read8.found longest (omega arith), (read_node nodes few).found peer h.1, lengths_true length longest h.0) refl
 
+  return_found : (prefix : AddressBlock) (peer : ℕ) → One (input.Return prefix peer) → return_at nodes (prefix_word prefix ∷ decimal peer ∷ []) ≡ Ok (input.Return prefix peer, [])
+  unfolding return_at
+  return_found prefix peer h = rw (read_prefix.found prefix h.0, (read_node nodes few).found peer h.1) refl
+
   datagram_found : (link from : ℕ) (bytes : List ℕ) → One (input.Datagram link from bytes) → datagram_at (decimal link ∷ decimal from ∷ bytes_word bytes ∷ []) ≡ Ok (input.Datagram link from bytes, [])
   unfolding datagram_at
   datagram_found link from bytes h = rw (read8.found link (within8 h.0), read8.found from (within8 h.1), read_octets.found bytes h.2) refl
@@ -215,6 +232,7 @@ module _ (nodes : ℕ) (few : nodes ≤ 255) where
   took_found (input.Api asa call) h = record { name = took.Api; rest = _; words = refl; read = api_found asa call h }
   took_found (input.Agent call) h = record { name = took.Agent; rest = _; words = refl; read = agent_found call h }
   took_found (input.Want length longest peer) h = record { name = took.Want; rest = _; words = refl; read = want_found length longest peer h }
+  took_found (input.Return prefix peer) h = record { name = took.Return; rest = _; words = refl; read = return_found prefix peer h }
   took_found (input.Datagram link from bytes) h = record { name = took.Datagram; rest = _; words = refl; read = datagram_found link from bytes h }
   took_found (input.Opened stream from) h = record { name = took.Opened; rest = _; words = refl; read = opened_found stream from h }
   took_found (input.Bytes stream bytes) h = record { name = took.Bytes; rest = _; words = refl; read = bytes_found stream bytes h }

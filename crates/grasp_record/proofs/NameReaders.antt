@@ -11,7 +11,7 @@ use Rattle.grasp_text.proofs.Leaves.{one_of, no_more}
 use Rattle.grasp_text.proofs.NumberWords.{some}
 use Rattle.grasp_script.specs.Answers.{by_word}
 use Rattle.grasp_script.proofs.WordReaders.{Any}
-use Rattle.grasp_record.specs.Grammar.{by_of, taken_of, input_of, answer_of, outcome_of, want_of, output_of, refusal_of}
+use Rattle.grasp_record.specs.Grammar.{by_of, taken_of, input_of, answer_of, outcome_of, want_of, return_of, output_of, refusal_of}
 use Rattle.grasp_record.specs.declared.names.AnswerName.{AnswerName}
 use Rattle.grasp_record.specs.declared.names.AnswerName.TheVariants as answered
 use Rattle.grasp_record.specs.declared.names.InputName.{InputName}
@@ -20,6 +20,8 @@ use Rattle.grasp_record.specs.declared.names.OutcomeName.{OutcomeName}
 use Rattle.grasp_record.specs.declared.names.OutcomeName.TheVariants as ended
 use Rattle.grasp_record.specs.declared.names.OutputName.{OutputName}
 use Rattle.grasp_record.specs.declared.names.OutputName.TheVariants as sent
+use Rattle.grasp_record.specs.declared.names.ReturnName.{ReturnName}
+use Rattle.grasp_record.specs.declared.names.ReturnName.TheVariants as returned
 use Rattle.grasp_record.specs.declared.names.WantName.{WantName}
 use Rattle.grasp_record.specs.declared.names.WantName.TheVariants as wanted
 
@@ -55,6 +57,7 @@ abbrev pub input_word : InputName → List ℕ
 input_word took.Api = codes "api"
 input_word took.Agent = codes "agent"
 input_word took.Want = codes "want"
+input_word took.Return = codes "return"
 input_word took.Datagram = codes "datagram"
 input_word took.Opened = codes "opened"
 input_word took.Bytes = codes "bytes"
@@ -68,7 +71,7 @@ input_again _ = refl
 
 input_only : (w : List ℕ) (n : InputName) → input_of w ≡ Some n → (w ≡ input_word n) × Any n
 unfolding input_of
-input_only w n e = (one_of input_word n took.Api w (codes "api") _ refl (one_of input_word n took.Agent w (codes "agent") _ refl (one_of input_word n took.Want w (codes "want") _ refl (one_of input_word n took.Datagram w (codes "datagram") _ refl (one_of input_word n took.Opened w (codes "opened") _ refl (one_of input_word n took.Bytes w (codes "bytes") _ refl (one_of input_word n took.Closed w (codes "closed") _ refl (one_of input_word n took.Drain w (codes "drain") None refl (no_more n _)))))))) e, tt)
+input_only w n e = (one_of input_word n took.Api w (codes "api") _ refl (one_of input_word n took.Agent w (codes "agent") _ refl (one_of input_word n took.Want w (codes "want") _ refl (one_of input_word n took.Return w (codes "return") _ refl (one_of input_word n took.Datagram w (codes "datagram") _ refl (one_of input_word n took.Opened w (codes "opened") _ refl (one_of input_word n took.Bytes w (codes "bytes") _ refl (one_of input_word n took.Closed w (codes "closed") _ refl (one_of input_word n took.Drain w (codes "drain") None refl (no_more n _))))))))) e, tt)
 
 pub read_input : IsWordReader Any input_word input_of
 read_input = record { found = λ n u. input_again n; only = input_only }
@@ -135,6 +138,24 @@ want_only w n e = (one_of want_word n wanted.Fine w (codes "ok") _ refl (one_of 
 
 pub read_want : IsWordReader Any want_word want_of
 read_want = record { found = λ n u. want_again n; only = want_only }
+
+abbrev pub return_word : ReturnName → List ℕ
+return_word returned.Fine = codes "ok"
+return_word returned.Busy = codes "busy"
+return_word returned.NotFree = codes "notfree"
+return_word returned.Full = codes "full"
+
+pub return_again : (n : ReturnName) → return_of (return_word n) ≡ Some n
+unfolding return_of
+return_again returned.Fine = refl
+return_again _ = refl
+
+return_only : (w : List ℕ) (n : ReturnName) → return_of w ≡ Some n → (w ≡ return_word n) × Any n
+unfolding return_of
+return_only w n e = (one_of return_word n returned.Fine w (codes "ok") _ refl (one_of return_word n returned.Busy w (codes "busy") _ refl (one_of return_word n returned.NotFree w (codes "notfree") _ refl (one_of return_word n returned.Full w (codes "full") None refl (no_more n _)))) e, tt)
+
+pub read_return : IsWordReader Any return_word return_of
+read_return = record { found = λ n u. return_again n; only = return_only }
 
 abbrev pub output_word : OutputName → List ℕ
 output_word sent.Datagram = codes "datagram"

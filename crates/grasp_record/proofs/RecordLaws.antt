@@ -11,7 +11,7 @@ use Rattle.grasp_record.specs.declared.line.RecordAnswer.{RecordAnswer}
 use Rattle.grasp_record.specs.declared.line.RecordInput.{RecordInput}
 use Rattle.grasp_record.specs.declared.line.RecordInput.TheVariants as input
 use Rattle.grasp_record.specs.declared.line.RecordLine.{RecordLine}
-use Rattle.grasp_record.proofs.AnswerLaws.{of_call_only, of_call_found, of_want_only, of_want_found}
+use Rattle.grasp_record.proofs.AnswerLaws.{of_call_only, of_call_found, of_want_only, of_want_found, of_return_only, of_return_found}
 use Rattle.grasp_record.proofs.InputLaws.{asked_words, IsAsked, asked_only, asked_found}
 use Rattle.grasp_record.proofs.OutputLaws.{of_datagram_only, of_datagram_found, of_stream_only, of_stream_found, of_drain_only, of_drain_found}
 use Rattle.grasp_record.proofs.SomeWords.{was_read}
@@ -20,6 +20,7 @@ answer_only : (i : RecordInput) (ws : List (List ℕ)) (x : RecordAnswer × List
 answer_only (input.Api asa call) ws x e = let m = of_call_only (is_poll call) ws x e in record { ranges = m.ranges; spelled = m.spelled }
 answer_only (input.Agent call) ws x e = let m = of_call_only (is_poll call) ws x e in record { ranges = m.ranges; spelled = m.spelled }
 answer_only (input.Want length longest peer) ws x e = let m = of_want_only ws x e in record { ranges = m.ranges; spelled = m.spelled }
+answer_only (input.Return prefix peer) ws x e = let m = of_return_only ws x e in record { ranges = m.ranges; spelled = m.spelled }
 answer_only (input.Datagram link from bytes) ws x e = let m = of_datagram_only ws x e in record { ranges = m.ranges; spelled = m.spelled }
 answer_only (input.Opened stream from) ws x e = let m = of_stream_only ws x e in record { ranges = m.ranges; spelled = m.spelled }
 answer_only (input.Bytes stream bytes) ws x e = let m = of_stream_only ws x e in record { ranges = m.ranges; spelled = m.spelled }
@@ -30,6 +31,7 @@ answer_found : (i : RecordInput) (a : RecordAnswer) → IsAnswerTo i a → answe
 answer_found (input.Api asa call) a h = of_call_found (is_poll call) a h
 answer_found (input.Agent call) a h = of_call_found (is_poll call) a h
 answer_found (input.Want length longest peer) a h = of_want_found a h
+answer_found (input.Return prefix peer) a h = of_return_found a h
 answer_found (input.Datagram link from bytes) a h = of_datagram_found a h
 answer_found (input.Opened stream from) a h = of_stream_found a h
 answer_found (input.Bytes stream bytes) a h = of_stream_found a h

@@ -8,6 +8,7 @@ use Rattle.std.proofs.lemmas.List.Elements.{All-from_recursion, All-head, All-ta
 use Rattle.std.proofs.lemmas.List.Splits.{slice_split_none}
 use Rattle.std.proofs.lemmas.Str.{IsUtf8-from_ascii}
 use Rattle.hex.specs.Hex.{encode_with, encode_lower, lower_digits}
+use Rattle.grasp_agent.specs.declared.back.ReturnFault.TheVariants as back
 use Rattle.grasp_agent.specs.declared.want.WantFault.TheVariants.{Busy, Full}
 use Rattle.grasp_cbor.specs.Bytes.{AllBytes}
 use Rattle.grasp_cbor.proofs.HeadBytes.{AllBytes-from}
@@ -39,8 +40,8 @@ use Rattle.grasp_text.proofs.Blanks.{hex_visible, each_other}
 use Rattle.grasp_text.proofs.HexWords.{wide32, wide128}
 use Rattle.grasp_script.specs.Answers.{by_word, outcome_words, answer_words, all_flood_read_words}
 use Rattle.grasp_script.proofs.ActLines.{AreWords, small, middle, node, call_whole}
-use Rattle.grasp_script.proofs.WholeWords.{IsWord, all_small, spelled, number, text, maybe_value}
-use Rattle.grasp_record.specs.Answers.{output_words, all_output_words, drained_words, told_words, is_poll, IsOutcome, IsApiAnswer, IsFloodRead, IsOfCall, IsOfWant, IsOfDatagram, IsOfStream, IsOutput, IsOfDrain, IsAnswerTo}
+use Rattle.grasp_script.proofs.WholeWords.{IsWord, all_small, spelled, number, text, maybe_value, prefix}
+use Rattle.grasp_record.specs.Answers.{output_words, all_output_words, drained_words, told_words, is_poll, IsOutcome, IsApiAnswer, IsFloodRead, IsOfCall, IsOfWant, IsOfReturn, IsOfDatagram, IsOfStream, IsOutput, IsOfDrain, IsAnswerTo}
 use Rattle.grasp_record.specs.Inputs.{input_words, IsInput}
 use Rattle.grasp_record.specs.Records.{record_words, IsRecord}
 use Rattle.grasp_record.specs.declared.line.RecordAnswer.{RecordAnswer}
@@ -181,6 +182,13 @@ of_want_whole (answer.Want (Err (Busy length longest))) h = (spelled (codes "bus
 of_want_whole (answer.Want (Err Full)) h = (spelled (codes "full") refl refl, tt)
 of_want_whole _ h = absurd h
 
+of_return_whole : (a : RecordAnswer) → IsOfReturn a → AreWords (told_words a)
+of_return_whole (answer.Return (Ok u)) h = (spelled (codes "ok") refl refl, tt)
+of_return_whole (answer.Return (Err (back.Busy p))) h = (spelled (codes "busy") refl refl, (prefix p h, tt))
+of_return_whole (answer.Return (Err back.NotFree)) h = (spelled (codes "notfree") refl refl, tt)
+of_return_whole (answer.Return (Err back.Full)) h = (spelled (codes "full") refl refl, tt)
+of_return_whole _ h = absurd h
+
 of_datagram_whole : (a : RecordAnswer) → IsOfDatagram a → AreWords (told_words a)
 of_datagram_whole answer.Taken h = (spelled (codes "taken") refl refl, tt)
 of_datagram_whole _ h = absurd h
@@ -209,6 +217,7 @@ told_whole : (i : RecordInput) (a : RecordAnswer) → IsAnswerTo i a → AreWord
 told_whole (input.Api asa call) a h = of_call_whole (is_poll call) a h
 told_whole (input.Agent call) a h = of_call_whole (is_poll call) a h
 told_whole (input.Want length longest peer) a h = of_want_whole a h
+told_whole (input.Return p to) a h = of_return_whole a h
 told_whole (input.Datagram link from b) a h = of_datagram_whole a h
 told_whole (input.Opened stream from) a h = of_stream_whole a h
 told_whole (input.Bytes stream b) a h = of_stream_whole a h
@@ -223,6 +232,7 @@ module _ (nodes : ℕ) (few : nodes ≤ 255) where
       let rising : length ≤ longest = h.0.rising in
       let most : longest ≤ 128 = h.0.most in
       (spelled (codes "want") refl refl, (number length (omega arith), (number longest (omega arith), (node nodes few p h.1, tt))))
+  input_whole (input.Return p to) h = (spelled (codes "return") refl refl, (prefix p h.0, (node nodes few to h.1, tt)))
   input_whole (input.Datagram link from b) h = (spelled (codes "datagram") refl refl, (small link h.0, (small from h.1, (bytes b h.2, tt))))
   input_whole (input.Opened stream from) h = (spelled (codes "opened") refl refl, (number stream h.0, (address_whole from, tt)))
   input_whole (input.Bytes stream b) h = (spelled (codes "bytes") refl refl, (number stream h.0, (bytes b h.1, tt)))
@@ -254,6 +264,10 @@ told_some (answer.Refused r) = refl
 told_some (answer.Want (Ok u)) = refl
 told_some (answer.Want (Err (Busy length longest))) = refl
 told_some (answer.Want (Err Full)) = refl
+told_some (answer.Return (Ok u)) = refl
+told_some (answer.Return (Err (back.Busy p))) = refl
+told_some (answer.Return (Err back.NotFree)) = refl
+told_some (answer.Return (Err back.Full)) = refl
 told_some answer.Taken = refl
 told_some answer.Turned = refl
 told_some (answer.Outputs os) = drained_some os

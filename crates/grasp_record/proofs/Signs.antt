@@ -11,13 +11,15 @@ use Rattle.grasp_types.specs.declared.call.Call.TheVariants.{RegisterAsa, Deregi
 use Rattle.grasp_types.specs.declared.message.Verdict.TheVariants.{Accept, Decline}
 use Rattle.grasp_types.specs.declared.session.Kind.{Kind}
 use Rattle.grasp_types.specs.declared.session.Kind.TheVariants.{Negotiation, Synchronization}
-use Rattle.grasp_text.specs.Line.{address_word, bytes_word, or_dash, text_word, value_word}
-use Rattle.grasp_text.specs.Reading.{address_of, v4_of, v6_of}
+use Rattle.grasp_types.specs.Prefix.{AddressBlock, IsPrefix}
+use Rattle.grasp_text.specs.Line.{address_word, bytes_word, or_dash, prefix_word, text_word, value_word}
+use Rattle.grasp_text.specs.Reading.{address_of, block_of, v4_of, v6_of}
 use Rattle.grasp_text.proofs.NumberWords.{some, number_digit_most}
 use Rattle.grasp_text.proofs.Readers.{addresses_read}
 use Rattle.grasp_model_network.specs.Plans.{IsNode}
 use Rattle.grasp_script.specs.Calls.{kind_word, dry_word, peer_word, initiator_word, call_words, IsPeer, IsInitiator, IsCall}
-use Rattle.grasp_script.proofs.WordReaders.{peer_number, initiator_number}
+use Rattle.grasp_script.specs.Grammar.{prefix_of}
+use Rattle.grasp_script.proofs.WordReaders.{peer_number, initiator_number, read_prefix}
 use Rattle.grasp_record.specs.Dividing.{HaveNoSign}
 use Rattle.grasp_record.specs.Inputs.{input_words, IsInput}
 use Rattle.grasp_record.specs.declared.line.RecordInput.{RecordInput}
@@ -34,6 +36,13 @@ number n lt same =
 no_address : address_of (codes "=") ≡ None
 unfolding address_of v4_of v6_of
 no_address = refl
+
+no_prefix : prefix_of (codes "=") ≡ None
+unfolding prefix_of block_of
+no_prefix = refl
+
+prefix : (p : AddressBlock) → IsPrefix p.address p.length → prefix_word p ≢ codes "="
+prefix p is same = let z : None ≡ some p = sym no_prefix ∙ ap prefix_of (sym same) ∙ read_prefix.found p is in cc
 
 text : (t : List ℕ) → text_word t ≢ codes "="
 text t = apart (text_word t) refl
@@ -96,6 +105,7 @@ module _ (nodes : ℕ) (few : nodes ≤ 255) where
       let rising : length ≤ longest = h.0.rising in
       let most : longest ≤ 128 = h.0.most in
       (apart (codes "want") refl, (number length (omega arith), (number longest (omega arith), (node p h.1, tt))))
+  signless (input.Return p to) h = (apart (codes "return") refl, (prefix p h.0, (node to h.1, tt)))
   signless (input.Datagram link from bytes) h = (apart (codes "datagram") refl, (number link (omega (arith, h.0)), (number from (omega (arith, h.1)), (apart (bytes_word bytes) refl, tt))))
   signless (input.Opened stream from) h = (apart (codes "opened") refl, (number stream h.0, (opened_from from (omega arith, h.1), tt)))
   signless (input.Bytes stream bytes) h = (apart (codes "bytes") refl, (number stream h.0, (apart (bytes_word bytes) refl, tt)))

@@ -2,12 +2,15 @@
 use Rattle.std.specs.Prelude.{◌≡◌, ◌≢◌, ◌<◌, ◌^◌, ℕ, Bool, true, false, List, [], ◌∷◌, ◌++◌, Result, Ok, Err, IfSome, codes, decimal}
 use Rattle.std.specs.List.{AllByRecursion}
 use Rattle.std.specs.Str.{IsUtf8}
+use Rattle.grasp_agent.specs.declared.back.ReturnFault.{ReturnFault}
+use Rattle.grasp_agent.specs.declared.back.ReturnFault.TheVariants as back
 use Rattle.grasp_agent.specs.declared.want.WantFault.{WantFault}
 use Rattle.grasp_agent.specs.declared.want.WantFault.TheVariants.{Busy, Full}
 use Rattle.grasp_cbor.specs.Bytes.{AllBytes}
 use Rattle.grasp_types.specs.Address.{IsAddress, IsLocator}
 use Rattle.grasp_types.specs.Message.{AreLocators}
 use Rattle.grasp_types.specs.Objective.{IsObjective}
+use Rattle.grasp_types.specs.Prefix.{IsPrefix}
 use Rattle.grasp_types.specs.declared.call.Call.{Call}
 use Rattle.grasp_types.specs.declared.call.Call.TheVariants.{Poll}
 use Rattle.grasp_types.specs.declared.flood.FloodRead.{FloodRead}
@@ -24,7 +27,7 @@ use Rattle.grasp_types.specs.declared.traffic.Output.TheVariants as output
 use Rattle.grasp_text.specs.Line.{bytes_word, locator_words}
 use Rattle.grasp_script.specs.Answers.{answer_words, reply_words}
 use Rattle.grasp_script.specs.Calls.{IsNamed}
-use Rattle.grasp_script.specs.Reports.{want_words}
+use Rattle.grasp_script.specs.Reports.{want_words, return_words}
 use Rattle.grasp_record.specs.declared.line.RecordAnswer.{RecordAnswer}
 use Rattle.grasp_record.specs.declared.line.RecordAnswer.TheVariants as answer
 use Rattle.grasp_record.specs.declared.line.RecordInput.{RecordInput}
@@ -49,11 +52,12 @@ abbrev pub drained_words : List Output → List (List ℕ)
 drained_words [] = codes "none" ∷ []
 drained_words (o ∷ outputs) = all_output_words (o ∷ outputs)
 
--- the words of an answer; that to a call or a want is told as a report tells it
+-- the words of an answer; that to a call, a want or a return is told as a report tells it
 abbrev pub told_words : RecordAnswer → List (List ℕ)
 told_words (answer.Api a) = answer_words a
 told_words (answer.Refused r) = reply_words (reply.Refused r)
 told_words (answer.Want taken) = want_words taken
+told_words (answer.Return taken) = return_words taken
 told_words answer.Taken = codes "taken" ∷ []
 told_words answer.Turned = codes "turned" ∷ []
 told_words (answer.Outputs outputs) = drained_words outputs
@@ -99,6 +103,12 @@ IsWanted (Ok u) = Unit {0}
 IsWanted (Err (Busy length longest)) = (length < 2 ^ 8) × (longest < 2 ^ 8)
 IsWanted (Err Full) = Unit {0}
 
+abbrev pub IsReturned : Result (Unit {0}) ReturnFault → Type 0
+IsReturned (Ok u) = Unit {0}
+IsReturned (Err (back.Busy prefix)) = IsPrefix prefix.address prefix.length
+IsReturned (Err back.NotFree) = Unit {0}
+IsReturned (Err back.Full) = Unit {0}
+
 abbrev pub IsOutput : Output → Type 0
 IsOutput (output.Datagram link to bytes) = (link < 2 ^ 8) × (to < 2 ^ 8) × AllBytes bytes
 IsOutput (output.Dial stream to) = (stream < 2 ^ 64) × IsLocator to
@@ -116,6 +126,10 @@ IsOfCall polled _ = ⊥
 abbrev pub IsOfWant : RecordAnswer → Type 0
 IsOfWant (answer.Want taken) = IsWanted taken
 IsOfWant _ = ⊥
+
+abbrev pub IsOfReturn : RecordAnswer → Type 0
+IsOfReturn (answer.Return taken) = IsReturned taken
+IsOfReturn _ = ⊥
 
 -- a datagram is taken
 abbrev pub IsOfDatagram : RecordAnswer → Type 0
@@ -143,6 +157,7 @@ abbrev pub IsAnswerTo : RecordInput → RecordAnswer → Type 0
 IsAnswerTo (input.Api asa call) a = IsOfCall (is_poll call) a
 IsAnswerTo (input.Agent call) a = IsOfCall (is_poll call) a
 IsAnswerTo (input.Want length longest peer) a = IsOfWant a
+IsAnswerTo (input.Return prefix peer) a = IsOfReturn a
 IsAnswerTo (input.Datagram link from bytes) a = IsOfDatagram a
 IsAnswerTo (input.Opened stream from) a = IsOfStream a
 IsAnswerTo (input.Bytes stream bytes) a = IsOfStream a

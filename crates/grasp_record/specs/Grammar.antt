@@ -1,6 +1,7 @@
 -- Inside: reading the words of a record's line from left to right.
 use Rattle.std.specs.Prelude.{ℕ, ◌==◌, if◌then◌else◌, Bool, true, false, List, [], ◌∷◌, ◌++◌, Option, Some, None, Ok, Err, codes}
 use Rattle.std.specs.Str.{bytes_eq}
+use Rattle.grasp_agent.specs.declared.back.ReturnFault.TheVariants as back
 use Rattle.grasp_agent.specs.declared.want.WantFault.TheVariants.{Busy, Full}
 use Rattle.grasp_types.specs.Refusal.{refusal_number}
 use Rattle.grasp_types.specs.declared.address.Locator.{Locator}
@@ -19,7 +20,7 @@ use Rattle.grasp_types.specs.declared.traffic.Output.TheVariants as output
 use Rattle.grasp_text.specs.Grammar.{ending, number32, reason_at, objective_at, locator_at, optional_locator_at, until}
 use Rattle.grasp_text.specs.Reading.{Parsed, ◌>>=◌, word_at, exactly, address_of, bytes_of, behind_byte, then_some, or_end, branch}
 use Rattle.grasp_script.specs.Calls.{may_call}
-use Rattle.grasp_script.specs.Grammar.{number64, number8, node_of, handle_of, call_at, are_lengths, only_if}
+use Rattle.grasp_script.specs.Grammar.{number64, number8, node_of, prefix_of, handle_of, call_at, are_lengths, only_if}
 use Rattle.grasp_record.specs.Answers.{is_poll}
 use Rattle.grasp_record.specs.declared.inputs.Asked.{Asked}
 use Rattle.grasp_record.specs.declared.line.RecordAnswer.{RecordAnswer}
@@ -35,6 +36,8 @@ use Rattle.grasp_record.specs.declared.names.OutcomeName.{OutcomeName}
 use Rattle.grasp_record.specs.declared.names.OutcomeName.TheVariants as ended
 use Rattle.grasp_record.specs.declared.names.OutputName.{OutputName}
 use Rattle.grasp_record.specs.declared.names.OutputName.TheVariants as sent
+use Rattle.grasp_record.specs.declared.names.ReturnName.{ReturnName}
+use Rattle.grasp_record.specs.declared.names.ReturnName.TheVariants as returned
 use Rattle.grasp_record.specs.declared.names.WantName.{WantName}
 use Rattle.grasp_record.specs.declared.names.WantName.TheVariants as wanted
 
@@ -57,11 +60,12 @@ input_of word =
     if bytes_eq word (codes "api") then Some took.Api
     else (if bytes_eq word (codes "agent") then Some took.Agent
     else (if bytes_eq word (codes "want") then Some took.Want
+    else (if bytes_eq word (codes "return") then Some took.Return
     else (if bytes_eq word (codes "datagram") then Some took.Datagram
     else (if bytes_eq word (codes "opened") then Some took.Opened
     else (if bytes_eq word (codes "bytes") then Some took.Bytes
     else (if bytes_eq word (codes "closed") then Some took.Closed
-    else (if bytes_eq word (codes "drain") then Some took.Drain else None)))))))
+    else (if bytes_eq word (codes "drain") then Some took.Drain else None))))))))
 
 -- the first word of the answer to a call
 unfoldable pub answer_of : List ℕ → Option AnswerName
@@ -95,6 +99,14 @@ want_of word =
     if bytes_eq word (codes "ok") then Some wanted.Fine
     else (if bytes_eq word (codes "busy") then Some wanted.Busy
     else (if bytes_eq word (codes "full") then Some wanted.Full else None))
+
+-- the first word of the answer to a return
+unfoldable pub return_of : List ℕ → Option ReturnName
+return_of word =
+    if bytes_eq word (codes "ok") then Some returned.Fine
+    else (if bytes_eq word (codes "busy") then Some returned.Busy
+    else (if bytes_eq word (codes "notfree") then Some returned.NotFree
+    else (if bytes_eq word (codes "full") then Some returned.Full else None)))
 
 -- the first word of an output
 unfoldable pub output_of : List ℕ → Option OutputName
@@ -160,6 +172,12 @@ want_at nodes ws = do
   peer ← word_at (node_of nodes) longest.1
   only_if (are_lengths length.0 longest.0) (input.Want length.0 longest.0 peer.0) peer.1
 
+unfoldable pub return_at : ℕ → List (List ℕ) → Parsed RecordInput
+return_at nodes ws = do
+  prefix ← word_at prefix_of ws
+  peer ← word_at (node_of nodes) prefix.1
+  ending (input.Return prefix.0 peer.0) peer.1
+
 unfoldable pub datagram_at : List (List ℕ) → Parsed RecordInput
 datagram_at ws = do
   link ← word_at number8 ws
@@ -193,6 +211,7 @@ abbrev pub took_at : ℕ → InputName → List (List ℕ) → Parsed RecordInpu
 took_at nodes took.Api ws = api_at nodes ws
 took_at nodes took.Agent ws = agent_at nodes ws
 took_at nodes took.Want ws = want_at nodes ws
+took_at nodes took.Return ws = return_at nodes ws
 took_at nodes took.Datagram ws = datagram_at ws
 took_at nodes took.Opened ws = opened_at ws
 took_at nodes took.Bytes ws = bytes_at ws
@@ -343,6 +362,24 @@ of_want_at ws = do
   name ← word_at want_of ws
   wanted_at name.0 name.1
 
+-- ---- answers to returns
+
+unfoldable pub busy_return_at : List (List ℕ) → Parsed RecordAnswer
+busy_return_at ws = do
+  prefix ← word_at prefix_of ws
+  ending (answer.Return (Err (back.Busy prefix.0))) prefix.1
+
+abbrev pub returned_at : ReturnName → List (List ℕ) → Parsed RecordAnswer
+returned_at returned.Fine ws = ending (answer.Return (Ok tt)) ws
+returned_at returned.Busy ws = busy_return_at ws
+returned_at returned.NotFree ws = ending (answer.Return (Err back.NotFree)) ws
+returned_at returned.Full ws = ending (answer.Return (Err back.Full)) ws
+
+unfoldable pub of_return_at : List (List ℕ) → Parsed RecordAnswer
+of_return_at ws = do
+  name ← word_at return_of ws
+  returned_at name.0 name.1
+
 -- ---- answers to datagrams and streams
 
 unfoldable pub of_datagram_at : List (List ℕ) → Parsed RecordAnswer
@@ -424,6 +461,7 @@ abbrev pub answer_at : RecordInput → List (List ℕ) → Parsed RecordAnswer
 answer_at (input.Api asa call) ws = of_call_at (is_poll call) ws
 answer_at (input.Agent call) ws = of_call_at (is_poll call) ws
 answer_at (input.Want length longest peer) ws = of_want_at ws
+answer_at (input.Return prefix peer) ws = of_return_at ws
 answer_at (input.Datagram link from bytes) ws = of_datagram_at ws
 answer_at (input.Opened stream from) ws = of_stream_at ws
 answer_at (input.Bytes stream bytes) ws = of_stream_at ws

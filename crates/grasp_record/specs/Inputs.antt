@@ -2,7 +2,8 @@
 use Rattle.std.specs.Prelude.{◌≡◌, ◌<◌, ◌^◌, ℕ, true, List, [], ◌∷◌, codes, decimal}
 use Rattle.grasp_cbor.specs.Bytes.{AllBytes}
 use Rattle.grasp_types.specs.Address.{IsAddress}
-use Rattle.grasp_text.specs.Line.{address_word, bytes_word}
+use Rattle.grasp_types.specs.Prefix.{IsPrefix}
+use Rattle.grasp_text.specs.Line.{address_word, bytes_word, prefix_word}
 use Rattle.grasp_model_network.specs.Events.{AreLengths}
 use Rattle.grasp_model_network.specs.Plans.{IsNode}
 use Rattle.grasp_script.specs.Calls.{call_words, IsCall, may_call}
@@ -14,6 +15,7 @@ abbrev pub input_words : RecordInput → List (List ℕ)
 input_words (input.Api asa call) = codes "api" ∷ decimal asa ∷ call_words call
 input_words (input.Agent call) = codes "agent" ∷ call_words call
 input_words (input.Want length longest peer) = codes "want" ∷ decimal length ∷ decimal longest ∷ decimal peer ∷ []
+input_words (input.Return prefix peer) = codes "return" ∷ prefix_word prefix ∷ decimal peer ∷ []
 input_words (input.Datagram link from bytes) = codes "datagram" ∷ decimal link ∷ decimal from ∷ bytes_word bytes ∷ []
 input_words (input.Opened stream from) = codes "opened" ∷ decimal stream ∷ address_word from ∷ []
 input_words (input.Bytes stream bytes) = codes "bytes" ∷ decimal stream ∷ bytes_word bytes ∷ []
@@ -25,6 +27,7 @@ abbrev pub IsInput : ℕ → RecordInput → Type 0
 IsInput nodes (input.Api asa call) = (asa < 2 ^ 32) × IsCall nodes call × (may_call asa call ≡ true)
 IsInput nodes (input.Agent call) = IsCall nodes call
 IsInput nodes (input.Want length longest peer) = AreLengths length longest × IsNode nodes peer
+IsInput nodes (input.Return prefix peer) = IsPrefix prefix.address prefix.length × IsNode nodes peer
 IsInput nodes (input.Datagram link from bytes) = (link < 2 ^ 8) × (from < 2 ^ 8) × AllBytes bytes
 IsInput nodes (input.Opened stream from) = (stream < 2 ^ 64) × IsAddress from
 IsInput nodes (input.Bytes stream bytes) = (stream < 2 ^ 64) × AllBytes bytes

@@ -1,14 +1,16 @@
-//! Reading what a node answered to a call or a want.
+//! Reading what a node answered to a call, a want or a return.
 
 ghost use Rattle.std.specs.Prelude.{◌≡◌, []};
 ghost use Rattle.grasp_text.specs.Reading.{Reads, word_at};
-ghost use Rattle.grasp_record.specs.Grammar.{answer_of, want_of, refusal_of, asa_at, started_at, found_at, not_yet, incoming_at, turn_at, flood_read_at, each_at, refused_at, answered_at, of_call_at, busy_at, wanted_at, of_want_at};
+ghost use Rattle.grasp_record.specs.Grammar.{answer_of, want_of, return_of, refusal_of, asa_at, started_at, found_at, not_yet, incoming_at, turn_at, flood_read_at, each_at, refused_at, answered_at, of_call_at, busy_at, wanted_at, of_want_at, busy_return_at, returned_at, of_return_at};
 
 use crate::line::RecordAnswer;
-use crate::names::{AnswerName, WantName, answer_name, refusal, want_name};
+use crate::names::{
+    AnswerName, ReturnName, WantName, answer_name, refusal, return_name, want_name,
+};
 use crate::outcomes::read_ended;
-use grasp_agent::WantFault;
-use grasp_script::read_handle;
+use grasp_agent::{ReturnFault, WantFault};
+use grasp_script::{read_handle, read_prefix};
 use grasp_text::{WordFault, Words, read_locator, read_objective, read_optional_locator};
 use grasp_types::{ApiAnswer, ApiRefused, FloodRead, FloodReads, Locators, Progress};
 use std::alloc::Global;
@@ -225,4 +227,50 @@ fn read_busy(words: &mut Words<'_>) -> Result<RecordAnswer, WordFault>
     let longest = words.number(255)? as u8;
     words.end()?;
     Ok(RecordAnswer::Want(Err(WantFault::Busy { length, longest })))
+}
+
+/// Takes the answer to a return, to the end of the line.
+#[tactic(auto, unfolding(crate::specs::Grammar::of_return_at))]
+pub(crate) fn read_of_return(words: &mut Words<'_>) -> Result<RecordAnswer, WordFault>
+    ensures { Reads (λ a. a) result words.new (of_return_at words.old) }
+{
+    let name = read_return_name(words)?;
+    read_returned(words, name)
+}
+
+fn read_return_name(words: &mut Words<'_>) -> Result<ReturnName, WordFault>
+    ensures { Reads (λ n. n) result words.new (word_at return_of words.old) }
+{
+    let (word, unfit) = words.next()?;
+    return_name(word).ok_or(unfit)
+}
+
+/// Takes what stands behind the first word of the answer to a return.
+fn read_returned(words: &mut Words<'_>, name: ReturnName) -> Result<RecordAnswer, WordFault>
+    ensures { Reads (λ a. a) result words.new (returned_at name words.old) }
+{
+    match name {
+        ReturnName::Fine => {
+            words.end()?;
+            Ok(RecordAnswer::Return(Ok(())))
+        }
+        ReturnName::Busy => read_busy_return(words),
+        ReturnName::NotFree => {
+            words.end()?;
+            Ok(RecordAnswer::Return(Err(ReturnFault::NotFree)))
+        }
+        ReturnName::Full => {
+            words.end()?;
+            Ok(RecordAnswer::Return(Err(ReturnFault::Full)))
+        }
+    }
+}
+
+#[tactic(auto, unfolding(crate::specs::Grammar::busy_return_at))]
+fn read_busy_return(words: &mut Words<'_>) -> Result<RecordAnswer, WordFault>
+    ensures { Reads (λ a. a) result words.new (busy_return_at words.old) }
+{
+    let prefix = read_prefix(words)?;
+    words.end()?;
+    Ok(RecordAnswer::Return(Err(ReturnFault::Busy { prefix })))
 }

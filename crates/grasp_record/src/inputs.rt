@@ -3,12 +3,12 @@
 ghost use Rattle.std.specs.Prelude.{◌≡◌, IfOk};
 ghost use Rattle.grasp_cbor.specs.Bytes.{AllBytes};
 ghost use Rattle.grasp_text.specs.Reading.{Reads, word_at};
-ghost use Rattle.grasp_record.specs.Grammar.{octets_of, input_of, api_at, agent_at, want_at, datagram_at, opened_at, bytes_at, closed_at, drain_at, took_at, asked_at};
+ghost use Rattle.grasp_record.specs.Grammar.{octets_of, input_of, api_at, agent_at, want_at, return_at, datagram_at, opened_at, bytes_at, closed_at, drain_at, took_at, asked_at};
 
 use crate::line::RecordInput;
 use crate::names::{InputName, input_name};
 use grasp_cbor::{Octets, OutOfMemory};
-use grasp_script::{are_lengths, may_make, read_call, read_node};
+use grasp_script::{are_lengths, may_make, read_call, read_node, read_prefix};
 use grasp_text::{WordFault, Words, bytes};
 use std::alloc::Global;
 
@@ -58,6 +58,7 @@ fn read_took(
             call: read_call(alloc, words, nodes)?,
         }),
         InputName::Want => read_want(words, nodes),
+        InputName::Return => read_return(words, nodes),
         InputName::Datagram => read_datagram(alloc, words),
         InputName::Opened => read_opened(words),
         InputName::Bytes => read_bytes(alloc, words),
@@ -121,6 +122,16 @@ fn read_want(words: &mut Words<'_>, nodes: u8) -> Result<RecordInput, WordFault>
         longest,
         peer,
     })
+}
+
+#[tactic(auto, unfolding(crate::specs::Grammar::return_at))]
+fn read_return(words: &mut Words<'_>, nodes: u8) -> Result<RecordInput, WordFault>
+    ensures { Reads (λ i. i) result words.new (return_at nodes words.old) }
+{
+    let prefix = read_prefix(words)?;
+    let peer = read_node(words, nodes)?;
+    words.end()?;
+    Ok(RecordInput::Return { prefix, peer })
 }
 
 #[tactic(auto, unfolding(crate::specs::Grammar::datagram_at))]

@@ -1,8 +1,8 @@
 //! Lines of a record.
 
-use grasp_agent::WantFault;
+use grasp_agent::{ReturnFault, WantFault};
 use grasp_cbor::Octets;
-use grasp_types::{Address, ApiAnswer, ApiRefused, Call, Outputs};
+use grasp_types::{Address, ApiAnswer, ApiRefused, Call, Outputs, Prefix};
 
 /// What a node took.
 #[derive(Debug, Drop)]
@@ -13,6 +13,8 @@ pub enum RecordInput {
     Agent { call: Call },
     /// The node's own agent is to get a prefix of this length, or of one up to the longest, from a peer.
     Want { length: u8, longest: u8, peer: u8 },
+    /// The node's own agent is to give this prefix back to a peer.
+    Return { prefix: Prefix, peer: u8 },
     /// A datagram that came on a link from a neighbour.
     Datagram { link: u8, from: u8, bytes: Octets },
     /// A stream that a peer opened.
@@ -34,6 +36,8 @@ pub enum RecordAnswer {
     Refused(ApiRefused),
     /// The agent took the want, or didn't.
     Want(Result<(), WantFault>),
+    /// The agent took the return, or didn't.
+    Return(Result<(), ReturnFault>),
     /// The input was taken.
     Taken,
     /// The stream was turned away.

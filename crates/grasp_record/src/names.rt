@@ -1,7 +1,7 @@
 //! The words that say what follows.
 
 ghost use Rattle.std.specs.Prelude.{◌≡◌};
-ghost use Rattle.grasp_record.specs.Grammar.{input_of, answer_of, outcome_of, want_of, output_of, refusal_of, by_of, taken_of};
+ghost use Rattle.grasp_record.specs.Grammar.{input_of, answer_of, outcome_of, want_of, return_of, output_of, refusal_of, by_of, taken_of};
 
 use grasp_types::{ApiRefused, By};
 
@@ -11,6 +11,7 @@ pub(crate) enum InputName {
     Api,
     Agent,
     Want,
+    Return,
     Datagram,
     Opened,
     Bytes,
@@ -54,6 +55,15 @@ pub(crate) enum WantName {
     Full,
 }
 
+/// The first word of the answer to a return.
+#[derive(Clone, Copy)]
+pub(crate) enum ReturnName {
+    Fine,
+    Busy,
+    NotFree,
+    Full,
+}
+
 /// The first word of an output.
 #[derive(Clone, Copy)]
 pub(crate) enum OutputName {
@@ -74,6 +84,8 @@ pub(crate) fn input_name(word: &[u8]) -> Option<InputName>
         Some(InputName::Agent)
     } else if word == b"want".as_slice() {
         Some(InputName::Want)
+    } else if word == b"return".as_slice() {
+        Some(InputName::Return)
     } else if word == b"datagram".as_slice() {
         Some(InputName::Datagram)
     } else if word == b"opened".as_slice() {
@@ -156,6 +168,24 @@ pub(crate) fn want_name(word: &[u8]) -> Option<WantName>
         Some(WantName::Busy)
     } else if word == b"full".as_slice() {
         Some(WantName::Full)
+    } else {
+        None
+    }
+}
+
+/// The answer to a return that this word begins.
+#[tactic(auto, unfolding(crate::specs::Grammar::return_of))]
+pub(crate) fn return_name(word: &[u8]) -> Option<ReturnName>
+    ensures { result ≡ return_of word.now }
+{
+    if word == b"ok".as_slice() {
+        Some(ReturnName::Fine)
+    } else if word == b"busy".as_slice() {
+        Some(ReturnName::Busy)
+    } else if word == b"notfree".as_slice() {
+        Some(ReturnName::NotFree)
+    } else if word == b"full".as_slice() {
+        Some(ReturnName::Full)
     } else {
         None
     }

@@ -8,7 +8,7 @@ ghost use Rattle.grasp_record.specs.Dividing.{IsDivided};
 ghost use Rattle.grasp_record.specs.Grammar.{answer_at, record_at};
 ghost use Rattle.grasp_record.specs.Records.{IsRecordLine, IsNoRecordLine};
 
-use crate::answers::{read_of_call, read_of_want};
+use crate::answers::{read_of_call, read_of_return, read_of_want};
 use crate::inputs::read_asked;
 use crate::line::{RecordAnswer, RecordInput, RecordLine};
 use crate::outputs::{read_of_datagram, read_of_drain, read_of_stream};
@@ -90,6 +90,7 @@ fn read_answer(
         RecordInput::Api { asa: _, call } => read_of_call(alloc, words, is_poll(call)),
         RecordInput::Agent { call } => read_of_call(alloc, words, is_poll(call)),
         RecordInput::Want { .. } => read_of_want(words),
+        RecordInput::Return { .. } => read_of_return(words),
         RecordInput::Datagram { .. } => read_of_datagram(words),
         RecordInput::Opened { .. } => read_of_stream(words),
         RecordInput::Bytes { .. } => read_of_stream(words),

@@ -12,9 +12,9 @@ ghost use Rattle.grasp_record.specs.declared.line.RecordInput.TheVariants as inp
 
 use crate::line::{RecordAnswer, RecordInput, RecordLine};
 use grasp_cbor::{Octets, OutOfMemory};
-use grasp_script::{push_api_answer, push_call, push_count, push_refusal, push_want};
-use grasp_text::{push_address, push_bytes, push_locator, push_number, push_word};
-use grasp_types::{Output, Outputs};
+use grasp_script::{push_api_answer, push_call, push_count, push_refusal, push_return, push_want};
+use grasp_text::{push_address, push_bytes, push_locator, push_number, push_prefix, push_word};
+use grasp_types::{Output, Outputs, Prefix};
 use itoa::Buffer;
 use std::alloc::Global;
 
@@ -94,6 +94,21 @@ fn push_wanted(out: &mut String, length: u8, longest: u8, peer: u8) -> Result<()
     push_number(out, u64::from(peer))
 }
 
+#[tactic(auto, using(crate::proofs::Pushed::pushes))]
+fn push_returned(
+    alloc: Global,
+    out: &mut String,
+    prefix: Prefix,
+    peer: u8,
+) -> Result<(), OutOfMemory>
+    ensures text { OnOk result (string_bytes out.new ≡ string_bytes out.old ++ spaced (input_words (input.Return prefix peer))) }
+    ensures err { OnErr result (Extends (string_bytes out.old) (string_bytes out.new)) }
+{
+    push_word(out, "return")?;
+    push_prefix(alloc, out, prefix)?;
+    push_number(out, u64::from(peer))
+}
+
 /// Appends what a node took, each word behind a blank.
 #[tactic(auto, using(crate::proofs::Pushed::pushes))]
 fn push_input(alloc: Global, out: &mut String, input: &RecordInput) -> Result<(), OutOfMemory>
@@ -114,6 +129,7 @@ fn push_input(alloc: Global, out: &mut String, input: &RecordInput) -> Result<()
             longest,
             peer,
         } => push_wanted(out, *length, *longest, *peer),
+        RecordInput::Return { prefix, peer } => push_returned(alloc, out, *prefix, *peer),
         RecordInput::Datagram { link, from, bytes } => {
             push_datagram(alloc, out, *link, *from, bytes)
         }
@@ -181,6 +197,7 @@ fn push_told(alloc: Global, out: &mut String, answer: &RecordAnswer) -> Result<(
         RecordAnswer::Api(answer) => push_api_answer(alloc, out, answer),
         RecordAnswer::Refused(refusal) => push_refusal(out, *refusal),
         RecordAnswer::Want(taken) => push_want(out, taken),
+        RecordAnswer::Return(taken) => push_return(alloc, out, taken),
         RecordAnswer::Taken => push_word(out, "taken"),
         RecordAnswer::Turned => push_word(out, "turned"),
         RecordAnswer::Outputs(outputs) => push_drained(alloc, out, outputs),

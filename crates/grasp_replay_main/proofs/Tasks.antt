@@ -30,14 +30,14 @@ use Rattle.grasp_replay_main.specs.Ending.{status_of}
 use Rattle.grasp_replay_main.specs.Gen.{Summarizes, Overruns}
 use Rattle.grasp_replay_main.specs.Replay.{Stops, IsShortScript}
 use Rattle.grasp_replay_main.specs.Show.{Shows, shown, rest_finding}
-use Rattle.grasp_replay_main.specs.Task.{ShowMakes, PackMakes, ReplayMakes, GenMakes, Makes, RunsTooFar, IsBadScript}
+use Rattle.grasp_replay_main.specs.Task.{ShowMakes, PackMakes, ReplayMakes, GenMakes, DrawMakes, Makes, RunsTooFar, IsBadScript}
 use Rattle.grasp_replay_main.specs.Written.{Writes}
 use Rattle.grasp_replay_main.specs.declared.exit.Finding.{Finding}
 use Rattle.grasp_replay_main.specs.declared.exit.Finding.TheVariants.{Cut, Truncated, BadText, TooLong}
 use Rattle.grasp_replay_main.specs.declared.exit.Status.{Status}
 use Rattle.grasp_replay_main.specs.declared.exit.Status.TheVariants as status
 use Rattle.grasp_replay_main.specs.declared.task.Task.{Task}
-use Rattle.grasp_replay_main.specs.declared.task.Task.TheVariants.{Show, Pack, Replay, Gen}
+use Rattle.grasp_replay_main.specs.declared.task.Task.TheVariants.{Show, Pack, Replay, Gen, Draw}
 use Rattle.grasp_replay_main.specs.declared.unfinished.Unfinished.{Unfinished}
 
 -- a stream divides in one way
@@ -207,11 +207,17 @@ gen_one k j number a b s t x y =
     ends_one (Summarizes number) (NothingOf number) a b s t (k.summaries (script_of number) number a b) (λ p q. p.0 ∙ sym q.0) (λ ends stops. j.summaries (script_of number) number a ends stops.1)
     (λ ends stops. j.summaries (script_of number) number b ends stops.1) (gen_end number a s x) (gen_end number b t y)
 
+draw_one : (number : ℕ) (a b : List ℕ) (s t : Status) → DrawMakes number a s → DrawMakes number b t → (a ≡ b) × (s ≡ t)
+draw_one number a b status.Ok status.Ok x y = (x ∙ sym y, refl)
+draw_one number a b status.Ok _ x y = absurd y
+draw_one number a b _ t x y = absurd x
+
 pub tasks_are_functions : TextsAgree → RunsOrStops → TasksAreFunctions
 tasks_are_functions k j Show limit input a b s t some bytes x y = show_one limit input a b s t bytes x y
 tasks_are_functions k j Pack limit input a b s t some bytes x y = pack_one limit input a b s t x y
 tasks_are_functions k j Replay limit input a b s t some bytes x y = replay_one k j input a b s t x y
 tasks_are_functions k j (Gen number) limit input a b s t some bytes x y = gen_one k j number a b s t x y
+tasks_are_functions k j (Draw number) limit input a b s t some bytes x y = draw_one number a b s t x y
 
 -- the run of a short script doesn't send too much
 short_runs : (input : List ℕ) (plan : WorldPlan) (lines : List Line) → IsShortScript input plan lines → ¬ TextSendsTooMuch input
@@ -225,6 +231,7 @@ whole_runs Show limit input far whole = far
 whole_runs Pack limit input far whole = far
 whole_runs Replay limit input far whole = short_runs input whole.0 whole.1 whole.2 far
 whole_runs (Gen number) limit input far whole = whole far
+whole_runs (Draw number) limit input far whole = far
 
 -- what is made with this status stops no whole run
 pub stops_too_far : (task : Task) (limit : ℕ) (input output : List ℕ) → Makes task limit input output status.TooLarge → RunsTooFar task input
@@ -232,10 +239,15 @@ stops_too_far Show limit input output x = absurd x
 stops_too_far Pack limit input output x = absurd x
 stops_too_far Replay limit input output x = too_much input output x
 stops_too_far (Gen number) limit input output x = x.1
+stops_too_far (Draw number) limit input output x = x
 
 well_unless : (P Q : List ℕ → Type 0) (output : List ℕ) (s : Status) → EndsOrStops P Q output s → ¬ Q output → s ≡ status.Ok
 well_unless P Q output s (inl x) not = x.0
 well_unless P Q output s (inr x) not = absurd (not x.1)
+
+draw_ends : (number : ℕ) (output : List ℕ) (s : Status) → DrawMakes number output s → s ≡ status.Ok
+draw_ends number output status.Ok x = refl
+draw_ends number output _ x = absurd x
 
 pub whole_inputs_end_well : WholeInputsEndWell
 whole_inputs_end_well Show limit input output ended some bytes whole x =
@@ -246,6 +258,7 @@ whole_inputs_end_well Replay limit input output ended some bytes whole x =
     well_unless (Replays input) (Stops input) output ended (replay_end input output ended x) (λ stops. whole_runs Replay limit input (too_much input output stops) whole)
 whole_inputs_end_well (Gen number) limit input output ended some bytes whole x =
     well_unless (Summarizes number) (NothingOf number) output ended (gen_end number output ended x) (λ stops. whole stops.1)
+whole_inputs_end_well (Draw number) limit input output ended some bytes whole x = draw_ends number output ended x
 
 -- no finding of a task is want of memory
 

@@ -1,4 +1,4 @@
--- What `gen` makes of a number: the summary of the run of the script that is drawn from it.
+-- What `gen` makes of a number: the summary of the run of the script that is drawn from it. And how `gen` and `draw` may end.
 use Rattle.std.specs.Prelude.{ℕ, List, ⊤}
 use Rattle.grasp_script_draws.specs.Generator.{script_of}
 use Rattle.grasp_model_script.specs.Stops.{TextSendsTooMuch}
@@ -24,3 +24,14 @@ IsGenEnd status.ReadFault = ⊥
 IsGenEnd status.WriteFault = ⊤
 IsGenEnd status.OutOfMemory = ⊤
 IsGenEnd status.TooLarge = ⊤
+
+-- Inside: how `draw` may end
+abbrev pub IsDrawEnd : Status → Type 0
+IsDrawEnd status.Ok = ⊤
+IsDrawEnd (status.Finding finding) = ⊥
+IsDrawEnd status.Usage = ⊥
+IsDrawEnd (status.BadScript line) = ⊥
+IsDrawEnd status.ReadFault = ⊥
+IsDrawEnd status.WriteFault = ⊤
+IsDrawEnd status.OutOfMemory = ⊤
+IsDrawEnd status.TooLarge = ⊥

@@ -1,5 +1,5 @@
 -- Inputs with which the tasks end well, and that each task makes one thing of an input.
-use Rattle.std.specs.Prelude.{◌≡◌, ◌<◌, ℕ, List, All, map}
+use Rattle.std.specs.Prelude.{◌≡◌, ◌<◌, ℕ, List, All, map, ⊤}
 use Rattle.grasp_cbor.specs.Bytes.{AllBytes}
 use Rattle.grasp_types.specs.declared.message.Message.{Message}
 use Rattle.grasp_text.specs.Line.{line_of}
@@ -14,7 +14,7 @@ use Rattle.grasp_replay_main.specs.Task.{Makes}
 use Rattle.grasp_replay_main.specs.declared.exit.Status.{Status}
 use Rattle.grasp_replay_main.specs.declared.exit.Status.TheVariants as status
 use Rattle.grasp_replay_main.specs.declared.task.Task.{Task}
-use Rattle.grasp_replay_main.specs.declared.task.Task.TheVariants.{Show, Pack, Replay, Gen}
+use Rattle.grasp_replay_main.specs.declared.task.Task.TheVariants.{Show, Pack, Replay, Gen, Draw}
 
 -- the input is lines of messages that can be packed
 pub record AreLines (limit : ℕ) (input : List ℕ) (messages : List Message) : Type 0 where
@@ -22,12 +22,13 @@ pub record AreLines (limit : ℕ) (input : List ℕ) (messages : List Message) :
   pub can : All (CanPack limit) messages
 
 -- the input is whole: wire forms of messages for `show`, lines of messages that fit for `pack`, a script for `replay` whose run
--- doesn't send too much; and so is every input of `gen` where the run of the script that is drawn doesn't
+-- doesn't send too much; and so is every input of `gen` where the run of the script that is drawn doesn't, and of `draw`
 abbrev pub IsWholeInput : Task → ℕ → List ℕ → Type 0
 IsWholeInput Show limit input = (messages : List Message) × AreWireForms messages input limit
 IsWholeInput Pack limit input = (messages : List Message) × AreLines limit input messages
 IsWholeInput Replay limit input = (plan : WorldPlan) × (lines : List Line) × IsShortScript input plan lines
 IsWholeInput (Gen number) limit input = ¬ Overruns number
+IsWholeInput (Draw number) limit input = ⊤
 
 -- a task makes one output of an input, with one status
 abbrev pub TasksAreFunctions : Type 0

@@ -3,6 +3,7 @@ use Rattle.std.specs.Prelude.{◌≡◌, ◌<◌, ◌⊎◌, if◌then◌else◌
 use Rattle.std.specs.Io.KnownBytes.{Appends}
 use Rattle.grasp_io.specs.Known.{AppendsFront}
 use Rattle.grasp_script.specs.Scripts.{text_lines, IsBadLine, IsNoScript}
+use Rattle.grasp_script_draws.specs.Generator.{script_of}
 use Rattle.grasp_model_script.specs.ScriptRuns.{Replays, BeginsToReplay}
 use Rattle.grasp_model_script.specs.Stops.{TextSendsTooMuch}
 use Rattle.grasp_text.specs.Reading.{number_of}
@@ -11,12 +12,13 @@ use Rattle.grasp_replay_main.specs.Pack.{Packs}
 use Rattle.grasp_replay_main.specs.Replay.{Stops}
 use Rattle.grasp_replay_main.specs.Show.{Shows}
 use Rattle.grasp_wire.specs.declared.fault.CutFault.TheVariants as cut
+use Rattle.grasp_replay_main.specs.declared.exit.Finding.{Finding}
 use Rattle.grasp_replay_main.specs.declared.exit.Finding.TheVariants as finding
 use Rattle.grasp_replay_main.specs.declared.exit.Status.{Status}
 use Rattle.grasp_replay_main.specs.declared.exit.Status.TheVariants as status
 use Rattle.grasp_replay_main.specs.Limits.{input_limit, line_limit}
 use Rattle.grasp_replay_main.specs.declared.task.Task.{Task}
-use Rattle.grasp_replay_main.specs.declared.task.Task.TheVariants.{Show, Pack, Replay, Gen}
+use Rattle.grasp_replay_main.specs.declared.task.Task.TheVariants.{Show, Pack, Replay, Gen, Draw}
 use Rattle.grasp_replay_main.specs.declared.unfinished.Unfinished.{Unfinished}
 use Rattle.grasp_replay_main.specs.declared.unfinished.Unfinished.TheVariants as unfinished
 
@@ -27,7 +29,9 @@ task_named word =
 
 -- what a word and a number ask for; the number is decimal, below 2 ^ 64
 abbrev pub task_numbered : List ℕ → List ℕ → Option Task
-task_numbered word number = if bytes_eq word (codes "gen") then option_map Gen (number_of 18446744073709551615 number) else None
+task_numbered word number =
+    if bytes_eq word (codes "gen") then option_map Gen (number_of 18446744073709551615 number)
+    else if bytes_eq word (codes "draw") then option_map Draw (number_of 18446744073709551615 number) else None
 
 -- what the words ask for: one word does, or a word and a number
 abbrev pub task_of : List (List ℕ) → Option Task
@@ -36,56 +40,63 @@ task_of (word ∷ []) = task_named word
 task_of (word ∷ number ∷ []) = task_numbered word number
 task_of (word ∷ number ∷ other ∷ words) = None
 
--- the task reads its input; `gen` has none
+-- the task reads its input; `gen` and `draw` have none
 abbrev pub ReadsInput : Task → Type 0
 ReadsInput Show = ⊤
 ReadsInput Pack = ⊤
 ReadsInput Replay = ⊤
 ReadsInput (Gen number) = ⊥
+ReadsInput (Draw number) = ⊥
+
+-- the input of the task, where it is known: what was left to read, and nothing where it reads none
+abbrev pub input_of : Task → Option (List ℕ) → Option (List ℕ)
+input_of Show left = left
+input_of Pack left = left
+input_of Replay left = left
+input_of (Gen number) left = Some []
+input_of (Draw number) left = Some []
+
+-- all is made, or what comes before a finding
+abbrev pub IsUpToFinding : (Option Finding → Type 0) → Status → Type 0
+IsUpToFinding F status.Ok = F None
+IsUpToFinding F (status.Finding finding) = F (Some finding)
+IsUpToFinding F status.Usage = ⊥
+IsUpToFinding F (status.BadScript line) = ⊥
+IsUpToFinding F status.ReadFault = ⊥
+IsUpToFinding F status.WriteFault = ⊥
+IsUpToFinding F status.OutOfMemory = ⊥
+IsUpToFinding F status.TooLarge = ⊥
+
+-- all is made, as P says, or a run is cut off, since it sends too much, as Q says
+abbrev pub IsUpToStop : Type 0 → Type 0 → Status → Type 0
+IsUpToStop P Q status.Ok = P
+IsUpToStop P Q status.TooLarge = Q
+IsUpToStop P Q (status.Finding finding) = ⊥
+IsUpToStop P Q status.Usage = ⊥
+IsUpToStop P Q (status.BadScript line) = ⊥
+IsUpToStop P Q status.ReadFault = ⊥
+IsUpToStop P Q status.WriteFault = ⊥
+IsUpToStop P Q status.OutOfMemory = ⊥
 
 -- what `show` makes of an input: all of it, or up to a finding
 abbrev pub ShowMakes : ℕ → List ℕ → List ℕ → Status → Type 0
-ShowMakes limit input output status.Ok = Shows limit input output None
-ShowMakes limit input output (status.Finding finding) = Shows limit input output (Some finding)
-ShowMakes limit input output status.Usage = ⊥
-ShowMakes limit input output (status.BadScript line) = ⊥
-ShowMakes limit input output status.ReadFault = ⊥
-ShowMakes limit input output status.WriteFault = ⊥
-ShowMakes limit input output status.OutOfMemory = ⊥
-ShowMakes limit input output status.TooLarge = ⊥
+ShowMakes limit input output ended = IsUpToFinding (Shows limit input output) ended
 
 -- what `pack` makes of an input: all of it, or up to a finding
 abbrev pub PackMakes : ℕ → List ℕ → List ℕ → Status → Type 0
-PackMakes limit input output status.Ok = Packs limit input output None
-PackMakes limit input output (status.Finding finding) = Packs limit input output (Some finding)
-PackMakes limit input output status.Usage = ⊥
-PackMakes limit input output (status.BadScript line) = ⊥
-PackMakes limit input output status.ReadFault = ⊥
-PackMakes limit input output status.WriteFault = ⊥
-PackMakes limit input output status.OutOfMemory = ⊥
-PackMakes limit input output status.TooLarge = ⊥
+PackMakes limit input output ended = IsUpToFinding (Packs limit input output) ended
 
 -- what `replay` makes of an input: the text of its whole run, or of the run up to the line that sends too much
 abbrev pub ReplayMakes : List ℕ → List ℕ → Status → Type 0
-ReplayMakes input output status.Ok = Replays input output
-ReplayMakes input output (status.Finding finding) = ⊥
-ReplayMakes input output status.Usage = ⊥
-ReplayMakes input output (status.BadScript line) = ⊥
-ReplayMakes input output status.ReadFault = ⊥
-ReplayMakes input output status.WriteFault = ⊥
-ReplayMakes input output status.OutOfMemory = ⊥
-ReplayMakes input output status.TooLarge = Stops input output
+ReplayMakes input output ended = IsUpToStop (Replays input output) (Stops input output) ended
 
 -- what `gen` makes of a number: the summary of the whole run, or nothing where the run sends too much
 abbrev pub GenMakes : ℕ → List ℕ → Status → Type 0
-GenMakes number output status.Ok = Summarizes number output
-GenMakes number output (status.Finding finding) = ⊥
-GenMakes number output status.Usage = ⊥
-GenMakes number output (status.BadScript line) = ⊥
-GenMakes number output status.ReadFault = ⊥
-GenMakes number output status.WriteFault = ⊥
-GenMakes number output status.OutOfMemory = ⊥
-GenMakes number output status.TooLarge = (output ≡ []) × Overruns number
+GenMakes number output ended = IsUpToStop (Summarizes number output) ((output ≡ []) × Overruns number) ended
+
+-- what `draw` makes of a number: the script that is drawn from it
+abbrev pub DrawMakes : ℕ → List ℕ → Status → Type 0
+DrawMakes number output ended = IsUpToStop (output ≡ script_of number) ⊥ ended
 
 -- what the task makes of an input: the output, and the status with which the program ends once it is written
 abbrev pub Makes : Task → ℕ → List ℕ → List ℕ → Status → Type 0
@@ -93,6 +104,7 @@ Makes Show limit input output ended = ShowMakes limit input output ended
 Makes Pack limit input output ended = PackMakes limit input output ended
 Makes Replay limit input output ended = ReplayMakes input output ended
 Makes (Gen number) limit input output ended = GenMakes number output ended
+Makes (Draw number) limit input output ended = DrawMakes number output ended
 
 -- where the task is cut off, a beginning of this may have been written: of what it makes of the input, or of what the run of a
 -- script reports as far as it goes
@@ -101,6 +113,7 @@ MayBegin Show limit input output = (ended : Status) × ShowMakes limit input out
 MayBegin Pack limit input output = (ended : Status) × PackMakes limit input output ended
 MayBegin Replay limit input output = BeginsToReplay input output
 MayBegin (Gen number) limit input output = Summarizes number output
+MayBegin (Draw number) limit input output = output ≡ script_of number
 
 -- the input is to be run as a script, and has more lines than one may have
 abbrev pub HasTooManyLines : Task → List ℕ → Type 0
@@ -108,6 +121,7 @@ HasTooManyLines Show input = ⊥
 HasTooManyLines Pack input = ⊥
 HasTooManyLines Replay input = line_limit < length (text_lines input)
 HasTooManyLines (Gen number) input = ⊥
+HasTooManyLines (Draw number) input = ⊥
 
 -- the input is read, and has too many bytes
 abbrev pub HasTooManyBytes : Task → List ℕ → Type 0
@@ -115,6 +129,7 @@ HasTooManyBytes Show input = input_limit < length input
 HasTooManyBytes Pack input = input_limit < length input
 HasTooManyBytes Replay input = input_limit < length input
 HasTooManyBytes (Gen number) input = ⊥
+HasTooManyBytes (Draw number) input = ⊥
 
 -- the input has too many bytes, or too many lines
 abbrev pub IsTooLarge : Task → List ℕ → Type 0
@@ -126,6 +141,7 @@ RunsTooFar Show input = ⊥
 RunsTooFar Pack input = ⊥
 RunsTooFar Replay input = TextSendsTooMuch input
 RunsTooFar (Gen number) input = Overruns number
+RunsTooFar (Draw number) input = ⊥
 
 -- the input is to be run as a script, and is none: this line is bad
 abbrev pub IsBadScript : Task → List ℕ → ℕ → Type 0
@@ -133,6 +149,7 @@ IsBadScript Show input line = ⊥
 IsBadScript Pack input line = ⊥
 IsBadScript Replay input line = IsBadLine input line × IsNoScript input
 IsBadScript (Gen number) input line = ⊥
+IsBadScript (Draw number) input line = ⊥
 
 -- Inside: why the output that the task makes of the input isn't written whole
 abbrev pub IsUnfinished : Task → List ℕ → Unfinished → Type 0

@@ -4,12 +4,12 @@ ghost use Rattle.grasp_io.specs.Faults.{Rose};
 ghost use Rattle.grasp_replay_main.specs.Ending.{IsAfterInput};
 ghost use Rattle.grasp_replay_main.specs.Laws.{IsWholeInput};
 ghost use Rattle.grasp_replay_main.specs.Limits.{input_limit, message_limit};
-ghost use Rattle.grasp_replay_main.specs.Task.{task_of, ReadsInput, Makes, MayBegin, Tells, BeginsToTell, IsReadToEnd, IsDone, IsOfInput, HasTooManyLines, IsTooLarge, IsBadScript, IsUnfinished, IsOutcome, IsOkOrMemory};
+ghost use Rattle.grasp_replay_main.specs.Task.{task_of, ReadsInput, input_of, Makes, MayBegin, Tells, BeginsToTell, IsReadToEnd, IsDone, IsOfInput, HasTooManyLines, IsTooLarge, IsBadScript, IsUnfinished, IsOutcome, IsOkOrMemory};
 ghost use Rattle.grasp_runner.specs.Written as ran;
 ghost use Rattle.grasp_replay_main.specs.Written.{Writes};
 ghost use Rattle.grasp_replay_main.specs.declared.task.Task.{Task};
 
-use crate::drawn::generate;
+use crate::drawn::{draw, generate};
 use crate::exit::Status;
 use crate::pack::pack;
 use crate::replay::replay;
@@ -32,7 +32,7 @@ const MESSAGE_LIMIT: u32 = 2048;
 /// finding, and all that comes before that place was written. `replay` reads a script of a network, runs it, and writes
 /// the report of each of its lines while it goes. Where the input is no script, the status is `BadScript`, and nothing was
 /// written. `gen` reads nothing: it runs the script that is drawn from its number, and then writes one line that tells what
-/// the run came to. Where a run sends more than may be sent, the status is `TooLarge`, and of `replay` all reports before
+/// the run came to; `draw` writes that script. Where a run sends more than may be sent, the status is `TooLarge`, and of `replay` all reports before
 /// that were written. `OutOfMemory` may come wherever memory is wanted: a beginning of the output may be written then, but
 /// not of that of `gen`.
 pub fn replay_main<S: Source, K: Sink>(
@@ -41,18 +41,18 @@ pub fn replay_main<S: Source, K: Sink>(
     source: &mut S,
     sink: &mut K,
 ) -> Status
-    // The words come first: where they are no task, nothing is touched. `gen` touches no input.
+    // The words come first: where they are no task, nothing is touched. `gen` and `draw` touch no input.
     ensures usage { task_of (map string_bytes words.now) ≡ None → result ≡ Status.Usage }
     ensures no_usage { IsSome (task_of (map string_bytes words.now)) → result ≢ Status.Usage }
     ensures unread { result ≡ Status.Usage → source.new ≡ source.old }
-    ensures unread_by_gen { (number : ℕ) → task_of (map string_bytes words.now) ≡ Some (Task.Gen number) → source.new ≡ source.old }
-    ensures unfailed_by_gen { (number : ℕ) → task_of (map string_bytes words.now) ≡ Some (Task.Gen number) → result ≢ Status.ReadFault }
+    ensures unread_without_input { (task : Task) → task_of (map string_bytes words.now) ≡ Some task → ¬ ReadsInput task → source.new ≡ source.old }
+    ensures unfailed_without_input { (task : Task) → task_of (map string_bytes words.now) ≡ Some task → ¬ ReadsInput task → result ≢ Status.ReadFault }
 
     // Then the input is read to its end, at most 16,777,216 bytes. Then its lines are counted: for `replay` they are at
     // most 200,000.
     ensures read_fault { result ≡ Status.ReadFault → Rose (S.faults source.old) (S.faults source.new) }
     ensures small { (task : Task) → task_of (map string_bytes words.now) ≡ Some task → IsAfterInput result
-        → IfSome (S.left source.old) (λ input. ¬ IsTooLarge task input) }
+        → IfSome (input_of task (S.left source.old)) (λ input. ¬ IsTooLarge task input) }
     ensures read_to_end { (task : Task) → task_of (map string_bytes words.now) ≡ Some task → ReadsInput task → IsAfterInput result
         → IsReadToEnd (S.left source.old) (S.left source.new) }
     ensures read_all_lines { (task : Task) → task_of (map string_bytes words.now) ≡ Some task → ReadsInput task → result ≡ Status.TooLarge
@@ -60,14 +60,14 @@ pub fn replay_main<S: Source, K: Sink>(
 
     // Then a script is read: where the input is none, its bad line is told.
     ensures bad_script { (task : Task) (line : ℕ) → task_of (map string_bytes words.now) ≡ Some task → result ≡ Status.BadScript line
-        → IfSome (S.left source.old) (λ input. IsBadScript task input line) }
+        → IfSome (input_of task (S.left source.old)) (λ input. IsBadScript task input line) }
 
     // Then what the task makes of the input is written: all of it, up to the finding.
     ensures done { (task : Task) → task_of (map string_bytes words.now) ≡ Some task → IsDone result
         → Tells task message_limit (S.left source.old) (K.written sink.old) (K.written sink.new) result }
     // The input was too large, and nothing was written; or a run sent too much, and what it reports before that was written.
     ensures too_large { (task : Task) → task_of (map string_bytes words.now) ≡ Some task → result ≡ Status.TooLarge
-        → ((sink.new ≡ sink.old) × IfSome (S.left source.old) (λ input. IsTooLarge task input))
+        → ((sink.new ≡ sink.old) × IfSome (input_of task (S.left source.old)) (λ input. IsTooLarge task input))
         ⊎ Tells task message_limit (S.left source.old) (K.written sink.old) (K.written sink.new) Status.TooLarge }
     ensures of_input { IsOfInput result }
     ensures write_fault { result ≡ Status.WriteFault → Rose (K.faults sink.old) (K.faults sink.new) }
@@ -76,18 +76,18 @@ pub fn replay_main<S: Source, K: Sink>(
     ensures begun_for_memory { (task : Task) → task_of (map string_bytes words.now) ≡ Some task → result ≡ Status.OutOfMemory
         → (sink.new ≡ sink.old) ⊎ BeginsToTell task message_limit (S.left source.old) (K.written sink.old) (K.written sink.new) }
     ensures unwritten { ¬ IsDone result → result ≢ Status.WriteFault → result ≢ Status.OutOfMemory → result ≢ Status.TooLarge → sink.new ≡ sink.old }
-    ensures unwritten_by_gen { (number : ℕ) → task_of (map string_bytes words.now) ≡ Some (Task.Gen number)
+    ensures unwritten_without_input { (task : Task) → task_of (map string_bytes words.now) ≡ Some task → ¬ ReadsInput task
         → result ≢ Status.Ok → result ≢ Status.WriteFault → sink.new ≡ sink.old }
 
     // Where nothing outside fails, the input alone decides, unless memory is wanted.
     ensures complete { (task : Task) → task_of (map string_bytes words.now) ≡ Some task
         → ¬ Rose (S.faults source.old) (S.faults source.new) → ¬ Rose (K.faults sink.old) (K.faults sink.new)
-        → IfSome (S.left source.old) (λ input. ¬ IsTooLarge task input → IsOutcome task message_limit input result) }
+        → IfSome (input_of task (S.left source.old)) (λ input. ¬ IsTooLarge task input → IsOutcome task message_limit input result) }
     ensures complete_whole { (task : Task) → task_of (map string_bytes words.now) ≡ Some task
         → ¬ Rose (S.faults source.old) (S.faults source.new) → ¬ Rose (K.faults sink.old) (K.faults sink.new)
-        → IfSome (S.left source.old) (λ input. ¬ IsTooLarge task input → IsWholeInput task message_limit input → IsOkOrMemory result) }
+        → IfSome (input_of task (S.left source.old)) (λ input. ¬ IsTooLarge task input → IsWholeInput task message_limit input → IsOkOrMemory result) }
     ensures complete_large { (task : Task) → task_of (map string_bytes words.now) ≡ Some task → ¬ Rose (S.faults source.old) (S.faults source.new)
-        → IfSome (S.left source.old) (λ input. IsTooLarge task input → (result ≡ Status.TooLarge) ⊎ (result ≡ Status.OutOfMemory)) }
+        → IfSome (input_of task (S.left source.old)) (λ input. IsTooLarge task input → (result ≡ Status.TooLarge) ⊎ (result ≡ Status.OutOfMemory)) }
 {
     match task_of(words) {
         Some(task) => run(alloc, task, source, sink),
@@ -98,17 +98,17 @@ pub fn replay_main<S: Source, K: Sink>(
 /// Carries the task out.
 fn run<S: Source, K: Sink>(alloc: Global, task: Task, source: &mut S, sink: &mut K) -> Status
     ensures no_usage { result ≢ Status.Usage }
-    ensures unread_by_gen { (number : ℕ) → task ≡ Task.Gen number → source.new ≡ source.old }
-    ensures unfailed_by_gen { (number : ℕ) → task ≡ Task.Gen number → result ≢ Status.ReadFault }
+    ensures unread_without_input { ¬ ReadsInput task → source.new ≡ source.old }
+    ensures unfailed_without_input { ¬ ReadsInput task → result ≢ Status.ReadFault }
     ensures read_fault { result ≡ Status.ReadFault → Rose (S.faults source.old) (S.faults source.new) }
-    ensures small { IsAfterInput result → IfSome (S.left source.old) (λ input. ¬ IsTooLarge task input) }
+    ensures small { IsAfterInput result → IfSome (input_of task (S.left source.old)) (λ input. ¬ IsTooLarge task input) }
     ensures read_to_end { ReadsInput task → IsAfterInput result → IsReadToEnd (S.left source.old) (S.left source.new) }
     ensures read_all_lines { ReadsInput task → result ≡ Status.TooLarge
         → IfSome (S.left source.old) (λ input. length input ≤ input_limit → S.left source.new ≡ Some []) }
-    ensures bad_script { (line : ℕ) → result ≡ Status.BadScript line → IfSome (S.left source.old) (λ input. IsBadScript task input line) }
+    ensures bad_script { (line : ℕ) → result ≡ Status.BadScript line → IfSome (input_of task (S.left source.old)) (λ input. IsBadScript task input line) }
     ensures done { IsDone result → Tells task message_limit (S.left source.old) (K.written sink.old) (K.written sink.new) result }
     ensures too_large { result ≡ Status.TooLarge
-        → ((sink.new ≡ sink.old) × IfSome (S.left source.old) (λ input. IsTooLarge task input))
+        → ((sink.new ≡ sink.old) × IfSome (input_of task (S.left source.old)) (λ input. IsTooLarge task input))
         ⊎ Tells task message_limit (S.left source.old) (K.written sink.old) (K.written sink.new) Status.TooLarge }
     ensures of_input { IsOfInput result }
     ensures write_fault { result ≡ Status.WriteFault → Rose (K.faults sink.old) (K.faults sink.new) }
@@ -116,11 +116,12 @@ fn run<S: Source, K: Sink>(alloc: Global, task: Task, source: &mut S, sink: &mut
     ensures begun_for_memory { result ≡ Status.OutOfMemory
         → (sink.new ≡ sink.old) ⊎ BeginsToTell task message_limit (S.left source.old) (K.written sink.old) (K.written sink.new) }
     ensures unwritten { ¬ IsDone result → result ≢ Status.WriteFault → result ≢ Status.OutOfMemory → result ≢ Status.TooLarge → sink.new ≡ sink.old }
-    ensures unwritten_by_gen { (number : ℕ) → task ≡ Task.Gen number → result ≢ Status.Ok → result ≢ Status.WriteFault → sink.new ≡ sink.old }
-    ensures whole { IsDone result → IfSome (S.left source.old) (λ input. IsWholeInput task message_limit input → result ≡ Status.Ok) }
+    ensures unwritten_without_input { ¬ ReadsInput task → result ≢ Status.Ok → result ≢ Status.WriteFault → sink.new ≡ sink.old }
+    ensures whole { IsDone result → IfSome (input_of task (S.left source.old)) (λ input. IsWholeInput task message_limit input → result ≡ Status.Ok) }
 {
     match task {
         Task::Gen { number } => generate(alloc, number, sink),
+        Task::Draw { number } => draw(alloc, number, sink),
         Task::Show => read_and_write(alloc, task, source, sink),
         Task::Pack => read_and_write(alloc, task, source, sink),
         Task::Replay => read_and_write(alloc, task, source, sink),
@@ -198,6 +199,6 @@ fn write_made<K: Sink>(
         Task::Show => show(alloc, input, MESSAGE_LIMIT, sink),
         Task::Pack => pack(alloc, input, MESSAGE_LIMIT, sink),
         Task::Replay => replay(alloc, input, sink),
-        Task::Gen { .. } => unreachable!(),
+        Task::Gen { .. } | Task::Draw { .. } => unreachable!(),
     }
 }

@@ -15,6 +15,8 @@ pub enum Task {
     Replay,
     /// Run the script that is drawn from the number, and write what it came to.
     Gen { number: u64 },
+    /// Write the script that is drawn from the number.
+    Draw { number: u64 },
 }
 
 /// What the words after the program's name ask for.
@@ -45,11 +47,12 @@ fn task_named(word: &str) -> Option<Task>
 fn task_numbered(word: &str, digits: &str) -> Option<Task>
     ensures { result ≡ task_numbered word.now digits.now }
 {
-    if word != "gen" {
+    if word != "gen" && word != "draw" {
         return None;
     }
     match number(digits.as_bytes(), u64::MAX) {
-        Some(number) => Some(Task::Gen { number }),
+        Some(number) if word == "gen" => Some(Task::Gen { number }),
+        Some(number) => Some(Task::Draw { number }),
         None => None,
     }
 }

@@ -7,12 +7,14 @@ Usage: grasp_replay show < STREAM
        grasp_replay pack < LINES
        grasp_replay replay < SCRIPT
        grasp_replay gen N
+       grasp_replay draw N
 
   show       writes a line for each GRASP message (RFC 8990) of the stream
   pack       writes the message of each line, in its shortest encoding
   replay     runs a script of a network, and writes what each line comes to
   gen N      runs the script of a network that is drawn from the number N,
              and writes one line that tells what it came to
+  draw N     writes the script that is drawn from the number N
 
   --help     prints this text
   --version  prints the version
@@ -23,6 +25,7 @@ For example:
   echo 'wait 1 5000' | grasp_replay pack > stream
   grasp_replay replay < script > reports
   grasp_replay gen 7
+  grasp_replay draw 7 | grasp_replay replay > reports
 
 The exit status is 0 where all went well, and 1 where the input is wrong at one
 place: a line on standard error names it, and all that comes before it is

@@ -47,7 +47,7 @@ first_here s w node first n = same_present (first_world s) w node (first ∙ sym
 
 -- there are as many as members
 lives_count : (code : World) (s : Setting) (w : WorldState) → WorldStands code (network_at s w) → HasFirstLives s w → length w.seats ≡ length s.members
-lives_count code s w stands first = sym (lives_are_kept s w stands.stands.reached).count ∙ ap length first ∙ count_numbers 1 (length s.members)
+lives_count code s w stands first = sym (lives_are_kept s w stands.stands.goes.reached).count ∙ ap length first ∙ count_numbers 1 (length s.members)
 
 -- ---- all nodes
 

@@ -31,7 +31,7 @@ unfolding script_setting
 plan_members p = member_count p
 
 peers_here : (code : World) (s : Setting) (w : WorldState) → WorldStands code (network_at s w) → length s.peers ≡ length s.members
-peers_here code s w h = subst (λ (x : Setting). length x.peers ≡ length x.members) (sym h.stands.keeps.setting) (peers_count code.plan ∙ sym (plan_members code.plan))
+peers_here code s w h = subst (λ (x : Setting). length x.peers ≡ length x.members) (sym h.stands.goes.keeps.setting) (peers_count code.plan ∙ sym (plan_members code.plan))
 
 -- ---- nodes
 
@@ -42,7 +42,7 @@ pub record IsThere (w : WorldState) (node : ℕ) : Type 0 where
 
 pub node_there : (code : World) (s : Setting) (w : WorldState) (node : ℕ) → WorldStands code (network_at s w) → IsNode (length s.members) node → IsThere w node
 node_there code s w node h n =
-    let found = numbered_there w.seats (present_life w node) ((lives_are_kept s w h.stands.reached).present node n) in
+    let found = numbered_there w.seats (present_life w node) ((lives_are_kept s w h.stands.goes.reached).present node n) in
     record { seat = found.0; here = found.1 }
 
 pub has_node : (code : World) (s : Setting) (w : WorldState) (node : ℕ) → WorldStands code (network_at s w) → IsNode (length s.members) node → HasNode code node

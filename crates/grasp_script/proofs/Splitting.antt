@@ -1,11 +1,13 @@
 -- The first line of a text.
-use Rattle.std.proofs.Common.{◌≡◌, ℕ, ◌+◌, ◌-◌, ◌≤◌, eqb, List, [], ◌∷◌, length, take, drop, Some, None, refl, sym, ap, ◌∙◌, arith}
+use Rattle.std.proofs.Common.{◌≡◌, ℕ, ◌+◌, ◌-◌, ◌≤◌, eqb, List, [], ◌∷◌, ◌++◌, length, take, drop, Some, None, refl, sym, ap, ◌∙◌, append_assoc, length-append, arith}
 use Rattle.std.specs.List.{slice_split, position_or_len}
-use Rattle.std.proofs.lemmas.List.{get_or_default, take_all, length-drop}
+use Rattle.std.proofs.lemmas.List.{get_or_default, take_all, length-drop, take-append-drop, append-nil}
+use Rattle.std.proofs.Math.Seq.{drop-append_seam}
 use Rattle.std.proofs.lemmas.List.Sums.{position_or_len_is}
 use Rattle.std.proofs.lemmas.List.Splits.{slice_split_none, slice_split_first, length-slice_split}
 use Rattle.grasp_cbor.proofs.Facts.Bools.{not_true}
 use Rattle.memchr.specs.Find.{IsFirstByte, is_byte}
+use Rattle.grasp_script.specs.Reads.{IsBehind}
 use Rattle.grasp_script.specs.Scripts.{without_empty_end, text_lines}
 
 abbrev parts_of : List ℕ → List (List ℕ)
@@ -44,4 +46,26 @@ unfolding text_lines
 no_line [] e = refl
 no_line (b ∷ s) e = absurd (omega arith)
 
-pub ruleset splitting = (line_before, one_line, no_line)
+-- ---- what stands behind the first line
+
+pub behind_line : (s : List ℕ) (k : ℕ) → IsBehind s (take (length s - k) (drop k s))
+behind_line s k = record {
+  front = take k s;
+  parts = sym (ap (λ t. take k s ++ t) (take_all (length s - k) (drop k s) (omega (arith, length-drop k s))) ∙ take-append-drop k s);
+}
+
+pub behind_all : (s : List ℕ) → IsBehind s []
+behind_all s = record { front = s; parts = sym (append-nil s) }
+
+-- what stands behind what stands behind a text stands behind the text
+pub behind_both : (a b c : List ℕ) → IsBehind a b → IsBehind b c → IsBehind a c
+behind_both a b c x y = record { front = x.front ++ y.front; parts = x.parts ∙ ap (λ t. x.front ++ t) y.parts ∙ sym (append_assoc x.front y.front c) }
+
+-- so many bytes were read
+pub used_is : (a b : List ℕ) → IsBehind a b → drop (length a - length b) a ≡ b
+used_is a b x =
+    let whole : length a ≡ length x.front + length b = ap length x.parts ∙ length-append x.front b
+    in let used : length a - length b ≡ length x.front = omega arith
+    in ap (λ k. drop k a) used ∙ ap (drop (length x.front)) x.parts ∙ drop-append_seam x.front b
+
+pub ruleset splitting = (line_before, one_line, no_line, behind_all)

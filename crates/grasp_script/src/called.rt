@@ -32,15 +32,16 @@ pub fn may_make(asa: u32, call: &Call) -> bool
     }
 }
 
-fn read_call_name(words: &mut Words<'_>) -> Result<CallName, WordFault>
+/// Takes a call's first word.
+pub fn read_call_name(words: &mut Words<'_>) -> Result<CallName, WordFault>
     ensures { Reads (λ n. n) result words.new (word_at call_of words.old) }
 {
     let (word, unfit) = words.next()?;
     call_name(word).ok_or(unfit)
 }
 
-/// Takes what stands behind a call's first word.
-fn read_called(
+/// Takes what stands behind a call's first word, to the end of the line.
+pub fn read_called(
     alloc: Global,
     words: &mut Words<'_>,
     call: CallName,

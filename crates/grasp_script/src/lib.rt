@@ -23,7 +23,7 @@ mod split;
 mod states;
 
 pub use acts::{are_lengths, read_line};
-pub use called::{may_make, read_call, read_reason};
+pub use called::{may_make, read_call, read_call_name, read_called, read_reason};
 pub use calls::push_call;
 pub use fault::ScriptFault;
 pub use header::HeaderLine;
@@ -32,8 +32,9 @@ pub use laws::{
     texts_have_one_script,
 };
 pub use line::{Line, LineAct, Lines};
-pub use places::{read_handle, read_node};
-pub use replies::{push_api_answer, push_count, push_refusal, push_reply};
-pub use reports::{push_want, told_report};
-pub use script::{Script, parse_script};
-pub use states::told_state;
+pub use names::{CallName, call_name};
+pub use places::{read_dry, read_handle, read_node, read_prefix};
+pub use replies::{push_api_answer, push_count, push_flood_reads, push_refusal, push_reply};
+pub use reports::{push_return, push_want, told_report};
+pub use script::{Head, Script, parse_script, read_head};
+pub use states::{push_pool, told_state};

@@ -7,7 +7,7 @@ use grasp_types::Kind;
 
 /// The first word of a call.
 #[derive(Clone, Copy)]
-pub(crate) enum CallName {
+pub enum CallName {
     Asa,
     Unasa,
     Objective,
@@ -49,7 +49,7 @@ pub(crate) enum FirstWord {
 
 /// The call that this first word begins.
 #[tactic(auto, unfolding(crate::specs::Grammar::call_of))]
-pub(crate) fn call_name(word: &[u8]) -> Option<CallName>
+pub fn call_name(word: &[u8]) -> Option<CallName>
     ensures { result ≡ call_of word.now }
 {
     if word == b"asa".as_slice() {

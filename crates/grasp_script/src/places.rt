@@ -58,7 +58,7 @@ pub(crate) fn read_peer(words: &mut Words<'_>, nodes: u8) -> Result<Locator, Wor
 }
 
 /// Takes a prefix.
-pub(crate) fn read_prefix(words: &mut Words<'_>) -> Result<Prefix, WordFault>
+pub fn read_prefix(words: &mut Words<'_>) -> Result<Prefix, WordFault>
     ensures { Reads (λ p. p) result words.new (word_at prefix_of words.old) }
 {
     let (word, unfit) = words.next()?;
@@ -105,7 +105,7 @@ pub(crate) fn read_kind(words: &mut Words<'_>) -> Result<Kind, WordFault>
 }
 
 /// Takes whether a request is a dry run.
-pub(crate) fn read_dry(words: &mut Words<'_>) -> Result<bool, WordFault>
+pub fn read_dry(words: &mut Words<'_>) -> Result<bool, WordFault>
     ensures { Reads (λ d. d) result words.new (word_at dry_of words.old) }
 {
     let (word, unfit) = words.next()?;

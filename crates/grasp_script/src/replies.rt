@@ -144,8 +144,12 @@ fn push_flood_read(alloc: Global, out: &mut String, read: &FloodRead) -> Result<
     push_optional_locator(alloc, out, &read.locator)
 }
 
-/// Appends what floods told, each word behind a blank.
-fn push_flood_reads(alloc: Global, out: &mut String, reads: &FloodReads) -> Result<(), OutOfMemory>
+/// Appends what floods told, each word behind a blank. After an `Err` a part of them may have been appended.
+pub fn push_flood_reads(
+    alloc: Global,
+    out: &mut String,
+    reads: &FloodReads,
+) -> Result<(), OutOfMemory>
     ensures text { OnOk result (string_bytes out.new ≡ string_bytes out.old ++ spaced (all_flood_read_words reads.now)) }
     ensures err { OnErr result (Extends (string_bytes out.old) (string_bytes out.new)) }
 {

@@ -78,9 +78,9 @@ pub fn push_want(out: &mut String, taken: &Result<(), WantFault>) -> Result<(), 
     }
 }
 
-/// Appends whether an agent took a return, each word behind a blank.
+/// Appends whether an agent took a return, each word behind a blank. After an `Err` a part of them may have been appended.
 #[tactic(auto, using(crate::proofs::Pushed::pushes))]
-fn push_return(
+pub fn push_return(
     alloc: Global,
     out: &mut String,
     taken: &Result<(), ReturnFault>,

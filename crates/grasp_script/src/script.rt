@@ -1,9 +1,9 @@
 //! Reading scripts.
 
-ghost use Rattle.std.specs.Prelude.{◌≡◌, ◌+◌, ◌<◌, ◌≤◌, List, length, slice_get, option_map, OnOk, IfOk, IfSome, IfNone};
+ghost use Rattle.std.specs.Prelude.{◌≡◌, ◌+◌, ◌<◌, ◌≤◌, List, length, drop, slice_get, option_map, OnOk, IfOk, IfSome, IfNone};
 ghost use Rattle.grasp_model_network.specs.declared.plan.WorldPlan.{WorldPlan};
 ghost use Rattle.grasp_script.specs.Headers.{plan_with};
-ghost use Rattle.grasp_script.specs.Reads.{bare, IsSized, IsUnsized, SoFar, HeaderRead};
+ghost use Rattle.grasp_script.specs.Reads.{bare, IsSized, IsUnsized, SoFar, HeaderRead, IsBehind};
 ghost use Rattle.grasp_script.specs.Scripts.{IsScript, IsNoScript, IsBadLine, IfBadScript};
 ghost use Rattle.grasp_script.specs.declared.line.Line.{Line};
 
@@ -53,6 +53,32 @@ impl Script {
     }
 }
 
+/// The header of a script, as it was read from a text.
+#[derive(Debug, Drop)]
+pub struct Head {
+    /// The plan that it tells.
+    pub plan: WorldPlan,
+    /// How many bytes of the text it has.
+    pub used: u64,
+    /// How many lines it has.
+    pub lines: u64,
+}
+
+/// The header with which a text begins, and where it ends.
+///
+/// `BadScript` comes exactly where no script has a header with which the text begins.
+#[tactic(auto, using(crate::proofs::Splitting::used_is))]
+pub fn read_head(alloc: Global, text: &[u8]) -> Result<Head, ScriptFault>
+    ensures read { IfOk result (λ head. HeaderRead text.now (drop head.used text.now) head.plan head.lines) }
+    ensures within { IfOk result (λ head. head.used ≤ length text.now) }
+    ensures none { IfBadScript result (λ n. IsNoScript text.now) }
+    ensures place { IfBadScript result (λ n. IsBadLine text.now n) }
+{
+    let (plan, lines, rest) = read_header(alloc, text)?;
+    let used = (text.len() - rest.len()) as u64;
+    Ok(Head { plan, used, lines })
+}
+
 /// The script that a text is: the plan that its header tells, and its lines behind that, each with what it means.
 ///
 /// A line ends in LF, the last one perhaps not. `BadScript` comes exactly where the text is no script.
@@ -81,6 +107,7 @@ pub fn parse_script(alloc: Global, text: &[u8]) -> Result<Script, ScriptFault>
 fn read_header(alloc: Global, text: &[u8]) -> Result<(WorldPlan, u64, &[u8]), ScriptFault>
     ensures read { IfOk result (λ x. HeaderRead text.now x.2.now x.0 x.1) }
     ensures room { IfOk result (λ x. x.1 + length x.2.now ≤ length text.now) }
+    ensures behind { IfOk result (λ x. IsBehind text.now x.2.now) }
     ensures none { IfBadScript result (λ n. IsNoScript text.now) }
     ensures place { IfBadScript result (λ n. IsBadLine text.now n) }
 {
@@ -108,6 +135,7 @@ fn read_header(alloc: Global, text: &[u8]) -> Result<(WorldPlan, u64, &[u8]), Sc
 fn read_opening(alloc: Global, text: &[u8]) -> Option<(WorldPlan, u64, &[u8])>
     ensures some { IfSome result (λ x. SoFar text.now x.2.now x.0 x.1) }
     ensures room { IfSome result (λ x. x.1 + length x.2.now ≤ length text.now) }
+    ensures behind { IfSome result (λ x. IsBehind text.now x.2.now) }
     ensures none { IfNone result (IsNoScript text.now) }
     ensures place { IfNone result (IsBadLine text.now 1) }
 {
@@ -124,6 +152,7 @@ fn read_opening(alloc: Global, text: &[u8]) -> Option<(WorldPlan, u64, &[u8])>
 fn read_limit(text: &[u8]) -> Option<(u32, &[u8])>
     ensures some { IfSome result (λ x. IsSized text.now x.0 x.1.now) }
     ensures shorter { IfSome result (λ x. length x.1.now < length text.now) }
+    ensures behind { IfSome result (λ x. IsBehind text.now x.1.now) }
     ensures none { IfNone result (IsUnsized text.now) }
 {
     let (line, behind) = first_line(text)?;

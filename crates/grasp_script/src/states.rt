@@ -35,8 +35,8 @@ fn push_told(alloc: Global, out: &mut String, pool: &Pool) -> Result<(), OutOfMe
     push_pool(alloc, out, pool)
 }
 
-/// Appends the prefixes of a pool, each word behind a blank.
-fn push_pool(alloc: Global, out: &mut String, pool: &Pool) -> Result<(), OutOfMemory>
+/// Appends the prefixes of a pool, each word behind a blank. After an `Err` a part of them may have been appended.
+pub fn push_pool(alloc: Global, out: &mut String, pool: &Pool) -> Result<(), OutOfMemory>
     ensures text { OnOk result (string_bytes out.new ≡ string_bytes out.old ++ spaced (state_words pool.now)) }
     ensures err { OnErr result (Extends (string_bytes out.old) (string_bytes out.new)) }
 {

@@ -37,6 +37,6 @@ pub record IsLegalFrom (opened : Opened) (history : History) : Type 0 where
 pub record LedTo (opened : Opened) (history : History) (core : NodeCore) : Type 0 where
   pub led : (first : NodeCore) → opened ≡ Some first → Adds first history core
 
--- Inside: the call, whoever makes it, leads from the one core to the other
+-- the call, whoever makes it, leads from the one core to the other
 pub record GoesOn (old : NodeCore) (c : Answered) (new : NodeCore) : Type 0 where
   pub goes : (caller : ℕ) → Adds old (entry caller c ∷ []) new

@@ -16,4 +16,5 @@ mod view;
 pub use bytes::note_bytes;
 pub use shared::{Busy, Pass, Root, Shared, Unshared};
 pub use threads::passes_may_cross;
+pub use turn::step_core;
 pub use view::View;

@@ -14,9 +14,9 @@ use grasp_types::{Input, Reply};
 use std::marker::Brand;
 use std::snapshot::Snapshot;
 
-/// One step of the core.
+/// One step of the core, at a reading in milliseconds: whoever makes it, it is the next call of the core's history.
 #[tactic(auto, using(crate::proofs::Adding::step_goes))]
-fn step_core(core: &mut NodeCore, now: u64, input: Input) -> Reply
+pub fn step_core(core: &mut NodeCore, now: u64, input: Input) -> Reply
     ensures { GoesOn core.old (answered now input result) core.new }
 {
     note_bytes(&input);

@@ -1,5 +1,6 @@
 -- A clock of a network's node.
-use Rattle.std.proofs.Common.{◌≡◌, refl, sym, ap, ◌∙◌, subst, ℕ, ◌-◌, Some, slice_index_or}
+use Rattle.grasp_model_network.specs.Plans.{IsNode}
+use Rattle.std.proofs.Common.{◌≡◌, refl, sym, ap, ◌∙◌, subst, ℕ, ◌-◌, Some, slice_index_or, length}
 use Rattle.std.specs.Vec.{with_item}
 use Rattle.grasp_model_node.specs.Begin.{begin}
 use Rattle.grasp_model_node.specs.Draining.{drained}
@@ -22,9 +23,9 @@ use Rattle.grasp_simulator.specs.WorldStands.{WorldKeeps}
 use Rattle.grasp_simulator.specs.WorldSteps.{Runs}
 use Rattle.grasp_simulator.specs.declared.seat.Seat.{Seat as SeatCode}
 use Rattle.grasp_simulator.specs.declared.world.World.{World}
-use Rattle.grasp_simulator.proofs.FirstLives.{Seated, seated}
+use Rattle.grasp_simulator.proofs.Presence.{OwnSeat, own_seat, got_own, code_node}
 use Rattle.grasp_simulator.proofs.SeatSteps.{nothing_comes}
-use Rattle.grasp_simulator.proofs.Turns.{OwnSeat, own_seat, quiet_reached, stepped_keeps}
+use Rattle.grasp_simulator.proofs.Turns.{quiet_reached, stepped_keeps}
 
 -- how the step of a clock comes out
 abbrev pub clock_choice : Seat → ℕ → Choice
@@ -53,24 +54,28 @@ clock_count : (s : Setting) (w : WorldState) (member node millis : ℕ) (seat : 
 unfolding after_event after_clock stepped
 clock_count s w member node millis seat present here = rw present (rw here refl)
 
-pub clock_runs : (law : StreamsAreReady) (old : World) (node millis i reading : ℕ) (own changed : SeatCode) → i ≡ node - 1 → own ≡ slice_index_or old.seats.items i own
+pub clock_runs : (law : StreamsAreReady) (old : World) (node millis i reading : ℕ) (own changed : SeatCode) → changed.life ≡ own.life → i ≡ node - 1 → own ≡ slice_index_or old.seats.items i own
     → ((s : Seat) → SeatStands own s → reading ≡ (clocked s millis).core.reading) → ((s : Seat) → SeatStands own s → SeatStands changed (clocked s millis))
     → Runs old (record old { seats = with_item old.seats i changed }) (event.Clock node millis) (report.Reading reading)
-clock_runs law old node millis i reading own changed place got reads turns s w may =
+clock_runs law old node millis i reading own changed still place got reads turns s w may =
     let keeps : WorldKeeps old s w = may.goes.keeps in
-    let at : Seated w node = seated old s w node may.goes may.fit in
-    let found : OwnSeat w node own = own_seat old s w node i own keeps at.within place got in
+    let is_node : IsNode (length old.seats.items) node = code_node old s w node keeps may.fit in
+    let found : OwnSeat w node own = own_seat old s w node i own keeps is_node place got in
+    let life : ℕ = present_life w node in
     let seat : Seat = found.seat in
     let e : Event = event.Clock node millis in
     let c : Choice = clock_choice seat millis in
     let new : World = record old { seats = with_item old.seats i changed } in
-    let comes : MayCome (visit_of s w e) c = clock_comes s w node node millis seat at.present found.here in
-    let after : after_event s w e c ≡ stepped w (clock_step node millis seat) (clocked seat millis).core seat.agent = clock_after s w node node millis seat at.present found.here in
-    let reached : IsReached s (after_event s w e c) = quiet_reached s w e c old may comes (clock_count s w node node millis seat at.present found.here) in
+    let v : Visit = clock_step life millis seat in
+    let comes : MayCome (visit_of s w e) c = clock_comes s w node life millis seat refl found.here in
+    let after : after_event s w e c ≡ stepped w v (clocked seat millis).core seat.agent = clock_after s w node life millis seat refl found.here in
+    let reached : IsReached s (after_event s w e c) = quiet_reached s w e c old may comes (clock_count s w node life millis seat refl found.here) in
     record {
       choice = c;
       comes = comes;
-      report_is = ap report.Reading (reads seat found.stands) ∙ sym (clock_report s w node node millis seat at.present found.here);
+      report_is = ap report.Reading (reads seat found.stands) ∙ sym (clock_report s w node life millis seat refl found.here);
       keeps = subst (WorldKeeps new s) (sym after)
-          (stepped_keeps law old s w (after_event s w e c) (clock_step node millis seat) (clocked seat millis).core seat.agent i changed keeps found.first place (turns seat found.stands) reached (ap (λ (x : WorldState). x.streams) after));
+          (stepped_keeps old s w keeps life i own changed (got_own old node i own is_node place got) still (sym found.life) (clocked seat millis) (turns seat found.stands) law (after_event s w e c) v (clocked seat millis).core
+          seat.agent refl refl reached (ap (λ (x : WorldState). x.streams) after));
+      noted = record { offers = refl; accepted = refl };
     }

@@ -24,9 +24,8 @@ use Rattle.grasp_simulator.specs.WorldSteps.{MayRun, HasRun, Runs, MayStarve}
 use Rattle.grasp_simulator.specs.declared.parcel.Parcel.{Parcel}
 use Rattle.grasp_simulator.specs.declared.seat.Seat.{Seat as SeatCode}
 use Rattle.grasp_simulator.specs.declared.world.World.{World}
-use Rattle.grasp_simulator.proofs.FirstLives.{Seated, seated, member_there, members_count}
-use Rattle.grasp_simulator.proofs.InputsGo.{own_step, Here, node_is, Brings, input_runs}
-use Rattle.grasp_simulator.proofs.SeatLists.{seats_length}
+use Rattle.grasp_simulator.proofs.InputsGo.{own_step, Brings, input_runs, same_notes}
+use Rattle.grasp_simulator.proofs.Presence.{Here, node_is}
 
 -- ---- datagrams by their numbers
 
@@ -79,6 +78,7 @@ delivery_brings : (s : Setting) (w : WorldState) (index : ℕ) (hold : Bool) (v 
 unfolding after_event after_delivery report_of
 delivery_brings s w index hold v r is = record {
   seats = refl;
+  lives = refl;
   count = refl;
   comes = λ c step. rw is step;
   comes_held = λ c step. rw is step;
@@ -87,33 +87,30 @@ delivery_brings s w index hold v r is = record {
   reports = λ c. rw is refl;
 }
 
--- a node that the code has is in its place
-code_seated : (code : World) (s : Setting) (w : WorldState) (node : ℕ) → WorldGoes code s w → IsNode (length code.seats.items) node → Seated w node
-code_seated code s w node goes is =
-    seated code s w node goes (member_there code s w node goes (subst (λ (n : ℕ). IsNode n node) (seats_length code.seats.items w.seats goes.keeps.seats) is))
-
 pub datagram_runs : (law : StreamsAreReady) (old new : World) (index : ℕ) (hold : Bool) (parcel : Parcel) (node link from : ℕ) (bytes : List ℕ) (i : ℕ) (own after : SeatCode) (r : Reply) → numbered old.parcels index ≡ Some parcel → node ≡ parcel.receiver → link ≡ parcel.link → from ≡ parcel.from → bytes ≡ parcel.bytes
-    → AllBytes bytes → IsNode (length old.seats.items) node → i ≡ node - 1 → own ≡ slice_index_or old.seats.items i own
-    → ((x : Sitting) → SeatMeets own (input.Datagram link from bytes) x → SeatStepped after (input.Datagram link from bytes) x r) → is_starved r ≡ false
+    → AllBytes bytes → IsNode (length old.seats.items) node → after.life ≡ own.life → i ≡ node - 1 → own ≡ slice_index_or old.seats.items i own
+    → ((x : Sitting) → SeatMeets own (input.Datagram link from bytes) x → SeatStepped after (input.Datagram link from bytes) x r) → is_starved r ≡ false → new.notes ≡ old.notes
     → SendsBehind (record old { seats = with_item old.seats i after }) new node hold → Runs old new (event.Datagram index hold) (report.Reply r)
-datagram_runs law old new index hold parcel node link from bytes i own after r got node_of link_of from_of bytes_of all is_node place own_is steps fed sends s w may =
+datagram_runs law old new index hold parcel node link from bytes i own after r got node_of link_of from_of bytes_of all is_node still place own_is steps fed same_is sends s w may =
     let keeps : WorldKeeps old s w = may.goes.keeps in
     let sent : IsSent w old.plan.nodes index parcel = sent_is old s w index parcel keeps got in
     let d : SentDatagram = sent.datagram in
     let there : Here w node = node_is old s w node keeps is_node in
-    let v : Visit = own_step node there.seat (input.Datagram link from bytes) in
+    let life : ℕ = present_life w node in
+    let v : Visit = own_step life there.seat (input.Datagram link from bytes) in
     let node_d : node ≡ d.route.receiver = node_of ∙ ap (λ (p : Parcel). p.receiver) sent.is in
     let link_d : link ≡ d.route.link = link_of ∙ ap (λ (p : Parcel). p.link) sent.is in
     let from_d : from ≡ d.route.from = from_of ∙ ap (λ (p : Parcel). p.from) sent.is in
     let bytes_d : bytes ≡ encoding d.message = bytes_of ∙ ap (λ (p : Parcel). p.bytes) sent.is in
-    let present : present_life w d.route.receiver ≡ node = ap (present_life w) (sym node_d) ∙ (code_seated old s w node may.goes is_node).present in
+    let present : present_life w d.route.receiver ≡ life = ap (λ (k : ℕ). present_life w k) (sym node_d) in
     let is : datagram_visit w index ≡ Some v =
-    delivery_is w index d node there.seat sent.got present there.here
-    ∙ (ap (λ (n : ℕ). Some (own_step node there.seat (input.Datagram n d.route.from (encoding d.message)))) (sym link_d)
-    ∙ (ap (λ (n : ℕ). Some (own_step node there.seat (input.Datagram link n (encoding d.message)))) (sym from_d)
-    ∙ ap (λ (b : List ℕ). Some (own_step node there.seat (input.Datagram link from b))) (sym bytes_d))) in
-    input_runs law old old new s w w (event.Datagram index hold) (event.Datagram index true) hold v (λ c. w.answers ++ answers_in w v index c) i own after r may (record { goes = may.goes; fit = tt })
-    (delivery_brings s w index hold v r is) refl keeps there.here place own_is all steps fed sends
+    delivery_is w index d life there.seat sent.got present there.here
+    ∙ (ap (λ (n : ℕ). Some (own_step life there.seat (input.Datagram n d.route.from (encoding d.message)))) (sym link_d)
+    ∙ (ap (λ (n : ℕ). Some (own_step life there.seat (input.Datagram link n (encoding d.message)))) (sym from_d)
+    ∙ ap (λ (b : List ℕ). Some (own_step life there.seat (input.Datagram link from b))) (sym bytes_d))) in
+    input_runs law old old new s w w (event.Datagram index hold) (event.Datagram index true) hold v (λ c. w.answers ++ answers_in w v index c) node i own after r may (record { goes = may.goes; fit = tt })
+    (delivery_brings s w index hold v r is) refl keeps there.here refl is_node place own_is still all steps fed
+    (λ c. record { offers = (same_notes old.notes new.notes same_is).0; accepted = (same_notes old.notes new.notes same_is).1 }) sends
 
 -- memory may be wanted for one whose receiver is there
 pub datagram_starves : (code : World) (index : ℕ) (hold : Bool) (parcel : Parcel) → numbered code.parcels index ≡ Some parcel → IsNode (length code.seats.items) parcel.receiver → MayStarve code (event.Datagram index hold)
@@ -121,16 +118,16 @@ datagram_starves code index hold parcel got is_node s w may =
     let sent : IsSent w code.plan.nodes index parcel = sent_is code s w index parcel may.goes.keeps got in
     let there : Here w parcel.receiver = node_is code s w parcel.receiver may.goes.keeps is_node in
     let receiver : parcel.receiver ≡ sent.datagram.route.receiver = ap (λ (p : Parcel). p.receiver) sent.is in
-    (refl, ap is_some (delivery_is w index sent.datagram parcel.receiver there.seat sent.got (ap (present_life w) (sym receiver) ∙ (code_seated code s w parcel.receiver may.goes is_node).present) there.here))
+    (refl, ap is_some (delivery_is w index sent.datagram (present_life w parcel.receiver) there.seat sent.got (ap (λ (k : ℕ). present_life w k) (sym receiver)) there.here))
 
 none_delivered : (s : Setting) (w : WorldState) (index : ℕ) (hold : Bool) → visit_of s w (event.Datagram index hold) ≡ None → (after_event s w (event.Datagram index hold) no_choice ≡ w) × (report_of s w (event.Datagram index hold) no_choice ≡ report.Nothing)
 unfolding after_event report_of
 none_delivered s w index hold is = (rw is refl, rw is refl)
 
-nothing_delivered : (code : World) (s : Setting) (w : WorldState) (index : ℕ) (hold : Bool) → MayRun code s w (event.Datagram index hold) → visit_of s w (event.Datagram index hold) ≡ None → HasRun code s w (event.Datagram index hold) report.Nothing
+nothing_delivered : (code : World) (s : Setting) (w : WorldState) (index : ℕ) (hold : Bool) → MayRun code s w (event.Datagram index hold) → visit_of s w (event.Datagram index hold) ≡ None → HasRun code code s w (event.Datagram index hold) report.Nothing
 nothing_delivered code s w index hold may is =
     let h = none_delivered s w index hold is in
-    record { choice = no_choice; comes = subst (λ o. MayCome o no_choice) (sym is) tt; report_is = sym h.1; keeps = subst (WorldKeeps code s) (sym h.0) may.goes.keeps }
+    record { choice = no_choice; comes = subst (λ o. MayCome o no_choice) (sym is) tt; report_is = sym h.1; keeps = subst (WorldKeeps code s) (sym h.0) may.goes.keeps; noted = record { offers = refl; accepted = refl } }
 
 -- nothing comes of a datagram that wasn't sent
 pub no_datagram : (code : World) (index : ℕ) (hold : Bool) → numbered code.parcels index ≡ None → Runs code code (event.Datagram index hold) report.Nothing
@@ -142,5 +139,4 @@ pub unseated_datagram : (code : World) (index : ℕ) (hold : Bool) (parcel : Par
 unseated_datagram code index hold parcel node got node_of none s w may =
     let goes : WorldGoes code s w = may.goes in
     let sent : IsSent w code.plan.nodes index parcel = sent_is code s w index parcel goes.keeps got in
-    let member : IsNode (length s.members) node = subst (λ (n : ℕ). IsNode n node) (sym (members_count code s w goes.keeps)) (subst (IsNode code.plan.nodes) (sym node_of) sent.reaches) in
-    absurd (none (subst (λ (n : ℕ). IsNode n node) (sym (seats_length code.seats.items w.seats goes.keeps.seats)) (seated code s w node goes member).within))
+    absurd (none (subst (λ (n : ℕ). IsNode n node) (sym goes.keeps.count) (subst (IsNode code.plan.nodes) (sym node_of) sent.reaches)))

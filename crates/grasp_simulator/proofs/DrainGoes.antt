@@ -4,7 +4,6 @@ use Rattle.grasp_model_node.specs.Begin.{begin}
 use Rattle.grasp_model_node.specs.Draining.{after_drain}
 use Rattle.grasp_model_node.specs.Draining as core
 use Rattle.grasp_types.specs.declared.reply.Reply.TheVariants as reply
-use Rattle.grasp_types.specs.declared.traffic.Input.TheVariants.{Drain}
 use Rattle.grasp_model_network.specs.EventSteps.{sent_count}
 use Rattle.grasp_model_network.specs.Events.{visit_of, after_event}
 use Rattle.grasp_model_network.specs.Reports.{report_of}
@@ -18,8 +17,8 @@ use Rattle.grasp_simulator.specs.Sends.{Sends}
 use Rattle.grasp_simulator.specs.WorldStands.{WorldKeeps}
 use Rattle.grasp_simulator.specs.WorldSteps.{Runs}
 use Rattle.grasp_simulator.specs.declared.world.World.{World}
-use Rattle.grasp_simulator.proofs.FirstLives.{Seated, seated}
-use Rattle.grasp_simulator.proofs.InputsGo.{Here, life_here}
+use Rattle.grasp_simulator.proofs.InputsGo.{same_notes}
+use Rattle.grasp_simulator.proofs.Presence.{Here, node_is, code_node}
 use Rattle.grasp_simulator.proofs.SeatSteps.{nothing_comes, drain_steps}
 
 drain_choice : Seat → ℕ → Choice
@@ -38,17 +37,17 @@ drain_report : (s : Setting) (w : WorldState) (member node max : ℕ) (seat : Se
 unfolding report_of sent_count
 drain_report s w member node max seat c present here = rw present (rw here refl)
 
-pub drain_runs : (old new : World) (node max count : ℕ) → Sends old new node max count → Runs old new (event.Drain node max) (report.Sent count)
-drain_runs old new node max count sends s w may =
-    let at : Seated w node = seated old s w node may.goes may.fit in
-    let there : Here w node = life_here w node at.within in
+pub drain_runs : (old new : World) (node max count : ℕ) → new.notes ≡ old.notes → Sends old new node max count → Runs old new (event.Drain node max) (report.Sent count)
+drain_runs old new node max count same sends s w may =
+    let there : Here w node = node_is old s w node may.goes.keeps (code_node old s w node may.goes.keeps may.fit) in
+    let life : ℕ = present_life w node in
     let seat : Seat = there.seat in
-    let here : seat_at w node ≡ Some seat = there.here in
     let c : Choice = drain_choice seat max in
-    let sent : WorldKeeps new s (drained s w node max) × (count ≡ length (core.drained (begin seat.core seat.core.reading) max)) = sends s w seat may.goes here in
+    let sent : WorldKeeps new s (drained s w life max) × (count ≡ length (core.drained (begin seat.core seat.core.reading) max)) = sends s w seat may.goes there.here in
     record {
       choice = c;
-      comes = drain_comes s w node node max seat at.present here;
-      report_is = ap report.Sent sent.1 ∙ sym (drain_report s w node node max seat c at.present here);
-      keeps = subst (WorldKeeps new s) (sym (drain_after s w node node max seat c at.present here)) sent.0;
+      comes = drain_comes s w node life max seat refl there.here;
+      report_is = ap report.Sent sent.1 ∙ sym (drain_report s w node life max seat c refl there.here);
+      keeps = subst (WorldKeeps new s) (sym (drain_after s w node life max seat c refl there.here)) sent.0;
+      noted = record { offers = (same_notes old.notes new.notes same).0; accepted = (same_notes old.notes new.notes same).1 };
     }

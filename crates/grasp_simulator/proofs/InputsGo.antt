@@ -1,5 +1,5 @@
 -- An input that an event brings to a node: its step, and the outputs that are sent behind it.
-use Rattle.std.proofs.Common.{◌≡◌, ◌<◌, ◌≤◌, refl, sym, ap, ◌∙◌, subst, arith, ℕ, zero, suc, ◌-◌, ◌^◌, ◌==◌, tests, Bool, false, not, List, [], ◌∷◌, length, Option, Some, None, slice_get, slice_index_or, All}
+use Rattle.std.proofs.Common.{◌≡◌, ◌<◌, ◌≤◌, refl, sym, ap, ◌∙◌, subst, arith, ℕ, ◌-◌, ◌^◌, ◌==◌, tests, Bool, false, not, List, length, Some, slice_get, slice_index_or, All}
 use Rattle.std.specs.Vec.{with_item}
 use Rattle.std.proofs.lemmas.Option.{get_or_from_slice_get, slice_get_within, same_Some}
 use Rattle.grasp_model_node.specs.Divided.{HasBytes, Comes}
@@ -20,7 +20,7 @@ use Rattle.grasp_model_network.specs.Runs.{IsReached}
 use Rattle.grasp_model_network.specs.Sending.{seat_with, stepped}
 use Rattle.grasp_model_network.specs.Setting.{Member, Setting, numbered}
 use Rattle.grasp_model_network.specs.Visits.{Visit, Choice, MayCome, VisitStep, is_starved}
-use Rattle.grasp_model_network.specs.World.{Seat, DiscoveryAnswer, WorldState, member_of, seat_at}
+use Rattle.grasp_model_network.specs.World.{Seat, DiscoveryAnswer, WorldState, last_life, member_of, present_life, seat_at}
 use Rattle.grasp_model_network.specs.declared.event.Event.{Event}
 use Rattle.grasp_model_network.specs.declared.report.Report.TheVariants as report
 use Rattle.grasp_laws_delivery.specs.Ready.{StreamsAreReady}
@@ -30,20 +30,13 @@ use Rattle.grasp_simulator.specs.WorldStands.{WorldKeeps}
 use Rattle.grasp_simulator.specs.WorldSteps.{MayRun, HasRun}
 use Rattle.grasp_simulator.specs.declared.seat.Seat.{Seat as SeatCode}
 use Rattle.grasp_simulator.specs.declared.world.World.{World}
-use Rattle.grasp_simulator.proofs.SeatLists.{seats_length}
-use Rattle.grasp_simulator.proofs.Turns.{OwnSeat, own_seat, quiet_reached, stepped_keeps, stepped_here, node_here}
+use Rattle.grasp_laws_network.proofs.Lists.{numbered_there}
+use Rattle.grasp_simulator.specs.Remembering.{HasNoted}
+use Rattle.grasp_simulator.specs.declared.notes.Notes.{Notes}
+use Rattle.grasp_simulator.proofs.Presence.{At, at_is, OwnSeat, own_seat, got_own}
+use Rattle.grasp_simulator.proofs.Turns.{quiet_reached, stepped_keeps, stepped_here}
 
 -- ---- what comes with it
-
--- the one at a place of a list
-pub record At {A : Type 0} (xs : List A) (i : ℕ) : Type 0 where
-  pub it : A
-  pub got : slice_get xs i ≡ Some it
-
-pub at_is : {A : Type 0} (xs : List A) (i : ℕ) → i < length xs → At xs i
-at_is [] i within = absurd (omega (arith, within))
-at_is (x ∷ xs) zero within = record { it = x; got = refl }
-at_is (x ∷ xs) (suc i) within = let below : At xs i = at_is xs i (omega (arith, within)) in record { it = below.it; got = below.got }
 
 limit_by : (limit : ℕ) (ms : List Member) (i : ℕ) (m : Member) → slice_get ms i ≡ Some m → All (IsGoodMember limit) ms → m.plan.limit ≡ limit
 limit_by limit ms i m got all = (subst (IsGoodMember limit) (get_or_from_slice_get ms i m m got) (all i m (slice_get_within ms i m got))).limit_is
@@ -75,21 +68,13 @@ input_comes code s w node seat i reached here stands bytes =
     let limit = limit_of s w node seat reached here in
     something_comes_to_cores code.core seat.core seat.core.reading i limit.0 limit.1 stands.core bytes
 
--- a node that is there
-pub record Here (w : WorldState) (node : ℕ) : Type 0 where
-  pub seat : Seat
-  pub here : seat_at w node ≡ Some seat
-
 -- a life of this number is there
-pub life_here : (w : WorldState) (node : ℕ) → IsNode (length w.seats) node → Here w node
-life_here w node is =
-    let least : 1 ≤ node = is.least in
-    let most : node ≤ length w.seats = is.most in
-    let found : At w.seats (node - 1) = at_is w.seats (node - 1) (omega (arith, least, most)) in
-    record { seat = found.it; here = node_here w.seats node found.it least found.got }
+pub record Life (w : WorldState) (life : ℕ) : Type 0 where
+  pub seat : Seat
+  pub here : seat_at w life ≡ Some seat
 
-pub node_is : (code : World) (s : Setting) (w : WorldState) (node : ℕ) → WorldKeeps code s w → IsNode (length code.seats.items) node → Here w node
-node_is code s w node keeps is = life_here w node (subst (λ (n : ℕ). IsNode n node) (seats_length code.seats.items w.seats keeps.seats) is)
+pub life_here : (w : WorldState) (life : ℕ) → IsNode (length w.seats) life → Life w life
+life_here w life is = let found = numbered_there w.seats life is in record { seat = found.0; here = found.1 }
 
 -- ---- the event
 
@@ -104,6 +89,7 @@ after_input w v c answers = record (stepped w v c.after v.seat.agent) { answers 
 -- the event brings this input to the node, which replies so: the streams change, as this network says, and the node steps. Where it is held nothing is sent behind it
 pub record Brings (s : Setting) (w changed : WorldState) (e held : Event) (hold : Bool) (v : Visit) (r : Reply) (answers : Choice → List DiscoveryAnswer) : Type 0 where
   pub seats : changed.seats ≡ w.seats
+  pub lives : changed.lives ≡ w.lives
   pub count : changed.byte_count ≡ w.byte_count
   pub comes : (c : Choice) → VisitStep v c → MayCome (visit_of s w e) c
   pub comes_held : (c : Choice) → VisitStep v c → MayCome (visit_of s w held) c
@@ -115,14 +101,14 @@ answers_keep : (code : World) (s : Setting) (w : WorldState) (answers : List Dis
 answers_keep code s w answers keeps = record {
   good = keeps.good;
   setting = keeps.setting;
+  count = keeps.count;
   seats = keeps.seats;
   lives = keeps.lives;
-  members = keeps.members;
   streams = keeps.streams;
+  marks = keeps.marks;
   parcels = keeps.parcels;
   receivers = keeps.receivers;
   places = keeps.places;
-  given = keeps.given;
   sent = keeps.sent;
   goes = keeps.goes;
 }
@@ -131,38 +117,57 @@ input_count : (w : WorldState) (v : Visit) (c : Choice) (answers : List Discover
 unfolding stepped
 input_count w v c answers = refl
 
-pub input_runs : (law : StreamsAreReady) (old mid new : World) (s : Setting) (w changed : WorldState) (e held : Event) (hold : Bool) (v : Visit) (answers : Choice → List DiscoveryAnswer) (i : ℕ) (own after : SeatCode) (r : Reply) → MayRun old s w e → MayRun old s w held
-    → Brings s w changed e held hold v r answers → v.now ≡ v.seat.core.reading → WorldKeeps mid s changed → seat_at w v.node ≡ Some v.seat → i ≡ v.node - 1 → own ≡ slice_index_or mid.seats.items i own → HasBytes v.input
-    → ((x : Sitting) → SeatMeets own v.input x → SeatStepped after v.input x r) → is_starved r ≡ false → SendsBehind (record mid { seats = with_item mid.seats i after }) new v.node hold → HasRun new s w e (report.Reply r)
-input_runs law old mid new s w changed e held hold v answers i own after r may may_held brings reading keeps here place got bytes steps fed sends =
-    let is_node : IsNode (length w.seats) v.node = numbered_within w.seats v.node v.seat here in
-    let there : seat_at changed v.node ≡ Some v.seat = ap (λ (seats : List Seat). numbered seats v.node) brings.seats ∙ here in
-    let found : OwnSeat changed v.node own = own_seat mid s changed v.node i own keeps (numbered_within changed.seats v.node v.seat there) place got in
-    let same : found.seat ≡ v.seat = same_Some found.seat v.seat (sym found.here ∙ there) in
-    let stands : SeatStands own v.seat = subst (SeatStands own) same found.stands in
-    let first : v.seat.earlier ≡ [] = subst (λ (x : Seat). x.earlier ≡ []) same found.first in
-    let come : Comes v.seat.core v.seat.core.reading v.input = input_comes own s w v.node v.seat v.input may.goes.reached here stands bytes in
-    let x : Sitting = record { seat = v.seat; coming = come.coming } in
-    let h : SeatStepped after v.input x r = steps x (record { stands = stands; comes = come.is_coming }) in
-    let c : Choice = record { coming = come.coming; reply = r; after = h.after } in
-    let step : VisitStep v c = record { steps = subst (λ (now : ℕ). NodeStep v.seat.core now v.input come.coming r h.after) (sym reading) h.steps; fed = fed } in
-    let next : WorldState = after_input changed v c (answers c) in
-    let reached : IsReached s next = subst (IsReached s) (brings.after_held c refl)
-    (quiet_reached s w held c old may_held (brings.comes_held c step) (ap (λ (y : WorldState). y.byte_count) (brings.after_held c refl) ∙ (input_count changed v c (answers c) ∙ brings.count))) in
-    let kept : WorldKeeps (record mid { seats = with_item mid.seats i after }) s next =
-    answers_keep (record mid { seats = with_item mid.seats i after }) s (stepped changed v h.after v.seat.agent) (answers c)
-    (stepped_keeps law mid s changed next v h.after v.seat.agent i after keeps first place h.stands reached refl) in
-    let last : seat_at next v.node ≡ Some (seat_with v.seat h.after v.seat.agent) = stepped_here changed v h.after v.seat.agent is_node.least there in
-    record {
-      choice = c;
-      comes = brings.comes c step;
-      report_is = sym (brings.reports c);
-      keeps = subst (WorldKeeps new s) (sym (brings.after c refl)) (sends s next (seat_with v.seat h.after v.seat.agent) (record { reached = reached; keeps = kept }) last);
-    }
+-- a step begins no life
+input_lives : (w : WorldState) (v : Visit) (c : Choice) (answers : List DiscoveryAnswer) → (after_input w v c answers).lives ≡ w.lives
+unfolding stepped
+input_lives w v c answers = refl
 
--- a node that the code doesn't have isn't there
-pub no_seat : (code : World) (s : Setting) (w : WorldState) (node : ℕ) → WorldKeeps code s w → (IsNode (length code.seats.items) node → ⊥) → seat_at w node ≡ None
-no_seat code s w node keeps none = by_seat (seat_at w node) refl where
-  by_seat : (o : Option Seat) → seat_at w node ≡ o → seat_at w node ≡ None
-  by_seat None here = here
-  by_seat (Some seat) here = absurd (none (subst (λ (n : ℕ). IsNode n node) (sym (seats_length code.seats.items w.seats keeps.seats)) (numbered_within w.seats node seat here)))
+module _ (law : StreamsAreReady) (old mid new : World) (s : Setting) (w changed : WorldState) (e held : Event) (hold : Bool) (v : Visit) (answers : Choice → List DiscoveryAnswer) (node i : ℕ) (own after : SeatCode) (r : Reply)
+    (may : MayRun old s w e) (may_held : MayRun old s w held) (brings : Brings s w changed e held hold v r answers) (reading : v.now ≡ v.seat.core.reading) (keeps : WorldKeeps mid s changed)
+    (here : seat_at w v.node ≡ Some v.seat) (at : v.node ≡ present_life w node) (is_node : IsNode (length mid.seats.items) node) (place : i ≡ node - 1) (got : own ≡ slice_index_or mid.seats.items i own)
+    (still : after.life ≡ own.life) (bytes : HasBytes v.input) (steps : (x : Sitting) → SeatMeets own v.input x → SeatStepped after v.input x r) (fed : is_starved r ≡ false)
+    (noted : (c : Choice) → HasNoted old.notes new.notes w e c) (sends : SendsBehind (record mid { seats = with_item mid.seats i after }) new node hold) where
+  found : OwnSeat changed node own
+  found = own_seat mid s changed node i own keeps is_node place got
+
+  -- the node's life in the network with the changed streams is the one of the step
+  life_is : v.node ≡ present_life changed node
+  life_is = at ∙ sym (ap (λ (ks : List ℕ). last_life 1 ks node 1) brings.lives)
+
+  seat_is : found.seat ≡ v.seat
+  seat_is = same_Some found.seat v.seat (sym found.here ∙ (ap (seat_at changed) (sym life_is) ∙ (ap (λ (seats : List Seat). numbered seats v.node) brings.seats ∙ here)))
+
+  stands : SeatStands own v.seat
+  stands = subst (SeatStands own) seat_is found.stands
+
+  pub input_runs : HasRun old new s w e (report.Reply r)
+  input_runs =
+      let come : Comes v.seat.core v.seat.core.reading v.input = input_comes own s w v.node v.seat v.input may.goes.reached here stands bytes in
+      let x : Sitting = record { seat = v.seat; coming = come.coming } in
+      let h : SeatStepped after v.input x r = steps x (record { stands = stands; comes = come.is_coming }) in
+      let c : Choice = record { coming = come.coming; reply = r; after = h.after } in
+      let step : VisitStep v c = record { steps = subst (λ (now : ℕ). NodeStep v.seat.core now v.input come.coming r h.after) (sym reading) h.steps; fed = fed } in
+      let next : WorldState = after_input changed v c (answers c) in
+      let reached : IsReached s next = subst (IsReached s) (brings.after_held c refl)
+      (quiet_reached s w held c old may_held (brings.comes_held c step) (ap (λ (y : WorldState). y.byte_count) (brings.after_held c refl) ∙ (input_count changed v c (answers c) ∙ brings.count))) in
+      let then : Seat = seat_with h.after v.seat.agent in
+      let mid_then : World = record mid { seats = with_item mid.seats i after } in
+      let kept : WorldKeeps mid_then s next =
+      answers_keep mid_then s (stepped changed v h.after v.seat.agent) (answers c)
+      (stepped_keeps mid s changed keeps (present_life changed node) i own after (got_own mid node i own is_node place got) still (sym found.life) then h.stands law next v h.after v.seat.agent life_is refl reached refl) in
+      let there : seat_at changed v.node ≡ Some v.seat = ap (λ (seats : List Seat). numbered seats v.node) brings.seats ∙ here in
+      let same : present_life next node ≡ v.node = ap (λ (ks : List ℕ). last_life 1 ks node 1) (input_lives changed v c (answers c)) ∙ sym life_is in
+      let last : seat_at next (present_life next node) ≡ Some then = ap (seat_at next) same ∙ stepped_here changed v h.after v.seat.agent there in
+      let sent : WorldKeeps new s (drained_behind (not hold) s next v.node) =
+      subst (λ (n : ℕ). WorldKeeps new s (drained_behind (not hold) s next n)) same (sends s next then (record { reached = reached; keeps = kept }) last) in
+      record {
+        choice = c;
+        comes = brings.comes c step;
+        report_is = sym (brings.reports c);
+        keeps = subst (WorldKeeps new s) (sym (brings.after c refl)) sent;
+        noted = noted c;
+      }
+
+-- notes that stay
+pub same_notes : (before after : Notes) → after ≡ before → (after.offers.items ≡ before.offers.items) × (after.accepted ≡ before.accepted)
+same_notes before after same = (ap (λ (n : Notes). n.offers.items) same, ap (λ (n : Notes). n.accepted) same)

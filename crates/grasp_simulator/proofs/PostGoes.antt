@@ -1,5 +1,5 @@
 -- A datagram that goes along a node's way.
-use Rattle.std.proofs.Common.{◌≡◌, refl, sym, ap, ◌∙◌, subst, arith, ℕ, ◌+◌, ◌-◌, min, List, [], ◌∷◌, ◌++◌, length, map, Option, Some, None, option_map, slice_get}
+use Rattle.std.proofs.Common.{◌≡◌, refl, sym, ap, ◌∙◌, subst, arith, ℕ, ◌+◌, min, List, [], ◌∷◌, ◌++◌, length, map, Option, Some, None, option_map, slice_get}
 use Rattle.std.proofs.lemmas.List.{map-append}
 use Rattle.std.proofs.lemmas.List.Elements.{All-cons, All-nil}
 use Rattle.std.proofs.lemmas.Option.{none-some, same_Some}
@@ -68,14 +68,14 @@ posted_by code s w way parcel bytes sent parcels m (Some r) keeps reaches is mor
     record {
       good = keeps.good;
       setting = keeps.setting;
+      count = keeps.count;
       seats = keeps.seats;
       lives = keeps.lives;
-      members = keeps.members;
       streams = keeps.streams;
+      marks = keeps.marks;
       receivers = all_append (GoesToNode code.plan.nodes) w.datagrams (d ∷ []) keeps.receivers (All-cons (GoesToNode code.plan.nodes) d [] reaches (All-nil (GoesToNode code.plan.nodes)));
       parcels = more ∙ (ap (λ (ps : List Parcel). ps ++ parcel ∷ []) keeps.parcels ∙ (ap (λ (p : Parcel). map parcel_of w.datagrams ++ p ∷ []) parcel_is ∙ sym (map-append parcel_of w.datagrams (d ∷ []))));
       places = keeps.places;
-      given = keeps.given;
       sent = counted code.sent sent (length (encoding m)) w.byte_count keeps.sent (count ∙ ap (λ (b : List ℕ). min (code.sent + length b) most_count) bytes_are);
       goes = keeps.goes;
     }

@@ -1,57 +1,49 @@
 -- Seats of the code and of a network, place by place.
-use Rattle.std.proofs.Common.{◌≡◌, ◌+◌, ◌-◌, ◌<◌, ◌≤◌, ℕ, zero, suc, refl, sym, ap, ◌∙◌, subst, arith, ◌==◌, false, add-one, List, [], ◌∷◌, ◌++◌, Some, length, map, option_map, slice_get, slice_set}
+use Rattle.std.proofs.Common.{◌≡◌, ◌+◌, ◌-◌, ◌≤◌, ℕ, zero, suc, refl, sym, ap, ◌∙◌, subst, arith, ◌==◌, false, add-one, List, [], ◌∷◌, ◌++◌, Some, length, map, option_map, slice_get}
 use Rattle.std.proofs.lemmas.List.{map-append}
 use Rattle.std.proofs.lemmas.Option.{slice_get-map}
 use Rattle.grasp_cbor.proofs.Facts.Lists.{length_map}
 use Rattle.grasp_model_network.specs.Openings.{first_seat}
-use Rattle.grasp_simulator.specs.Seats.{SeatStands, SeatsStand}
+use Rattle.grasp_simulator.specs.Seats.{SeatStands, FirstStands, AreFirstFrom, AreFirst}
 use Rattle.grasp_model_network.specs.Setting.{numbered, numbers_from, script_locator, script_member, script_setting}
-use Rattle.grasp_laws_network.proofs.GoodPlans.{not_zero as is_positive, count_numbers}
+use Rattle.grasp_laws_network.proofs.GoodPlans.{not_zero as is_positive, count_numbers, number_at}
 use Rattle.grasp_model_network.specs.World.{Seat}
 use Rattle.grasp_model_network.specs.declared.plan.WorldPlan.{WorldPlan}
 use Rattle.grasp_simulator.specs.declared.seat.Seat.{Seat as SeatCode}
 
 -- one more, at the end
-pub seats_push : (codes : List SeatCode) (seats : List Seat) (code : SeatCode) (s : Seat) → SeatsStand codes seats → SeatStands code s → SeatsStand (codes ++ code ∷ []) (seats ++ s ∷ [])
-seats_push [] [] code s h one = (one, tt)
-seats_push [] (b ∷ bs) code s h one = absurd h
-seats_push (a ∷ l) [] code s h one = absurd h
-seats_push (a ∷ l) (b ∷ bs) code s h one = (h.0, seats_push l bs code s h.1 one)
+pub seats_push : (n : ℕ) (codes : List SeatCode) (seats : List Seat) (code : SeatCode) (s : Seat) → AreFirstFrom n codes seats → FirstStands (n + length codes) code s → AreFirstFrom n (codes ++ code ∷ []) (seats ++ s ∷ [])
+seats_push n [] [] code s h one = (subst (λ (k : ℕ). FirstStands k code s) (omega arith) one, tt)
+seats_push n [] (b ∷ bs) code s h one = absurd h
+seats_push n (a ∷ l) [] code s h one = absurd h
+seats_push n (a ∷ l) (b ∷ bs) code s h one = let e : n + suc (length l) ≡ (n + 1) + length l = omega arith in (h.0, seats_push (n + 1) l bs code s h.1 (subst (λ (k : ℕ). FirstStands k code s) e one))
 
 -- as many of the code as of the network
-pub seats_length : (codes : List SeatCode) (seats : List Seat) → SeatsStand codes seats → length codes ≡ length seats
-seats_length [] [] h = refl
-seats_length [] (b ∷ bs) h = absurd h
-seats_length (a ∷ l) [] h = absurd h
-seats_length (a ∷ l) (b ∷ bs) h = ap suc (seats_length l bs h.1)
+pub seats_length : (n : ℕ) (codes : List SeatCode) (seats : List Seat) → AreFirstFrom n codes seats → length codes ≡ length seats
+seats_length n [] [] h = refl
+seats_length n [] (b ∷ bs) h = absurd h
+seats_length n (a ∷ l) [] h = absurd h
+seats_length n (a ∷ l) (b ∷ bs) h = ap suc (seats_length (n + 1) l bs h.1)
 
 -- the one at a place
-pub record StandsAt (code : SeatCode) (seats : List Seat) (i : ℕ) : Type 0 where
+pub record StandsAt (n : ℕ) (code : SeatCode) (seats : List Seat) (i : ℕ) : Type 0 where
   pub seat : Seat
   pub got : slice_get seats i ≡ Some seat
-  pub stands : SeatStands code seat
+  pub stands : FirstStands (n + i) code seat
 
-pub seats_at : (codes : List SeatCode) (seats : List Seat) → SeatsStand codes seats → (i : ℕ) (code : SeatCode) → slice_get codes i ≡ Some code → StandsAt code seats i
-seats_at [] seats h i code got = absurd (cc)
-seats_at (a ∷ l) [] h i code got = absurd h
-seats_at (a ∷ l) (b ∷ bs) h zero code got = let same : a ≡ code = cc in record { seat = b; got = refl; stands = subst (λ (c : SeatCode). SeatStands c b) same h.0 }
-seats_at (a ∷ l) (b ∷ bs) h (suc i) code got = let below : StandsAt code bs i = seats_at l bs h.1 i code got in record { seat = below.seat; got = below.got; stands = below.stands }
-
--- another at a place
-pub seats_set : (codes : List SeatCode) (seats : List Seat) → SeatsStand codes seats → (i : ℕ) (code : SeatCode) (s : Seat) → SeatStands code s → SeatsStand (slice_set codes i code) (slice_set seats i s)
-seats_set [] [] h i code s one = tt
-seats_set [] (b ∷ bs) h i code s one = absurd h
-seats_set (a ∷ l) [] h i code s one = absurd h
-seats_set (a ∷ l) (b ∷ bs) h zero code s one = (one, h.1)
-seats_set (a ∷ l) (b ∷ bs) h (suc i) code s one = (h.0, seats_set l bs h.1 i code s one)
+pub seats_at : (n : ℕ) (codes : List SeatCode) (seats : List Seat) → AreFirstFrom n codes seats → (i : ℕ) (code : SeatCode) → slice_get codes i ≡ Some code → StandsAt n code seats i
+seats_at n [] seats h i code got = absurd (cc)
+seats_at n (a ∷ l) [] h i code got = absurd h
+seats_at n (a ∷ l) (b ∷ bs) h zero code got =
+    let same : a ≡ code = cc in
+    let e : n ≡ n + 0 = omega arith in
+    record { seat = b; got = refl; stands = subst (λ (k : ℕ). FirstStands k code b) e (subst (λ (c : SeatCode). FirstStands n c b) same h.0) }
+seats_at n (a ∷ l) (b ∷ bs) h (suc i) code got =
+    let below : StandsAt (n + 1) code bs i = seats_at (n + 1) l bs h.1 i code got in
+    let e : (n + 1) + i ≡ n + suc i = omega arith in
+    record { seat = below.seat; got = below.got; stands = subst (λ (k : ℕ). FirstStands k code below.seat) e below.stands }
 
 -- ---- numbers
-
-number_at : (n k i : ℕ) → i < k → slice_get (numbers_from n k) i ≡ Some (n + i)
-unfolding numbers_from
-number_at n zero i h = absurd (omega arith)
-number_at n (suc k) zero h = let e : n ≡ n + 0 = omega arith in ap Some e
-number_at n (suc k) (suc i) h = let e : (n + 1) + i ≡ n + suc i = omega arith in number_at (n + 1) k i (omega arith) ∙ ap Some e
 
 -- of the numbers from 1 on each stands at its own place
 pub number_of : (n k : ℕ) → 1 ≤ k → k ≤ n → numbered (numbers_from 1 n) k ≡ Some k
@@ -68,7 +60,7 @@ numbered_from_1 f n k least most =
     rw not_zero (slice_get-map f (numbers_from 1 n) (k - 1) ∙ ap (option_map f) (number_at 1 n (k - 1) (omega arith) ∙ ap Some same))
 
 -- one number more
-numbers_more : (n k : ℕ) → numbers_from n (suc k) ≡ numbers_from n k ++ (n + k) ∷ []
+pub numbers_more : (n k : ℕ) → numbers_from n (suc k) ≡ numbers_from n k ++ (n + k) ∷ []
 unfolding numbers_from
 numbers_more n zero = ap (λ (m : ℕ). m ∷ []) (omega arith)
 numbers_more n (suc k) =
@@ -93,5 +85,9 @@ first_more p n =
     ∙ ap (map first_seat) (map-append (script_member p) ns ((n + 1) ∷ []))
     ∙ map-append first_seat (map (script_member p) ns) (script_member p (n + 1) ∷ [])
 
-pub seats_more : (p : WorldPlan) (n : ℕ) (codes : List SeatCode) (code : SeatCode) → SeatsStand codes (first_seats p n) → SeatStands code (first_seat (script_member p (n + 1))) → SeatsStand (codes ++ code ∷ []) (first_seats p (n + 1))
-seats_more p n codes code h one = subst (SeatsStand (codes ++ code ∷ [])) (sym (first_more p n)) (seats_push codes (first_seats p n) code (first_seat (script_member p (n + 1))) h one)
+pub seats_more : (p : WorldPlan) (n : ℕ) (codes : List SeatCode) (code : SeatCode) → AreFirst codes (first_seats p n) → code.life ≡ n + 1 → SeatStands code (first_seat (script_member p (n + 1)))
+    → AreFirst (codes ++ code ∷ []) (first_seats p (n + 1))
+seats_more p n codes code h life one =
+    let count : length codes ≡ n = seats_length 1 codes (first_seats p n) h ∙ (length_map first_seat (map (script_member p) (numbers_from 1 n)) ∙ (length_map (script_member p) (numbers_from 1 n) ∙ count_numbers 1 n)) in
+    subst (AreFirst (codes ++ code ∷ [])) (sym (first_more p n))
+    (seats_push 1 codes (first_seats p n) code (first_seat (script_member p (n + 1))) h (record { life = life ∙ omega (arith, count); stands = one }))

@@ -4,30 +4,31 @@ use Rattle.std.proofs.lemmas.List.Sums.{sum_by-cons}
 use Rattle.grasp_session.specs.Messages.{Near, Far, other}
 use Rattle.grasp_laws_network.proofs.Here.{numbered_within}
 use Rattle.grasp_model_network.specs.StreamChanges.{Reached, reached_at, reached_in, side_named}
+use Rattle.grasp_model_network.specs.World.{end_of}
 use Rattle.grasp_model_network.specs.Plans.{IsNode}
 use Rattle.grasp_model_network.specs.Setting.{numbered}
 use Rattle.grasp_model_network.specs.Streams.{StreamEnd, StreamState, is_reached, is_same_end, is_at_end, is_number, has_end, end_at, side_at, next_bytes, count_at_end, stream_numbered}
 use Rattle.grasp_laws_delivery.proofs.Ends.{end_itself}
 use Rattle.grasp_laws_delivery.specs.Ready.{IsSent, AreSent}
 use Rattle.grasp_simulator.specs.StreamParts.{is_living, far_number, far_side_at, side_end, side_of, piece_at}
-use Rattle.grasp_simulator.specs.StreamsStand.{end_here, arrival_of, far_end, StreamStands, numbers, TableStands, IsTalk}
-use Rattle.grasp_simulator.specs.declared.stream.SideEnd.{SideEnd}
+use Rattle.grasp_simulator.specs.StreamsStand.{Queueing, arrival_of, far_end, StreamStands, numbers, TableStands, IsTalk}
+use Rattle.grasp_simulator.specs.declared.stream.LifeEnd.{LifeEnd}
 use Rattle.grasp_simulator.specs.declared.stream.Standing.{Standing}
 use Rattle.grasp_simulator.specs.declared.stream.Standing.TheVariants as standing
 use Rattle.grasp_simulator.specs.declared.stream.Stream.{Stream}
-use Rattle.grasp_simulator.specs.declared.streams.NearEnd.{NearEnd}
+use Rattle.grasp_simulator.specs.declared.stream.LifeEnd.{LifeEnd}
 use Rattle.grasp_simulator.proofs.StreamMakes.{found_counts}
 use Rattle.grasp_simulator.proofs.StreamMoves.{piece_is}
 use Rattle.grasp_simulator.proofs.StreamPlaces.{true_false}
 use Rattle.grasp_simulator.proofs.StreamTalks.{talk_at}
 
 -- the side that is reached has this end, and what comes to it next are these pieces
-pub record IsEnd (co : Option Stream) (far : Bool) (e : SideEnd) (x : Reached) : Type 0 where
-  pub at : x.at ≡ end_here e.node e.number
+pub record IsEnd (co : Option Stream) (far : Bool) (e : LifeEnd) (x : Reached) : Type 0 where
+  pub at : x.at ≡ end_of e.life e.number
   pub has : has_end x.at x.talk ≡ true
   pub pieces : (count : ℕ) → piece_at co far count ≡ next_bytes x.talk (other (side_named far)) count
 
-abbrev pub IsSide : Option Stream → Bool → Option SideEnd → Option Reached → Type 0
+abbrev pub IsSide : Option Stream → Bool → Option LifeEnd → Option Reached → Type 0
 IsSide co far None None = Unit {0}
 IsSide co far None (Some x) = ⊥
 IsSide co far (Some e) None = ⊥
@@ -53,15 +54,15 @@ pub number_is : (k : ℕ) → 1 ≤ k → k ≤ 2 ^ 62 → far_number k ≡ 2 * 
 number_is k least most = omega (arith, least, most)
 
 module _ (code : Stream) (k : ℕ) (t : StreamState) (s : StreamStands code k t) (least : 1 ≤ k) (most : k ≤ 2 ^ 62) where
-  near_by : (b : Bool) → IsSide (Some code) false (cond b (Some (record { node = code.near; number = code.number })) None) (reached_at t b (Some t.near))
+  near_by : (b : Bool) → IsSide (Some code) false (cond b (Some (record { life = code.near; number = code.number })) None) (reached_at t b (Some t.near))
   near_by true = record { at = s.near; has = near_has t; pieces = λ count. piece_is code.from_far t.from_far count s.from_far }
   near_by false = tt
 
   far_some : (o : Option ℕ) → t.far ≡ far_end o k → IsSide (Some code) true (far_side_at o k) (reached_at t true (far_end o k))
   far_some None is = tt
   far_some (Some node) is = record {
-    at = ap (end_here node) (sym (number_is k least most));
-    has = far_has t (end_here node (2 * k - 1)) is;
+    at = ap (end_of node) (sym (number_is k least most));
+    has = far_has t (end_of node (2 * k - 1)) is;
     pieces = λ count. piece_is code.from_near t.from_near count s.from_near;
   }
 
@@ -73,7 +74,7 @@ module _ (code : Stream) (k : ℕ) (t : StreamState) (s : StreamStands code k t)
   end_is_side true = subst (λ b. IsSide (Some code) true (side_end code k true) (reached_at t b t.far)) (sym (living code.far_side) ∙ ap is_reached s.far_side) (far_by (is_living code.far_side))
   end_is_side false = subst (λ b. IsSide (Some code) false (side_end code k false) (reached_at t b (Some t.near))) (sym (living code.near_side) ∙ ap is_reached s.near_side) (near_by (is_living code.near_side))
 
-module _ (streams : List Stream) (index : List (NearEnd × ℕ)) (ts : List StreamState) (dials : ℕ) (s : TableStands streams index ts dials) where
+module _ (streams : List Stream) (index : List (LifeEnd × ℕ)) (begins : Queueing) (ts : List StreamState) (dials : ℕ) (s : TableStands streams index begins ts dials) where
   within : (k : ℕ) (code : Stream) → numbered streams k ≡ Some code → (1 ≤ k) × (k ≤ 2 ^ 62)
   within k code is =
       let h : IsNode (length streams) k = numbered_within streams k code is in
@@ -91,7 +92,7 @@ module _ (streams : List Stream) (index : List (NearEnd × ℕ)) (ts : List Stre
 
   -- the side that an event reaches is the one that the code finds
   pub side_is : (k : ℕ) (far : Bool) → IsSide (numbered streams k) far (side_of (numbered streams k) k far) (reached_in (side_named far) (stream_numbered ts k))
-  side_is k far = side_by k far (numbered streams k) (stream_numbered ts k) refl (talk_at streams index ts dials s k)
+  side_is k far = side_by k far (numbered streams k) (stream_numbered ts k) refl (talk_at streams index begins ts dials s k)
 
 -- ---- one stream has the end
 

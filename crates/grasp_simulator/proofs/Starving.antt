@@ -12,10 +12,10 @@ use Rattle.grasp_model_network.specs.declared.event.Event.TheVariants as event
 use Rattle.grasp_simulator.specs.WorldStands.{WorldGoes}
 use Rattle.grasp_simulator.specs.WorldSteps.{MayStarve}
 use Rattle.grasp_simulator.specs.declared.world.World.{World}
-use Rattle.grasp_simulator.proofs.InputsGo.{Here, life_here}
+use Rattle.grasp_simulator.proofs.InputsGo.{Life, life_here}
 
 -- the present life of a member is there
-present_here : (code : World) (s : Setting) (w : WorldState) (node : ℕ) → WorldGoes code s w → IsNode (length s.members) node → Here w (present_life w node)
+present_here : (code : World) (s : Setting) (w : WorldState) (node : ℕ) → WorldGoes code s w → IsNode (length s.members) node → Life w (present_life w node)
 present_here code s w node goes is = life_here w (present_life w node) ((lives_are_kept s w goes.reached).present node is)
 
 pub agent_starves : (code : World) (node : ℕ) (hold : Bool) → MayStarve code (event.Agent node hold)

@@ -1,5 +1,5 @@
 -- A network that is stopped, one that was, and one that goes on.
-use Rattle.std.proofs.Common.{◌≡◌, ◌≤◌, ◌<◌, refl, sym, ◌∙◌, subst, arith, tests, ℕ, ◌-◌, min, nat_lt, true, false, length, None, Some, Ok, Err, Result}
+use Rattle.std.proofs.Common.{◌≡◌, ◌≤◌, ◌<◌, refl, sym, ◌∙◌, subst, arith, tests, ℕ, min, nat_lt, true, false, length, None, Some, Ok, Err, Result}
 use Rattle.std.proofs.lemmas.Option.{none-some, same_Some}
 use Rattle.grasp_laws_network.proofs.Going.{reached_more}
 use Rattle.grasp_model_network.specs.Events.{IsFit, Occurs, after_event}
@@ -19,7 +19,7 @@ use Rattle.grasp_simulator.specs.declared.world.World.{World}
 
 still : (code : World) (why : WorldStop) (e : Event) → code.stopped ≡ Some why → (s : Setting) (at : Standing) → WorldStands code (record { setting = s; standing = at })
     → Answers (WorldStands code) s at e (Err why)
-still code why e is s (going w) h = absurd (none-some why (sym h.stands.keeps.goes ∙ is))
+still code why e is s (going w) h = absurd (none-some why (sym h.stands.goes.keeps.goes ∙ is))
 still code why e is s (stopped old) h = record { same = same_Some why old (sym is ∙ h.stands); stands = h }
 
 -- what was stopped answers so again
@@ -30,7 +30,7 @@ stays_stopped code why e is = λ x met. still code why e is x.setting x.standing
 
 halted : (old new : World) (e : Event) → old.stopped ≡ None → length new.seats.items ≡ length old.seats.items → MayStarve old e → new.stopped ≡ Some stop.OutOfMemory → (s : Setting) (at : Standing)
     → WorldStands old (record { setting = s; standing = at }) → IsFitFor s at e → Answers (WorldStands new) s at e (Err stop.OutOfMemory)
-halted old new e goes count starves is s (going w) h fit = record { may_stop = starves s w (record { goes = h.stands; fit = fit }); stands = record { count = count ∙ h.count; stands = is } }
+halted old new e goes count starves is s (going w) h fit = record { may_stop = starves s w (record { goes = h.stands.goes; fit = fit }); stands = record { count = count ∙ h.count; stands = is } }
 halted old new e goes count starves is s (stopped why) h fit = absurd (none-some why (sym goes ∙ h.stands))
 
 -- want of memory stops what goes on, where the event may take some
@@ -49,21 +49,21 @@ much_sent sent count is much = grind (arith, tests)
 goes_on : (old mid new : World) (e : Event) (report told : Report) → length mid.seats.items ≡ length old.seats.items → Runs old mid e report → told ≡ report → new ≡ mid → mid.sent ≤ most_bytes → (s : Setting) (w : WorldState)
     → MayRun old s w e → length old.seats.items ≡ length s.members → Answers (WorldStands new) s (going w) e (Ok told)
 goes_on old mid new e report told count runs is same few s w may members =
-    let h : HasRun mid s w e report = runs s w may in
+    let h : HasRun old mid s w e report = runs s w may in
     let occurs : Occurs s w e h.choice = record { fit = may.fit; comes = h.comes; enough = few_sent mid.sent (after_event s w e h.choice).byte_count h.keeps.sent few } in
     record {
       choice = h.choice;
       occurs = occurs;
       report_is = is ∙ h.report_is;
       stands = subst (λ (code : World). WorldStands code (record { setting = s; standing = going (after_event s w e h.choice) })) (sym same)
-          (record { count = count ∙ members; stands = record { reached = reached_more s w e h.choice may.goes.reached occurs; keeps = h.keeps } });
+          (record { count = count ∙ members; stands = record { goes = record { reached = reached_more s w e h.choice may.goes.reached occurs; keeps = h.keeps } } });
     }
 
 -- too much was sent
 goes_over : (old mid new : World) (e : Event) (report : Report) (why : WorldStop) → length mid.seats.items ≡ length old.seats.items → Runs old mid e report → why ≡ stop.TooMuch → new ≡ record mid { stopped = Some stop.TooMuch }
     → most_bytes < mid.sent → (s : Setting) (w : WorldState) → MayRun old s w e → length old.seats.items ≡ length s.members → Answers (WorldStands new) s (going w) e (Err why)
 goes_over old mid new e report why count runs is same much s w may members =
-    let h : HasRun mid s w e report = runs s w may in
+    let h : HasRun old mid s w e report = runs s w may in
     subst (λ (x : WorldStop). Answers (WorldStands new) s (going w) e (Err x)) (sym is)
     (subst (λ (code : World). Answers (WorldStands code) s (going w) e (Err stop.TooMuch)) (sym same)
     (record {
@@ -73,8 +73,8 @@ goes_over old mid new e report why count runs is same much s w may members =
 
 ended : (old mid new : World) (e : Event) (report : Report) (result : Result Report WorldStop) → old.stopped ≡ None → length mid.seats.items ≡ length old.seats.items → Runs old mid e report → Ends mid new report result → (s : Setting) (at : Standing)
     → WorldStands old (record { setting = s; standing = at }) → IsFitFor s at e → Answers (WorldStands new) s at e result
-ended old mid new e report (Ok told) goes count runs done s (going w) h fit = goes_on old mid new e report told count runs done.0 done.1 done.2 s w (record { goes = h.stands; fit = fit }) h.count
-ended old mid new e report (Err why) goes count runs done s (going w) h fit = goes_over old mid new e report why count runs done.0 done.1 done.2 s w (record { goes = h.stands; fit = fit }) h.count
+ended old mid new e report (Ok told) goes count runs done s (going w) h fit = goes_on old mid new e report told count runs done.0 done.1 done.2 s w (record { goes = h.stands.goes; fit = fit }) h.count
+ended old mid new e report (Err why) goes count runs done s (going w) h fit = goes_over old mid new e report why count runs done.0 done.1 done.2 s w (record { goes = h.stands.goes; fit = fit }) h.count
 ended old mid new e report (Ok told) goes count runs done s (stopped why) h fit = absurd (none-some why (sym goes ∙ h.stands))
 ended old mid new e report (Err x) goes count runs done s (stopped why) h fit = absurd (none-some why (sym goes ∙ h.stands))
 

@@ -10,15 +10,16 @@ use Rattle.grasp_types.specs.declared.message.Message.{Message}
 use Rattle.grasp_wire.specs.Laws.{encoded}
 use Rattle.grasp_simulator.proofs.StreamPlaces.{Held, held_of, side_here, side_of_queued, side_in, side_at_place}
 use Rattle.grasp_model_network.specs.StreamChanges.{side_named}
+use Rattle.grasp_model_network.specs.World.{end_of}
 use Rattle.grasp_simulator.specs.StreamParts.{more_sent, stream_sent}
 use Rattle.grasp_laws_delivery.proofs.Counts.{every_map}
 use Rattle.grasp_laws_delivery.specs.Ready.{Every, IsSent, AreSent}
 use Rattle.grasp_laws_network.proofs.Staying.{set_here}
-use Rattle.grasp_simulator.specs.StreamsStand.{end_here, dial_at, SentStands, StreamStands, IsQueued, HeldAs, IsDialled, TalkStands, numbers, IsNearOf, TableStands, place_in}
+use Rattle.grasp_simulator.specs.StreamsStand.{Queueing, dial_at, SentStands, StreamStands, IsQueued, HeldAs, IsDialled, TalkStands, numbers, IsNearOf, TableStands, place_in}
 use Rattle.grasp_model_network.specs.Streams.{StreamEnd, Direction, StreamState, is_number, side_of_end, has_end, changed_by, at_end, change_at_end, with_sent}
 use Rattle.grasp_simulator.specs.declared.stream.Sent.{Sent}
 use Rattle.grasp_simulator.specs.declared.stream.Stream.{Stream}
-use Rattle.grasp_simulator.specs.declared.streams.NearEnd.{NearEnd}
+use Rattle.grasp_simulator.specs.declared.stream.LifeEnd.{LifeEnd}
 
 -- ---- lists
 
@@ -57,17 +58,17 @@ count_stays k e f keeps (t ∷ ts) =
     let old : count_by (numbers k) (t ∷ ts) ≡ one t + count_by (numbers k) ts = sum_by-cons one t ts in
     omega (arith, first, rest, now, old)
 
-module _ (streams : List Stream) (index : List (NearEnd × ℕ)) (node number : ℕ) (p : ℕ × Bool) (f : StreamState → Side → StreamState) (code after : Stream) (keeps : KeepsNumber f)
+module _ (streams : List Stream) (index : List (LifeEnd × ℕ)) (begins : Queueing) (node number : ℕ) (p : ℕ × Bool) (f : StreamState → Side → StreamState) (code after : Stream) (keeps : KeepsNumber f)
     (near_stays : (t : StreamState) (side : Side) → (f t side).near ≡ t.near) (placed : place_in streams index node number ≡ Some p) (got : slice_get streams p.0 ≡ Some code)
     (changes : (t : StreamState) → StreamStands code (p.0 + 1) t → StreamStands after (p.0 + 1) (f t (side_named p.1))) where
   abbrev e : StreamEnd
-  e = end_here node number
+  e = end_of node number
 
   -- of the stream at the place the side is changed
   dialled_here : (k : ℕ) (t : StreamState) → IsDialled streams index k t → p.0 + 1 ≡ k → IsDialled (slice_set streams p.0 after) index k (f t (side_named p.1))
   dialled_here k t d is =
       let m : p.0 ≡ k - 1 = omega (arith, is) in
-      let h : Held streams k t = held_of streams index k t d in
+      let h : Held streams k t = held_of streams index begins k t d in
       let same : code ≡ h.code = same_some (slice_get streams p.0) code h.code got (ap (slice_get streams) m ∙ h.got) in
       let old : StreamStands code (p.0 + 1) t = subst (λ j. StreamStands code j t) (sym is) (subst (λ (c : Stream). StreamStands c k t) (sym same) h.stands) in
       let new : StreamStands after k (f t (side_named p.1)) = subst (λ j. StreamStands after j (f t (side_named p.1))) is (changes t old) in
@@ -88,14 +89,14 @@ module _ (streams : List Stream) (index : List (NearEnd × ℕ)) (node number : 
   dialled_by k t d true is = dialled_here k t d (eqb-true (p.0 + 1) k is)
   dialled_by k t d false is = dialled_other k t d (eqb-false (p.0 + 1) k is)
 
-  talk_by : (t : StreamState) (o : Option ℕ) → TalkStands streams index t o → TalkStands (slice_set streams p.0 after) index (at_end e f t) o
-  talk_by t None q = subst (λ side. IsQueued index (changed_by f t side)) (sym (side_of_queued streams index node number t p q placed)) q
+  talk_by : (t : StreamState) (o : Option ℕ) → TalkStands streams index begins t o → TalkStands (slice_set streams p.0 after) index begins (at_end e f t) o
+  talk_by t None q = subst (λ side. IsQueued index begins (changed_by f t side)) (sym (side_of_queued streams index begins node number t p q placed)) q
   talk_by t (Some k) d =
-      let side : side_of_end e t ≡ side_in (Some p) k = side_here streams index node number k t d ∙ ap (λ o. side_in o k) placed in
+      let side : side_of_end e t ≡ side_in (Some p) k = side_here streams index begins node number k t d ∙ ap (λ o. side_in o k) placed in
       subst (λ s. IsDialled (slice_set streams p.0 after) index k (changed_by f t s)) (sym side) (dialled_by k t d ((p.0 + 1) == k) refl)
 
-  talk_changed : (t : StreamState) → TalkStands streams index t t.number → TalkStands (slice_set streams p.0 after) index (at_end e f t) (at_end e f t).number
-  talk_changed t h = subst (TalkStands (slice_set streams p.0 after) index (at_end e f t)) (sym (changed_number f keeps t (side_of_end e t))) (talk_by t t.number h)
+  talk_changed : (t : StreamState) → TalkStands streams index begins t t.number → TalkStands (slice_set streams p.0 after) index begins (at_end e f t) (at_end e f t).number
+  talk_changed t h = subst (TalkStands (slice_set streams p.0 after) index begins (at_end e f t)) (sym (changed_number f keeps t (side_of_end e t))) (talk_by t t.number h)
 
   near_at : (q : StreamEnd) (i : ℕ) (near : after.near ≡ code.near) (named : after.number ≡ code.number) → IsNearOf q (slice_get streams i) → IsNearOf q (slice_get (slice_set streams p.0 after) i)
   near_at q i near named h = elim (cases_Bool (p.0 == i)) [
@@ -108,10 +109,10 @@ module _ (streams : List Stream) (index : List (NearEnd × ℕ)) (node number : 
         subst (IsNearOf q) (sym at) (near ∙ old.0, named ∙ old.1)
   ]
 
-  pub changed : (ts : List StreamState) (dials : ℕ) → after.near ≡ code.near → after.number ≡ code.number → TableStands streams index ts dials → TableStands (slice_set streams p.0 after) index (change_at_end ts e f) dials
+  pub changed : (ts : List StreamState) (dials : ℕ) → after.near ≡ code.near → after.number ≡ code.number → TableStands streams index begins ts dials → TableStands (slice_set streams p.0 after) index begins (change_at_end ts e f) dials
   changed ts dials near named s = record {
     dialled = s.dialled ∙ sym (set_length streams p.0 after);
-    each = every_map (λ (t : StreamState). TalkStands streams index t t.number) (λ (t : StreamState). TalkStands (slice_set streams p.0 after) index t t.number) (at_end e f) talk_changed ts s.each;
+    each = every_map (λ (t : StreamState). TalkStands streams index begins t t.number) (λ (t : StreamState). TalkStands (slice_set streams p.0 after) index begins t t.number) (at_end e f) talk_changed ts s.each;
     once = λ k least most. count_stays k e f keeps ts ∙ s.once k least most;
     few = s.few;
     found = λ q k at. let h = s.found q k at in (h.0, h.1, near_at q (k - 1) near named h.2);
@@ -167,13 +168,13 @@ sent_number : (code : Stream) (far : Bool) (bytes : List ℕ) → (stream_sent c
 sent_number code true bytes = refl
 sent_number code false bytes = refl
 
-pub sent_here : (streams : List Stream) (index : List (NearEnd × ℕ)) (node number : ℕ) (p : ℕ × Bool) (code after : Stream) (bytes : List ℕ) (m : Message) (ts : List StreamState) (dials : ℕ)
-    → place_in streams index node number ≡ Some p → slice_get streams p.0 ≡ Some code → after ≡ stream_sent code p.1 bytes → bytes ≡ encoding m → TableStands streams index ts dials
-    → TableStands (slice_set streams p.0 after) index (change_at_end ts (end_here node number) (with_sent m)) dials
-sent_here streams index node number p code after bytes m ts dials placed got new is s =
+pub sent_here : (streams : List Stream) (index : List (LifeEnd × ℕ)) (begins : Queueing) (node number : ℕ) (p : ℕ × Bool) (code after : Stream) (bytes : List ℕ) (m : Message) (ts : List StreamState) (dials : ℕ)
+    → place_in streams index node number ≡ Some p → slice_get streams p.0 ≡ Some code → after ≡ stream_sent code p.1 bytes → bytes ≡ encoding m → TableStands streams index begins ts dials
+    → TableStands (slice_set streams p.0 after) index begins (change_at_end ts (end_of node number) (with_sent m)) dials
+sent_here streams index begins node number p code after bytes m ts dials placed got new is s =
     let so : after ≡ stream_sent code p.1 (encoding m) = new ∙ ap (stream_sent code p.1) is in
-    subst (λ (c : Stream). TableStands (slice_set streams p.0 c) index (change_at_end ts (end_here node number) (with_sent m)) dials) (sym so)
-    (changed streams index node number p (with_sent m) code (stream_sent code p.1 (encoding m)) (keeps_sent m) (near_sent m) placed got (λ t. sends code (p.0 + 1) t p.1 m) ts dials
+    subst (λ (c : Stream). TableStands (slice_set streams p.0 c) index begins (change_at_end ts (end_of node number) (with_sent m)) dials) (sym so)
+    (changed streams index begins node number p (with_sent m) code (stream_sent code p.1 (encoding m)) (keeps_sent m) (near_sent m) placed got (λ t. sends code (p.0 + 1) t p.1 m) ts dials
     (sent_near code p.1 (encoding m)) (sent_number code p.1 (encoding m)) s)
 
 -- ---- an end that no stream has
@@ -182,20 +183,20 @@ no_side : (o : Option Side) (n : Option ℕ) → n ≡ None → (is_some o ≡ t
 no_side None n none h = refl
 no_side (Some side) n none h = absurd (subst IsSent none (h refl))
 
-none_by : (streams : List Stream) (index : List (NearEnd × ℕ)) (node number : ℕ) (t : StreamState) (n : Option ℕ) → t.number ≡ n → place_in streams index node number ≡ None → TalkStands streams index t n
-    → (has_end (end_here node number) t ≡ true → IsSent t.number) → side_of_end (end_here node number) t ≡ None
-none_by streams index node number t None is placed h sent = no_side (side_of_end (end_here node number) t) t.number is sent
-none_by streams index node number t (Some k) is placed h sent = side_here streams index node number k t h ∙ ap (λ o. side_in o k) placed
+none_by : (streams : List Stream) (index : List (LifeEnd × ℕ)) (begins : Queueing) (node number : ℕ) (t : StreamState) (n : Option ℕ) → t.number ≡ n → place_in streams index node number ≡ None → TalkStands streams index begins t n
+    → (has_end (end_of node number) t ≡ true → IsSent t.number) → side_of_end (end_of node number) t ≡ None
+none_by streams index begins node number t None is placed h sent = no_side (side_of_end (end_of node number) t) t.number is sent
+none_by streams index begins node number t (Some k) is placed h sent = side_here streams index begins node number k t h ∙ ap (λ o. side_in o k) placed
 
-pub stays_nowhere : (streams : List Stream) (index : List (NearEnd × ℕ)) (node number : ℕ) (f : StreamState → Side → StreamState) (ts : List StreamState) → place_in streams index node number ≡ None
-    → AreSent ts (end_here node number) → Every (λ (t : StreamState). TalkStands streams index t t.number) ts → change_at_end ts (end_here node number) f ≡ ts
-stays_nowhere streams index node number f [] placed sent h = refl
-stays_nowhere streams index node number f (t ∷ ts) placed sent h =
-    let side : side_of_end (end_here node number) t ≡ None = none_by streams index node number t t.number refl placed h.0 sent.0 in
-    let first : at_end (end_here node number) f t ≡ t = ap (changed_by f t) side in
-    ap (λ (x : StreamState). x ∷ change_at_end ts (end_here node number) f) first ∙ ap (λ (l : List StreamState). t ∷ l) (stays_nowhere streams index node number f ts placed sent.1 h.1)
+pub stays_nowhere : (streams : List Stream) (index : List (LifeEnd × ℕ)) (begins : Queueing) (node number : ℕ) (f : StreamState → Side → StreamState) (ts : List StreamState) → place_in streams index node number ≡ None
+    → AreSent ts (end_of node number) → Every (λ (t : StreamState). TalkStands streams index begins t t.number) ts → change_at_end ts (end_of node number) f ≡ ts
+stays_nowhere streams index begins node number f [] placed sent h = refl
+stays_nowhere streams index begins node number f (t ∷ ts) placed sent h =
+    let side : side_of_end (end_of node number) t ≡ None = none_by streams index begins node number t t.number refl placed h.0 sent.0 in
+    let first : at_end (end_of node number) f t ≡ t = ap (changed_by f t) side in
+    ap (λ (x : StreamState). x ∷ change_at_end ts (end_of node number) f) first ∙ ap (λ (l : List StreamState). t ∷ l) (stays_nowhere streams index begins node number f ts placed sent.1 h.1)
 
-pub sent_nowhere : (streams : List Stream) (index : List (NearEnd × ℕ)) (node number : ℕ) (m : Message) (ts : List StreamState) (dials : ℕ) → place_in streams index node number ≡ None
-    → AreSent ts (end_here node number) → TableStands streams index ts dials → TableStands streams index (change_at_end ts (end_here node number) (with_sent m)) dials
-sent_nowhere streams index node number m ts dials placed sent s =
-    subst (λ (l : List StreamState). TableStands streams index l dials) (sym (stays_nowhere streams index node number (with_sent m) ts placed sent s.each)) s
+pub sent_nowhere : (streams : List Stream) (index : List (LifeEnd × ℕ)) (begins : Queueing) (node number : ℕ) (m : Message) (ts : List StreamState) (dials : ℕ) → place_in streams index node number ≡ None
+    → AreSent ts (end_of node number) → TableStands streams index begins ts dials → TableStands streams index begins (change_at_end ts (end_of node number) (with_sent m)) dials
+sent_nowhere streams index begins node number m ts dials placed sent s =
+    subst (λ (l : List StreamState). TableStands streams index begins l dials) (sym (stays_nowhere streams index begins node number (with_sent m) ts placed sent s.each)) s

@@ -10,15 +10,16 @@ use Rattle.grasp_session.specs.Messages.{Side, Near, Far}
 use Rattle.grasp_types.specs.declared.address.Locator.{Locator}
 use Rattle.grasp_wire.specs.Laws.{encoded}
 use Rattle.grasp_simulator.proofs.StreamPlaces.{Held, held_of}
-use Rattle.grasp_simulator.specs.StreamParts.{first_stream}
+use Rattle.grasp_simulator.specs.StreamParts.{first_standing, first_stream}
 use Rattle.grasp_laws_delivery.proofs.Counts.{every_both, every_map}
 use Rattle.grasp_laws_delivery.proofs.Ends.{same_ends}
 use Rattle.grasp_laws_delivery.specs.Ready.{Every, WaitsFor, IsDialOf}
 use Rattle.grasp_laws_network.proofs.Routing.{is_itself}
-use Rattle.grasp_simulator.specs.StreamsStand.{end_here, key_of, same_near, dial_at, IsQueued, HeldAs, IsDialled, TalkStands, numbers, IsNearOf, TableStands, most_streams}
-use Rattle.grasp_model_network.specs.Streams.{StreamEnd, StreamState, is_same_end, is_at_end, is_number, side_of_end, has_end, changed_by, at_end, change_at_end, with_number}
+use Rattle.grasp_simulator.specs.StreamsStand.{Queueing, HasSides, arrival_of, first_arrival, key_of, same_near, dial_at, IsQueued, HeldAs, IsDialled, TalkStands, numbers, IsNearOf, TableStands, most_streams}
+use Rattle.grasp_model_network.specs.Streams.{StreamEnd, StreamState, is_same_end, is_at_end, is_number, side_of_end, has_end, changed_by, at_end, change_at_end, with_number, lives}
+use Rattle.grasp_model_network.specs.World.{end_of}
 use Rattle.grasp_simulator.specs.declared.stream.Stream.{Stream}
-use Rattle.grasp_simulator.specs.declared.streams.NearEnd.{NearEnd}
+use Rattle.grasp_simulator.specs.declared.stream.LifeEnd.{LifeEnd}
 
 -- ---- lists
 
@@ -55,20 +56,14 @@ side_none : (o : Option Side) → is_some o ≡ false → o ≡ None
 side_none None h = refl
 side_none (Some s) h = absurd (cc)
 
--- two near ends that are the same in the code are the same end, where the life is 0
-key_same : (node number : ℕ) (e : StreamEnd) → e.life ≡ 0 → same_near (key_of (end_here node number)) (key_of e) ≡ true → is_same_end (end_here node number) e ≡ true
-key_same node number e life h =
-    let a = and_parts (node == e.node) (number == e.number) h in
-    ap (λ b. b && ((0 == e.life) && (number == e.number))) a.0 ∙ (ap (λ n. (0 == n) && (number == e.number)) life ∙ a.1)
-
-module _ (streams : List Stream) (index after : List (NearEnd × ℕ)) (node number : ℕ) (to : Locator) (ts : List StreamState) (dials : ℕ) (s : TableStands streams index ts dials)
-    (d : IsDialOf ts (end_here node number) to) (room : dials + 1 ≤ most_streams)
-    (looks : (q : StreamEnd) → dial_at after q ≡ cond (same_near (key_of (end_here node number)) (key_of q)) (Some (dials + 1)) (dial_at index q)) where
+module _ (streams : List Stream) (index after : List (LifeEnd × ℕ)) (begins : Queueing) (closed : Bool) (node number : ℕ) (to : Locator) (ts : List StreamState) (dials : ℕ) (s : TableStands streams index begins ts dials)
+    (d : IsDialOf ts (end_of node number) to) (starts : begins (end_of node number) to ≡ Some closed) (room : dials + 1 ≤ most_streams)
+    (looks : (q : StreamEnd) → dial_at after q ≡ cond (same_near (key_of (end_of node number)) (key_of q)) (Some (dials + 1)) (dial_at index q)) where
   abbrev e : StreamEnd
-  e = end_here node number
+  e = end_of node number
 
   abbrev new : Stream
-  new = first_stream node number to
+  new = first_stream node number to closed
 
   abbrev more : List Stream
   more = streams ++ new ∷ []
@@ -77,10 +72,10 @@ module _ (streams : List Stream) (index after : List (NearEnd × ℕ)) (node num
   g t = at_end e (with_number (dials + 1)) t
 
   abbrev Before : StreamState → Type 0
-  Before t = TalkStands streams index t t.number × WaitsFor e to t
+  Before t = TalkStands streams index begins t t.number × WaitsFor e to t
 
   all : Every Before ts
-  all = every_both (λ (t : StreamState). TalkStands streams index t t.number) (WaitsFor e to) ts s.each d.waits
+  all = every_both (λ (t : StreamState). TalkStands streams index begins t t.number) (WaitsFor e to) ts s.each d.waits
 
   new_at : slice_get more ((dials + 1) - 1) ≡ Some new
   new_at = let n : (dials + 1) - 1 ≡ length streams = let h : dials ≡ length streams = s.dialled in omega (arith, h) in ap (slice_get more) n ∙ get_end streams new
@@ -96,14 +91,24 @@ module _ (streams : List Stream) (index after : List (NearEnd × ℕ)) (node num
   key_itself : same_near (key_of e) (key_of e) ≡ true
   key_itself = ap (λ b. b && (number == number)) (is_itself node) ∙ is_itself number
 
-  is_near : (t : StreamState) → has_end e t ≡ true → IsQueued index t → e ≡ t.near
+  is_near : (t : StreamState) → has_end e t ≡ true → IsQueued index begins t → e ≡ t.near
   is_near t has q = same_ends e t.near (sym (no_far e t q.far) ∙ has)
 
   number_given : (t : StreamState) (o : Option Side) → is_some o ≡ true → changed_by (with_number (dials + 1)) t o ≡ record t { number = Some (dials + 1) }
   number_given t None h = absurd (cc)
   number_given t (Some side) h = refl
 
-  now_dialled : (t : StreamState) → e ≡ t.near → t.to ≡ to → IsQueued index t → IsDialled more after (dials + 1) (record t { number = Some (dials + 1) })
+  first_side : (b : Bool) → arrival_of (first_standing b) ≡ first_arrival b
+  first_side true = refl
+  first_side false = refl
+
+  -- how its sides stand
+  sides_here : (t : StreamState) → e ≡ t.near → t.to ≡ to → IsQueued index begins t → (t.near_side ≡ lives) × (t.far_side ≡ first_arrival closed)
+  sides_here t near goes q =
+      subst (λ o. HasSides o t.near_side t.far_side) starts
+      (subst (λ (l : Locator). HasSides (begins e l) t.near_side t.far_side) goes (subst (λ (x : StreamEnd). HasSides (begins x t.to) t.near_side t.far_side) (sym near) q.sides))
+
+  now_dialled : (t : StreamState) → e ≡ t.near → t.to ≡ to → IsQueued index begins t → IsDialled more after (dials + 1) (record t { number = Some (dials + 1) })
   now_dialled t near goes q = record {
     least = omega arith;
     known = ap (dial_at after) (sym near) ∙ looks_here e key_itself;
@@ -112,8 +117,8 @@ module _ (streams : List Stream) (index after : List (NearEnd × ℕ)) (node num
       even = q.even;
       to = sym goes;
       far = q.far;
-      near_side = sym q.near_side;
-      far_side = sym q.far_side;
+      near_side = sym (sides_here t near goes q).0;
+      far_side = first_side closed ∙ sym (sides_here t near goes q).1;
       from_near = record { bytes = sym (ap encoded q.near_sent); delivered = sym q.near_delivered };
       from_far = record { bytes = sym (ap encoded q.far_sent); delivered = sym q.far_delivered };
     });
@@ -121,22 +126,20 @@ module _ (streams : List Stream) (index after : List (NearEnd × ℕ)) (node num
 
   -- ---- the others
 
-  apart : (t : StreamState) → t.near.life ≡ 0 → has_end e t ≡ false → same_near (key_of e) (key_of t.near) ≡ false
-  apart t life other = elim (cases_Bool (same_near (key_of e) (key_of t.near))) [
+  apart : (t : StreamState) → has_end e t ≡ false → same_near (key_of e) (key_of t.near) ≡ false
+  apart t other = elim (cases_Bool (same_near (key_of e) (key_of t.near))) [
     | inr h ↦ h
-    | inl h ↦ absurd (let has : has_end e t ≡ true = near_has e t (key_same node number t.near life h) in cc)
+    | inl h ↦ absurd (let has : has_end e t ≡ true = near_has e t h in cc)
   ]
 
   held_still : (k : ℕ) (t : StreamState) → Held streams k t → HeldAs (slice_get more (k - 1)) k t
   held_still k t h = subst (λ o. HeldAs o k t) (sym (append_get streams new h.code (k - 1) h.got)) h.stands
 
-  other_stands : (t : StreamState) (n : Option ℕ) → has_end e t ≡ false → TalkStands streams index t n → TalkStands more after t n
+  other_stands : (t : StreamState) (n : Option ℕ) → has_end e t ≡ false → TalkStands streams index begins t n → TalkStands more after begins t n
   other_stands t None other q = record {
-    unknown = looks_other t.near (apart t q.life other) ∙ q.unknown;
-    life = q.life;
+    unknown = looks_other t.near (apart t other) ∙ q.unknown;
     even = q.even;
-    near_side = q.near_side;
-    far_side = q.far_side;
+    sides = q.sides;
     far = q.far;
     near_sent = q.near_sent;
     near_delivered = q.near_delivered;
@@ -144,9 +147,8 @@ module _ (streams : List Stream) (index after : List (NearEnd × ℕ)) (node num
     far_delivered = q.far_delivered;
   }
   other_stands t (Some k) other h =
-      let held : Held streams k t = held_of streams index k t h in
-      let life : t.near.life ≡ 0 = ap (λ (x : StreamEnd). x.life) held.stands.near in
-      record { least = h.least; known = looks_other t.near (apart t life other) ∙ h.known; held = held_still k t held }
+      let held : Held streams k t = held_of streams index begins k t h in
+      record { least = h.least; known = looks_other t.near (apart t other) ∙ h.known; held = held_still k t held }
 
   -- ---- each, and each number
 
@@ -156,13 +158,13 @@ module _ (streams : List Stream) (index after : List (NearEnd × ℕ)) (node num
   gives : (t : StreamState) → has_end e t ≡ true → g t ≡ record t { number = Some (dials + 1) }
   gives t has = number_given t (side_of_end e t) has
 
-  queued : (t : StreamState) → has_end e t ≡ true → Before t → IsQueued index t
-  queued t has b = subst (TalkStands streams index t) (b.1 has).0 b.0
+  queued : (t : StreamState) → has_end e t ≡ true → Before t → IsQueued index begins t
+  queued t has b = subst (TalkStands streams index begins t) (b.1 has).0 b.0
 
-  each : (t : StreamState) → Before t → TalkStands more after (g t) (g t).number
+  each : (t : StreamState) → Before t → TalkStands more after begins (g t) (g t).number
   each t b = elim (cases_Bool (has_end e t)) [
-    | inl has ↦ subst (λ (x : StreamState). TalkStands more after x x.number) (sym (gives t has)) (now_dialled t (is_near t has (queued t has b)) (b.1 has).1 (queued t has b))
-    | inr other ↦ subst (λ (x : StreamState). TalkStands more after x x.number) (sym (stays_other t other)) (other_stands t t.number other b.0)
+    | inl has ↦ subst (λ (x : StreamState). TalkStands more after begins x x.number) (sym (gives t has)) (now_dialled t (is_near t has (queued t has b)) (b.1 has).1 (queued t has b))
+    | inr other ↦ subst (λ (x : StreamState). TalkStands more after begins x x.number) (sym (stays_other t other)) (other_stands t t.number other b.0)
   ]
 
   new_number : (n k : ℕ) → (n ≡ k → ⊥) → (n == k) ≡ false
@@ -177,10 +179,10 @@ module _ (streams : List Stream) (index after : List (NearEnd × ℕ)) (node num
     | inl has ↦ ap (numbers k) (gives t has) ∙ (new_number (dials + 1) k (λ h. omega (arith, h, most)) ∙ sym (ap (is_number k) (b.1 has).0))
   ]
 
-  not_new : (t : StreamState) (n : Option ℕ) → TalkStands streams index t n → is_number (dials + 1) n ≡ false
+  not_new : (t : StreamState) (n : Option ℕ) → TalkStands streams index begins t n → is_number (dials + 1) n ≡ false
   not_new t None h = refl
   not_new t (Some k) h =
-      let held : Held streams k t = held_of streams index k t h in
+      let held : Held streams k t = held_of streams index begins k t h in
       let within : k - 1 < length streams = slice_get_within streams (k - 1) held.code held.got in
       let count : dials ≡ length streams = s.dialled in
       let least : 1 ≤ k = h.least in
@@ -217,10 +219,10 @@ module _ (streams : List Stream) (index after : List (NearEnd × ℕ)) (node num
         (h.0, omega (arith, h.1), near_still q (k - 1) (slice_get streams (k - 1)) refl h.2)
   ]
 
-  pub dialled : TableStands more after (change_at_end ts e (with_number (dials + 1))) (dials + 1)
+  pub dialled : TableStands more after begins (change_at_end ts e (with_number (dials + 1))) (dials + 1)
   dialled = record {
     dialled = let a : length more ≡ length streams + 1 = length-append streams (new ∷ []) in let h : dials ≡ length streams = s.dialled in omega (arith, a, h);
-    each = every_map Before (λ (t : StreamState). TalkStands more after t t.number) g each ts all;
+    each = every_map Before (λ (t : StreamState). TalkStands more after begins t t.number) g each ts all;
     once = once;
     few = room;
     found = found;

@@ -3,13 +3,14 @@ use Rattle.std.proofs.Common.{◌≡◌, refl, sym, ap, ◌∙◌, subst, ℕ, �
 use Rattle.grasp_session.specs.Messages.{Side, Near, Far}
 use Rattle.grasp_wire.specs.Laws.{encoded}
 use Rattle.grasp_model_network.specs.StreamChanges.{side_named}
+use Rattle.grasp_model_network.specs.World.{end_of}
 use Rattle.grasp_model_network.specs.Streams.{Direction, StreamState, told_closed, change_at_end, with_delivered, with_side}
 use Rattle.grasp_laws_delivery.specs.Ready.{AreSent}
 use Rattle.grasp_simulator.specs.StreamParts.{piece_of, more_delivered, stream_delivered, stream_told}
-use Rattle.grasp_simulator.specs.StreamsStand.{end_here, SentStands, StreamStands, TableStands, place_in}
+use Rattle.grasp_simulator.specs.StreamsStand.{Queueing, SentStands, StreamStands, TableStands, place_in}
 use Rattle.grasp_simulator.specs.declared.stream.Sent.{Sent}
 use Rattle.grasp_simulator.specs.declared.stream.Stream.{Stream}
-use Rattle.grasp_simulator.specs.declared.streams.NearEnd.{NearEnd}
+use Rattle.grasp_simulator.specs.declared.stream.LifeEnd.{LifeEnd}
 use Rattle.grasp_simulator.proofs.StreamChanges.{KeepsNumber, changed, stays_nowhere}
 
 -- ---- bytes that are delivered
@@ -86,20 +87,20 @@ number_told code false = refl
 
 -- ---- the table
 
-module _ (streams : List Stream) (index : List (NearEnd × ℕ)) (node number : ℕ) (ts : List StreamState) (dials : ℕ) (s : TableStands streams index ts dials) where
+module _ (streams : List Stream) (index : List (LifeEnd × ℕ)) (begins : Queueing) (node number : ℕ) (ts : List StreamState) (dials : ℕ) (s : TableStands streams index begins ts dials) where
   pub delivered_here : (count : ℕ) (p : ℕ × Bool) (code after : Stream) → place_in streams index node number ≡ Some p → slice_get streams p.0 ≡ Some code → after ≡ stream_delivered code p.1 count
-      → TableStands (slice_set streams p.0 after) index (change_at_end ts (end_here node number) (with_delivered count)) dials
+      → TableStands (slice_set streams p.0 after) index begins (change_at_end ts (end_of node number) (with_delivered count)) dials
   delivered_here count p code after placed got new =
-      subst (λ (c : Stream). TableStands (slice_set streams p.0 c) index (change_at_end ts (end_here node number) (with_delivered count)) dials) (sym new)
-      (changed streams index node number p (with_delivered count) code (stream_delivered code p.1 count) (delivered_number count) (delivered_near count) placed got (λ t. delivers count code (p.0 + 1) t p.1) ts dials
+      subst (λ (c : Stream). TableStands (slice_set streams p.0 c) index begins (change_at_end ts (end_of node number) (with_delivered count)) dials) (sym new)
+      (changed streams index begins node number p (with_delivered count) code (stream_delivered code p.1 count) (delivered_number count) (delivered_near count) placed got (λ t. delivers count code (p.0 + 1) t p.1) ts dials
       (near_still count code p.1) (number_still count code p.1) s)
 
   pub told_here : (p : ℕ × Bool) (code after : Stream) → place_in streams index node number ≡ Some p → slice_get streams p.0 ≡ Some code → after ≡ stream_told code p.1
-      → TableStands (slice_set streams p.0 after) index (change_at_end ts (end_here node number) (with_side told_closed)) dials
+      → TableStands (slice_set streams p.0 after) index begins (change_at_end ts (end_of node number) (with_side told_closed)) dials
   told_here p code after placed got new =
-      subst (λ (c : Stream). TableStands (slice_set streams p.0 c) index (change_at_end ts (end_here node number) (with_side told_closed)) dials) (sym new)
-      (changed streams index node number p (with_side told_closed) code (stream_told code p.1) told_number told_near placed got (λ t. tells code (p.0 + 1) t p.1) ts dials (near_told code p.1) (number_told code p.1) s)
+      subst (λ (c : Stream). TableStands (slice_set streams p.0 c) index begins (change_at_end ts (end_of node number) (with_side told_closed)) dials) (sym new)
+      (changed streams index begins node number p (with_side told_closed) code (stream_told code p.1) told_number told_near placed got (λ t. tells code (p.0 + 1) t p.1) ts dials (near_told code p.1) (number_told code p.1) s)
 
   -- a change by an end that no stream has
-  pub changed_nowhere : (f : StreamState → Side → StreamState) → place_in streams index node number ≡ None → AreSent ts (end_here node number) → TableStands streams index (change_at_end ts (end_here node number) f) dials
-  changed_nowhere f placed sent = subst (λ (l : List StreamState). TableStands streams index l dials) (sym (stays_nowhere streams index node number f ts placed sent s.each)) s
+  pub changed_nowhere : (f : StreamState → Side → StreamState) → place_in streams index node number ≡ None → AreSent ts (end_of node number) → TableStands streams index begins (change_at_end ts (end_of node number) f) dials
+  changed_nowhere f placed sent = subst (λ (l : List StreamState). TableStands streams index begins l dials) (sym (stays_nowhere streams index begins node number f ts placed sent s.each)) s

@@ -1,15 +1,16 @@
 -- The place of an end in the code's table of streams is that of the stream that has it.
-use Rattle.std.proofs.Common.{◌≡◌, inl, inr, refl, sym, ap, ◌∙◌, arith, ℕ, ◌+◌, ◌-◌, ◌*◌, ◌%◌, ◌/◌, ◌≤◌, ◌==◌, ◌&&◌, Bool, true, false, cond, List, Option, Some, None, slice_get}
+use Rattle.std.proofs.Common.{◌≡◌, inl, inr, refl, sym, ap, ◌∙◌, arith, ℕ, ◌+◌, ◌-◌, ◌*◌, ◌%◌, ◌/◌, ◌≤◌, ◌==◌, Bool, true, false, cond, List, Option, Some, None, slice_get}
 use Rattle.std.proofs.lemmas.Bool.{cases_Bool, and_parts, eqb-true, eqb-false}
 use Rattle.grasp_cbor.proofs.Facts.Options.{same_some}
 use Rattle.grasp_laws_delivery.proofs.Ends.{same_ends, end_itself}
 use Rattle.grasp_laws_network.proofs.Routing.{is_itself}
 use Rattle.grasp_session.specs.Messages.{Side, Near, Far}
 use Rattle.grasp_model_network.specs.StreamChanges.{side_named}
-use Rattle.grasp_simulator.specs.StreamsStand.{end_here, dial_at, far_end, StreamStands, IsQueued, HeldAs, IsDialled, near_here, near_place, far_here, place_in}
+use Rattle.grasp_model_network.specs.World.{end_of}
+use Rattle.grasp_simulator.specs.StreamsStand.{Queueing, dial_at, far_end, StreamStands, IsQueued, HeldAs, IsDialled, near_here, near_place, far_here, place_in}
 use Rattle.grasp_model_network.specs.Streams.{StreamEnd, StreamState, is_same_end, is_at_end, is_number, side_of_end}
 use Rattle.grasp_simulator.specs.declared.stream.Stream.{Stream}
-use Rattle.grasp_simulator.specs.declared.streams.NearEnd.{NearEnd}
+use Rattle.grasp_simulator.specs.declared.stream.LifeEnd.{LifeEnd}
 
 -- what stands for a stream that was dialled
 pub record Held (streams : List Stream) (k : ℕ) (t : StreamState) : Type 0 where
@@ -21,8 +22,8 @@ held_from : (streams : List Stream) (k : ℕ) (t : StreamState) (o : Option Stre
 held_from streams k t None e h = absurd h
 held_from streams k t (Some code) e h = record { code = code; got = e; stands = h }
 
-pub held_of : (streams : List Stream) (index : List (NearEnd × ℕ)) (k : ℕ) (t : StreamState) → IsDialled streams index k t → Held streams k t
-held_of streams index k t d = held_from streams k t (slice_get streams (k - 1)) refl d.held
+pub held_of : (streams : List Stream) (index : List (LifeEnd × ℕ)) (begins : Queueing) (k : ℕ) (t : StreamState) → IsDialled streams index k t → Held streams k t
+held_of streams index begins k t d = held_from streams k t (slice_get streams (k - 1)) refl d.held
 
 none_some : {A : Type 0} (o : Option A) (a : A) → o ≡ None → o ≡ Some a → ⊥
 none_some o a e f = cc
@@ -34,20 +35,18 @@ true_false b e f = cc
 
 pub record SameEnds (e f : StreamEnd) : Type 0 where
   pub node : e.node ≡ f.node
-  pub life : e.life ≡ f.life
   pub number : e.number ≡ f.number
 
 pub end_parts : (e f : StreamEnd) → is_same_end e f ≡ true → SameEnds e f
 end_parts e f h =
-    let a = and_parts (e.node == f.node) (e.life == f.life && e.number == f.number) h in
-    let b = and_parts (e.life == f.life) (e.number == f.number) a.1 in
-    record { node = eqb-true e.node f.node a.0; life = eqb-true e.life f.life b.0; number = eqb-true e.number f.number b.1 }
+    let a = and_parts (e.node == f.node) (e.number == f.number) h in
+    record { node = eqb-true e.node f.node a.0; number = eqb-true e.number f.number a.1 }
 
 -- the far end of a stream has an odd number
-far_is_odd : (node number k : ℕ) (o : Option ℕ) → 1 ≤ k → number % 2 ≡ 0 → is_at_end (end_here node number) (far_end o k) ≡ false
+pub far_is_odd : (node number k : ℕ) (o : Option ℕ) → 1 ≤ k → number % 2 ≡ 0 → is_at_end (end_of node number) (far_end o k) ≡ false
 far_is_odd node number k None least even = refl
-far_is_odd node number k (Some n) least even = elim (cases_Bool (is_same_end (end_here node number) (end_here n (2 * k - 1)))) [
-  | inl h ↦ absurd (let s : SameEnds (end_here node number) (end_here n (2 * k - 1)) = end_parts (end_here node number) (end_here n (2 * k - 1)) h in omega (arith, least, even, s.number))
+far_is_odd node number k (Some n) least even = elim (cases_Bool (is_same_end (end_of node number) (end_of n (2 * k - 1)))) [
+  | inl h ↦ absurd (let s : SameEnds (end_of node number) (end_of n (2 * k - 1)) = end_parts (end_of node number) (end_of n (2 * k - 1)) h in omega (arith, least, even, s.number))
   | inr h ↦ h
 ]
 
@@ -62,12 +61,12 @@ abbrev pub side_in : Option (ℕ × Bool) → ℕ → Option Side
 side_in None k = None
 side_in (Some p) k = side_at_place p.1 ((p.0 + 1) == k)
 
-module _ (streams : List Stream) (index : List (NearEnd × ℕ)) (node number k : ℕ) (t : StreamState) (d : IsDialled streams index k t) where
+module _ (streams : List Stream) (index : List (LifeEnd × ℕ)) (begins : Queueing) (node number k : ℕ) (t : StreamState) (d : IsDialled streams index k t) where
   abbrev e : StreamEnd
-  e = end_here node number
+  e = end_of node number
 
   h : Held streams k t
-  h = held_of streams index k t d
+  h = held_of streams index begins k t d
 
   -- ---- a near end
 
@@ -75,7 +74,7 @@ module _ (streams : List Stream) (index : List (NearEnd × ℕ)) (node number k 
   near_same same =
       let is : e ≡ t.near = same_ends e t.near same in
       let at : dial_at index e ≡ Some k = ap (dial_at index) is ∙ d.known in
-      let here : is_same_end e (end_here h.code.near h.code.number) ≡ true = ap (is_same_end e) (sym h.stands.near) ∙ same in
+      let here : is_same_end e (end_of h.code.near h.code.number) ≡ true = ap (is_same_end e) (sym h.stands.near) ∙ same in
       ap (near_place streams e) at ∙ ap (λ o. near_here o e (k - 1)) h.got ∙ ap (λ b. cond b (Some (k - 1, false)) None) here
 
   place_again : side_in (Some (k - 1, false)) k ≡ Some Near
@@ -85,7 +84,7 @@ module _ (streams : List Stream) (index : List (NearEnd × ℕ)) (node number k 
 
   near_other_here : (j : ℕ) (o : Option Stream) → slice_get streams j ≡ o → is_same_end e t.near ≡ false → side_in (near_here o e j) k ≡ None
   near_other_here j None got other = refl
-  near_other_here j (Some code) got other = elim (cases_Bool (is_same_end e (end_here code.near code.number))) [
+  near_other_here j (Some code) got other = elim (cases_Bool (is_same_end e (end_of code.near code.number))) [
     | inr bad ↦ ap (λ b. side_in (cond b (Some (j, false)) None) k) bad
     | inl good ↦ ap (λ b. side_in (cond b (Some (j, false)) None) k) good ∙ elim (cases_Bool ((j + 1) == k)) [
       | inr bad ↦ ap (side_at_place false) bad
@@ -93,7 +92,7 @@ module _ (streams : List Stream) (index : List (NearEnd × ℕ)) (node number k 
           let n : j + 1 ≡ k = eqb-true (j + 1) k is in
           let m : j ≡ k - 1 = omega (arith, n) in
           let same : code ≡ h.code = same_some (slice_get streams j) code h.code got (ap (slice_get streams) m ∙ h.got) in
-          let near : t.near ≡ end_here code.near code.number = h.stands.near ∙ ap (λ (c : Stream). end_here c.near c.number) (sym same) in
+          let near : t.near ≡ end_of code.near code.number = h.stands.near ∙ ap (λ (c : Stream). end_of c.near c.number) (sym same) in
           true_false (is_same_end e t.near) (ap (is_same_end e) near ∙ good) other)
     ]
   ]
@@ -118,7 +117,7 @@ module _ (streams : List Stream) (index : List (NearEnd × ℕ)) (node number k 
   far_same : (o : Option ℕ) → h.code.far ≡ o → is_at_end e (far_end o k) ≡ true → side_in (far_here (slice_get streams (number / 2)) node (number / 2)) k ≡ Some Far
   far_same None is same = absurd (true_false false same refl)
   far_same (Some n) is same =
-      let s : SameEnds e (end_here n (2 * k - 1)) = end_parts e (end_here n (2 * k - 1)) same in
+      let s : SameEnds e (end_of n (2 * k - 1)) = end_parts e (end_of n (2 * k - 1)) same in
       let m : number / 2 ≡ k - 1 = omega (arith, s.number, d.least) in
       let got : slice_get streams (number / 2) ≡ Some h.code = ap (slice_get streams) m ∙ h.got in
       let good : is_number node h.code.far ≡ true = ap (is_number node) is ∙ (ap (λ x. n == x) s.node ∙ is_itself n) in
@@ -129,8 +128,8 @@ module _ (streams : List Stream) (index : List (NearEnd × ℕ)) (node number k 
   far_is None good n = absurd (true_false false good refl)
   far_is (Some m) good n =
       let same : m ≡ node = eqb-true m node good in
-      let both : end_here node number ≡ end_here m (2 * k - 1) = ap (λ x. end_here x number) (sym same) ∙ ap (end_here m) n in
-      ap (λ (x : StreamEnd). is_same_end x (end_here m (2 * k - 1))) both ∙ end_itself (end_here m (2 * k - 1))
+      let both : end_of node number ≡ end_of m (2 * k - 1) = ap (λ x. end_of x number) (sym same) ∙ ap (end_of m) n in
+      ap (λ (x : StreamEnd). is_same_end x (end_of m (2 * k - 1))) both ∙ end_itself (end_of m (2 * k - 1))
 
   far_other : (o : Option Stream) → slice_get streams (number / 2) ≡ o → number % 2 ≡ 1 → is_at_end e t.far ≡ false → side_in (far_here o node (number / 2)) k ≡ None
   far_other None got odd other = refl
@@ -168,10 +167,10 @@ module _ (streams : List Stream) (index : List (NearEnd × ℕ)) (node number k 
   ]
 
 -- an end that has a place is no end of a stream whose dial is queued
-pub side_of_queued : (streams : List Stream) (index : List (NearEnd × ℕ)) (node number : ℕ) (t : StreamState) (p : ℕ × Bool) → IsQueued index t → place_in streams index node number ≡ Some p
-    → side_of_end (end_here node number) t ≡ None
-side_of_queued streams index node number t p q placed =
-    let e : StreamEnd = end_here node number in
+pub side_of_queued : (streams : List Stream) (index : List (LifeEnd × ℕ)) (begins : Queueing) (node number : ℕ) (t : StreamState) (p : ℕ × Bool) → IsQueued index begins t → place_in streams index node number ≡ Some p
+    → side_of_end (end_of node number) t ≡ None
+side_of_queued streams index begins node number t p q placed =
+    let e : StreamEnd = end_of node number in
     let near : is_same_end e t.near ≡ false = elim (cases_Bool (is_same_end e t.near)) [
       | inr other ↦ other
       | inl same ↦ absurd (

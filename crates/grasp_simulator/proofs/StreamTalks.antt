@@ -6,10 +6,10 @@ use Rattle.std.proofs.lemmas.List.Sums.{sum_by-cons}
 use Rattle.std.proofs.lemmas.Option.{slice_get_past}
 use Rattle.grasp_model_network.specs.Setting.{numbered}
 use Rattle.grasp_laws_delivery.specs.Ready.{Every}
-use Rattle.grasp_simulator.specs.StreamsStand.{HeldAs, IsDialled, TalkStands, numbers, TableStands, IsTalk}
+use Rattle.grasp_simulator.specs.StreamsStand.{Queueing, HeldAs, IsDialled, TalkStands, numbers, TableStands, IsTalk}
 use Rattle.grasp_model_network.specs.Streams.{StreamState, is_number, stream_numbered}
 use Rattle.grasp_simulator.specs.declared.stream.Stream.{Stream}
-use Rattle.grasp_simulator.specs.declared.streams.NearEnd.{NearEnd}
+use Rattle.grasp_simulator.specs.declared.stream.LifeEnd.{LifeEnd}
 
 pub record Chosen (P : StreamState → Type 0) (p : StreamState → Bool) (t : StreamState) : Type 0 where
   pub passes : p t ≡ true
@@ -38,7 +38,7 @@ module _ (p : StreamState → Bool) where
   none_counted [] e = refl
   none_counted (x ∷ xs) e = none_by x xs (none_counted xs) (p x) refl e
 
-module _ (streams : List Stream) (index : List (NearEnd × ℕ)) (ts : List StreamState) (dials : ℕ) (s : TableStands streams index ts dials) where
+module _ (streams : List Stream) (index : List (LifeEnd × ℕ)) (begins : Queueing) (ts : List StreamState) (dials : ℕ) (s : TableStands streams index begins ts dials) where
   pub at_least_1 : (k : ℕ) → 1 ≤ k → numbered streams k ≡ slice_get streams (k - 1)
   at_least_1 k least = elim (cases_Bool (k == 0)) [
     | inl is ↦ absurd (let n : k ≡ 0 = eqb-true k 0 is in omega (arith, n, least))
@@ -49,7 +49,7 @@ module _ (streams : List Stream) (index : List (NearEnd × ℕ)) (ts : List Stre
   held_talk k t None h = h
   held_talk k t (Some code) h = h
 
-  talk_by : (k : ℕ) (t : StreamState) (n : Option ℕ) → is_number k n ≡ true → TalkStands streams index t n → IsTalk k (numbered streams k) (Some t)
+  talk_by : (k : ℕ) (t : StreamState) (n : Option ℕ) → is_number k n ≡ true → TalkStands streams index begins t n → IsTalk k (numbered streams k) (Some t)
   talk_by k t None is h = absurd (cc)
   talk_by k t (Some j) is h =
       let same : j ≡ k = eqb-true j k is in
@@ -68,7 +68,7 @@ module _ (streams : List Stream) (index : List (NearEnd × ℕ)) (ts : List Stre
   talk_found : (k : ℕ) (o : Option StreamState) → stream_numbered ts k ≡ o → IsTalk k (numbered streams k) o
   talk_found k None e = subst (λ c. IsTalk k c None) (sym (nothing_at k (none_counted (numbers k) ts e))) tt
   talk_found k (Some t) e =
-      let c : Chosen (λ (x : StreamState). TalkStands streams index x x.number) (numbers k) t = found_is (λ (x : StreamState). TalkStands streams index x x.number) (numbers k) ts t e s.each in
+      let c : Chosen (λ (x : StreamState). TalkStands streams index begins x x.number) (numbers k) t = found_is (λ (x : StreamState). TalkStands streams index begins x x.number) (numbers k) ts t e s.each in
       talk_by k t t.number c.passes c.holds
 
   -- the stream of a number

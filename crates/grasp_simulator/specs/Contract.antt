@@ -3,14 +3,21 @@ use Rattle.std.specs.Prelude.{◌≡◌, Result, Ok, Err, IfOk}
 use Rattle.grasp_cbor.specs.declared.memory.OutOfMemory.{OutOfMemory}
 use Rattle.grasp_model_network.specs.Events.{IsFit, Occurs, MayStop, after_event}
 use Rattle.grasp_model_network.specs.Reports.{report_of}
+use Rattle.grasp_model_network.specs.Restarting.{MayRestart}
 use Rattle.grasp_model_network.specs.Runs.{world_of}
 use Rattle.grasp_model_network.specs.Setting.{Setting, script_setting}
+use Rattle.grasp_model_network.specs.Settling.{IsDead}
+use Rattle.grasp_model_network.specs.Turns.{IsTurn, after_turn}
 use Rattle.grasp_model_network.specs.Visits.{Choice}
 use Rattle.grasp_model_network.specs.World.{WorldState}
 use Rattle.grasp_model_network.specs.declared.event.Event.{Event}
 use Rattle.grasp_model_network.specs.declared.plan.WorldPlan.{WorldPlan}
 use Rattle.grasp_model_network.specs.declared.report.Report.{Report}
+use Rattle.grasp_model_network.specs.declared.report.Report.TheVariants.{Nothing}
 use Rattle.grasp_model_network.specs.declared.report.WorldStop.{WorldStop}
+use Rattle.grasp_model_network.specs.declared.report.WorldStop.TheVariants.{OutOfMemory as Starved}
+use Rattle.grasp_model_network.specs.declared.turn.Turn.{Turn}
+use Rattle.grasp_model_network.specs.declared.turn.Turn.TheVariants as turn
 
 -- a network that goes on, or one that was stopped
 pub data Standing : Type 0 where
@@ -62,6 +69,59 @@ pub record MeetsEvent (Stands : Network → Type 0) (x : Network) (e : Event) : 
 -- networks the code stands before the event and after it
 abbrev pub WorldStepped : (Network → Type 0) → (Network → Type 0) → Event → Result Report WorldStop → Type 0
 WorldStepped Before After e result = (x : Network) → MeetsEvent Before x e → Answers After x.setting x.standing e result
+
+-- ---- a turn
+
+-- the turn may be asked for: an event that fits, a prefix that may be settled, a node that may begin anew by the image
+abbrev pub MayAsk : Setting → WorldState → Turn → Type 0
+MayAsk s w (turn.Event e) = IsFit s w e
+MayAsk s w (turn.Settle node prefix) = IsDead w node prefix
+MayAsk s w (turn.Restart node image) = MayRestart s w node image
+
+-- where the network was stopped, any may
+abbrev pub MayAskFor : Setting → Standing → Turn → Type 0
+MayAskFor s (going w) t = MayAsk s w t
+MayAskFor s (stopped stop) t = Unit {0}
+
+-- what is reported of a turn that comes out so: nothing of a settling and a restart
+abbrev pub turn_report : Setting → WorldState → Turn → Choice → Report
+turn_report s w (turn.Event e) c = report_of s w e c
+turn_report s w (turn.Settle node prefix) c = Nothing
+turn_report s w (turn.Restart node image) c = Nothing
+
+-- the turn may stop the network for this: a settling takes no memory, and a restart may want some
+abbrev pub MayStopAt : Setting → WorldState → Turn → WorldStop → Type 0
+MayStopAt s w (turn.Event e) stop = MayStop s w e stop
+MayStopAt s w (turn.Settle node prefix) stop = ⊥
+MayStopAt s w (turn.Restart node image) stop = stop ≡ Starved
+
+-- the code reports how the turn came out, and stands for the network after it
+pub record TurnReported (Stands : Network → Type 0) (s : Setting) (w : WorldState) (t : Turn) (report : Report) : Type 0 where
+  pub choice : Choice
+  pub taken : IsTurn s w t choice
+  pub report_is : report ≡ turn_report s w t choice
+  pub stands : Stands (record { setting = s; standing = going (after_turn s w t choice) })
+
+-- the code tells why the turn stopped the network, and stands for a stopped one
+pub record TurnHalted (Stands : Network → Type 0) (s : Setting) (w : WorldState) (t : Turn) (stop : WorldStop) : Type 0 where
+  pub may_stop : MayStopAt s w t stop
+  pub stands : Stands (record { setting = s; standing = stopped stop })
+
+-- what the code answers to a turn, and for what it stands then
+abbrev pub TurnAnswers : (Network → Type 0) → Setting → Standing → Turn → Result Report WorldStop → Type 0
+TurnAnswers Stands s (going w) t (Ok report) = TurnReported Stands s w t report
+TurnAnswers Stands s (going w) t (Err stop) = TurnHalted Stands s w t stop
+TurnAnswers Stands s (stopped stop) t (Ok report) = ⊥
+TurnAnswers Stands s (stopped stop) t (Err again) = StoppedStill Stands s stop again
+
+-- the code stands for this network, and the turn may be asked for
+pub record MeetsTurn (Stands : Network → Type 0) (x : Network) (t : Turn) : Type 0 where
+  pub stands : Stands x
+  pub fit : MayAskFor x.setting x.standing t
+
+-- for each network for which the code stood before the turn, which may be asked for, it answers so
+abbrev pub WorldTurned : (Network → Type 0) → (Network → Type 0) → Turn → Result Report WorldStop → Type 0
+WorldTurned Before After t result = (x : Network) → MeetsTurn Before x t → TurnAnswers After x.setting x.standing t result
 
 -- ---- the opening
 

@@ -1,7 +1,12 @@
 pub mod Arriving
 pub mod Comings
 pub mod Contract
+pub mod Lending
+pub mod Listening
+pub mod Marking
 pub mod PlacesStand
+pub mod Remembering
+pub mod Restarts
 pub mod Seats
 pub mod Sends
 pub mod StreamParts

@@ -4,6 +4,8 @@
 #![tactic(auto)]
 
 mod coming_laws;
+mod marks;
+mod notes;
 mod opening;
 mod parcel;
 mod places;
@@ -19,6 +21,7 @@ mod world_datagrams;
 mod world_events;
 mod world_pieces;
 mod world_sends;
+mod world_turns;
 
 pub use coming_laws::something_comes_to_cores;
 pub use world::World;

@@ -1,16 +1,19 @@
 //! How the nodes of a network and their agents are opened.
 
-ghost use Rattle.std.specs.Prelude.{◌≡◌, false, map, IfOk};
+ghost use Rattle.std.specs.Prelude.{◌≡◌, ◌≤◌, ◌+◌, false, length, map, IfOk};
 ghost use Rattle.grasp_agent.specs.States.{first_agent};
 ghost use Rattle.grasp_model_node.specs.Node.{first_node};
 ghost use Rattle.grasp_model_node.specs.Plan.{is_bad_plan};
 ghost use Rattle.grasp_core.specs.Stands.{NodeStands};
-ghost use Rattle.grasp_pool.specs.Functions.{pool_of};
+ghost use Rattle.grasp_pool.specs.Functions.{pool_of, pool_of_image};
+ghost use Rattle.grasp_pool.specs.Holdings.{Holding};
+ghost use Rattle.grasp_pool.specs.Listings.{AreDisjoint, all_of};
 ghost use Rattle.grasp_model_network.specs.Plans.{IsNode, IsGoodPlan};
-ghost use Rattle.grasp_model_network.specs.Openings.{fresh_seat, first_seat};
+ghost use Rattle.grasp_model_network.specs.Openings.{fresh_seat, opened_seat, first_seat};
 ghost use Rattle.grasp_model_network.specs.Runs.{world_of};
-ghost use Rattle.grasp_simulator.specs.Seats.{SeatStands, SeatsStand};
-ghost use Rattle.grasp_model_network.specs.Setting.{others_on, script_number, script_address, script_locator, script_seed, script_neighbour, script_links, script_node, script_roots, script_member, is_on};
+ghost use Rattle.grasp_simulator.specs.Listening.{listener_from};
+ghost use Rattle.grasp_simulator.specs.Seats.{SeatStands, AreFirst};
+ghost use Rattle.grasp_model_network.specs.Setting.{numbers_from, others_on, script_number, script_address, script_locator, script_seed, script_neighbour, script_links, script_node, script_roots, script_member, is_on};
 
 use crate::seat::Seat;
 use grasp_agent::PrefixAgent;
@@ -18,7 +21,7 @@ use grasp_cbor::OutOfMemory;
 use grasp_core::{NodeCore, PlanFault};
 use grasp_model_network::{Members, WorldPlan};
 use grasp_model_node::NodePlan;
-use grasp_pool::{PoolFault, RootPrefix};
+use grasp_pool::{PoolFault, PoolImage, RootPrefix};
 use grasp_types::{Address, LinkLists, List, Locator, Neighbour, Neighbours, Proto};
 use std::alloc::Global;
 
@@ -51,6 +54,18 @@ pub(crate) fn locator_of(node: u8) -> Locator
         proto: Proto::Tcp,
         port: PORT,
     }
+}
+
+/// The node that listens there, among so many.
+pub(crate) fn listener(nodes: u8, to: &Locator) -> Option<u8>
+    ensures { result ≡ listener_from 1 nodes to.now }
+{
+    for before in 0..nodes {
+        if *to == locator_of(before + 1) {
+            return Some(before + 1);
+        }
+    }
+    None
 }
 
 /// The seed of the node's random numbers.
@@ -159,35 +174,89 @@ fn open_agent(alloc: Global, plan: &WorldPlan, node: u8) -> Result<PrefixAgent, 
     }
 }
 
-/// A node to which nothing has happened, and its agent, which has made no call.
-fn fresh_seat(alloc: Global, plan: &WorldPlan, node: u8) -> Result<Seat, OutOfMemory>
+/// An agent that holds what the image says and has made no call.
+fn reopen_agent(alloc: Global, image: &PoolImage) -> Result<PrefixAgent, OutOfMemory>
+    requires few { length image.now.free + length image.now.doubtful ≤ 4096 }
+    requires disjoint { AreDisjoint (all_of image.now) }
+    ensures { IfOk result (λ agent. agent ≡ first_agent (pool_of_image image.now)) }
+{
+    match PrefixAgent::reopen(alloc, image) {
+        Ok(agent) => Ok(agent),
+        Err(fault) => match fault {
+            PoolFault::OutOfMemory => Err(OutOfMemory),
+            _ => unreachable!(),
+        },
+    }
+}
+
+/// A node in this life, to which nothing has happened, and its agent, which has made no call.
+fn fresh_seat(
+    alloc: Global,
+    plan: &WorldPlan,
+    node: u8,
+    life: u64,
+    agent: PrefixAgent,
+) -> Result<Seat, OutOfMemory>
     requires good { IsGoodPlan plan.now }
     requires node { IsNode plan.now.nodes node }
-    ensures { IfOk result (λ seat. SeatStands seat (fresh_seat (script_node plan.now node) (pool_of (script_roots plan.now.roots node)))) }
+    ensures { IfOk result (λ seat. (seat.life ≡ life) × ((h : Holding) → agent ≡ first_agent h → SeatStands seat (fresh_seat (script_node plan.now node) h))) }
 {
     let opened = node_plan(alloc, plan, node)?;
     let core = open_core(alloc, opened)?;
-    let agent = open_agent(alloc, plan, node)?;
-    Ok(Seat { core, agent })
+    Ok(Seat { life, core, agent })
 }
 
-/// A node whose agent has made its three opening calls, at reading 0.
-pub(crate) fn open_seat(alloc: Global, plan: &WorldPlan, node: u8) -> Result<Seat, OutOfMemory>
+/// A node in this life whose agent, which had made no call, has made its three opening calls, at reading 0.
+fn opened_seat(
+    alloc: Global,
+    plan: &WorldPlan,
+    node: u8,
+    life: u64,
+    agent: PrefixAgent,
+) -> Result<Seat, OutOfMemory>
     requires good { IsGoodPlan plan.now }
     requires node { IsNode plan.now.nodes node }
-    ensures { IfOk result (λ seat. SeatStands seat (first_seat (script_member plan.now node))) }
+    ensures { IfOk result (λ seat. (seat.life ≡ life) × ((h : Holding) → agent ≡ first_agent h → SeatStands seat (opened_seat (script_node plan.now node) h))) }
 {
-    let mut seat = fresh_seat(alloc, plan, node)?;
+    let mut seat = fresh_seat(alloc, plan, node, life, agent)?;
     let _registered = seat.agent_step()?;
     let _declared = seat.agent_step()?;
     let _listening = seat.agent_step()?;
     Ok(seat)
 }
 
-/// The nodes of the plan, from 1 on, each with its agent.
+/// A node in its first life, whose number is the node's own.
+pub(crate) fn open_seat(alloc: Global, plan: &WorldPlan, node: u8) -> Result<Seat, OutOfMemory>
+    requires good { IsGoodPlan plan.now }
+    requires node { IsNode plan.now.nodes node }
+    ensures { IfOk result (λ seat. (seat.life ≡ node) × SeatStands seat (first_seat (script_member plan.now node))) }
+{
+    let agent = open_agent(alloc, plan, node)?;
+    opened_seat(alloc, plan, node, u64::from(node), agent)
+}
+
+/// A node that begins anew, in this life, with this image of its pool.
+pub(crate) fn reopen_seat(
+    alloc: Global,
+    plan: &WorldPlan,
+    node: u8,
+    life: u64,
+    image: &PoolImage,
+) -> Result<Seat, OutOfMemory>
+    requires good { IsGoodPlan plan.now }
+    requires node { IsNode plan.now.nodes node }
+    requires few { length image.now.free + length image.now.doubtful ≤ 4096 }
+    requires disjoint { AreDisjoint (all_of image.now) }
+    ensures { IfOk result (λ seat. (seat.life ≡ life) × SeatStands seat (opened_seat (script_node plan.now node) (pool_of_image image.now))) }
+{
+    let agent = reopen_agent(alloc, image)?;
+    opened_seat(alloc, plan, node, life, agent)
+}
+
+/// The nodes of the plan, from 1 on, each with its agent, in their first lives.
 pub(crate) fn open_seats(alloc: Global, plan: &WorldPlan) -> Result<Vec<Seat>, OutOfMemory>
     requires { IsGoodPlan plan.now }
-    ensures { IfOk result (λ seats. SeatsStand seats.items (world_of plan.now).seats) }
+    ensures { IfOk result (λ seats. AreFirst seats.items (world_of plan.now).seats) }
 {
     let mut seats = Vec::new(alloc);
     for before in 0..plan.nodes {
@@ -195,4 +264,15 @@ pub(crate) fn open_seats(alloc: Global, plan: &WorldPlan) -> Result<Vec<Seat>, O
         seats.push(seat)?;
     }
     Ok(seats)
+}
+
+/// Whose life each of the first ones is.
+pub(crate) fn first_lives(alloc: Global, nodes: u8) -> Result<Members, OutOfMemory>
+    ensures { IfOk result (λ lives. lives ≡ numbers_from 1 nodes) }
+{
+    let mut lives = List::new(alloc);
+    for before in 0..nodes {
+        lives.push(before + 1)?;
+    }
+    Ok(lives)
 }

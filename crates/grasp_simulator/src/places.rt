@@ -7,20 +7,20 @@ use grasp_cbor::OutOfMemory;
 use grasp_types::{ApiAnswer, Handle, List, Reply};
 use std::alloc::Global;
 
-/// A handle that a node gave: its number, and its place.
+/// A handle that was given in a life of a node: its number, and its place.
 #[derive(Clone, Copy, Debug, PartialEq, Eq)]
 pub(crate) struct GivenPlace {
-    pub(crate) node: u8,
+    pub(crate) life: u64,
     pub(crate) number: u64,
     pub(crate) place: u32,
 }
 
 impl GivenPlace {
-    /// Whether the node gave it with this number.
-    fn is_of(&self, node: u8, number: u64) -> bool
-        ensures { result ≡ is_place_of node number self.now }
+    /// Whether it was given in this life with this number.
+    fn is_of(&self, life: u64, number: u64) -> bool
+        ensures { result ≡ is_place_of life number self.now }
     {
-        self.node == node && self.number == number
+        self.life == life && self.number == number
     }
 }
 
@@ -40,13 +40,13 @@ impl Places {
         }
     }
 
-    /// The node replied so, perhaps with a handle that it gives. After an `Err` nothing is said of the handles.
-    pub(crate) fn note(&mut self, node: u8, reply: &Reply) -> Result<(), OutOfMemory>
-        ensures { OnOk result (self.new.given ≡ self.old.given ++ places_in node reply.now) }
+    /// The node replied so in this life, perhaps with a handle that it gives. After an `Err` nothing is said of the handles.
+    pub(crate) fn note(&mut self, life: u64, reply: &Reply) -> Result<(), OutOfMemory>
+        ensures { OnOk result (self.new.given ≡ self.old.given ++ places_in life reply.now) }
     {
         if let Some(handle) = handle_in(reply) {
             self.given.push(GivenPlace {
-                node,
+                life,
                 number: handle.number,
                 place: handle.place,
             })?;
@@ -54,21 +54,21 @@ impl Places {
         Ok(())
     }
 
-    /// The handle with this number that the node gave.
-    fn given(&self, node: u8, number: u64) -> Option<&GivenPlace>
-        ensures { option_map (λ given. given.now) result ≡ find (is_place_of node number) self.now.given }
+    /// The handle with this number that was given in this life.
+    fn given(&self, life: u64, number: u64) -> Option<&GivenPlace>
+        ensures { option_map (λ given. given.now) result ≡ find (is_place_of life number) self.now.given }
     {
         self.given
             .slice()
             .iter()
-            .find(|given| given.is_of(node, number))
+            .find(|given| given.is_of(life, number))
     }
 
-    /// The place of the handle with this number that the node gave, and 0 where it gave none.
-    pub(crate) fn place(&self, node: u8, number: u64) -> u32
-        ensures { result ≡ place_found self.now.given node number }
+    /// The place of the handle with this number that was given in this life, and 0 where none was.
+    pub(crate) fn place(&self, life: u64, number: u64) -> u32
+        ensures { result ≡ place_found self.now.given life number }
     {
-        match self.given(node, number) {
+        match self.given(life, number) {
             Some(given) => given.place,
             None => 0,
         }

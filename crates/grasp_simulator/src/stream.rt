@@ -1,8 +1,9 @@
 //! A stream between two nodes, as the network keeps it from the sending of its dial on.
 
 ghost use Rattle.std.specs.Prelude.{◌≡◌, not, OnOk, OnErr};
-ghost use Rattle.grasp_simulator.specs.StreamParts.{sent_from, more_sent, more_delivered, piece_of, stream_sent, stream_delivered, stream_told, stream_opened, far_number, side_end};
+ghost use Rattle.grasp_simulator.specs.StreamParts.{sent_from, more_sent, more_delivered, piece_of, stream_sent, stream_delivered, stream_told, stream_opened, far_number, side_end, ended_at, goes_to};
 
+use crate::opening::listener;
 use grasp_cbor::{Octets, OutOfMemory};
 use grasp_types::Locator;
 
@@ -26,24 +27,24 @@ pub(crate) enum Standing {
     ToldClosed,
 }
 
-/// A side of a stream: its node, and the number that the stream has there.
-#[derive(Clone, Copy, Debug, PartialEq, Eq)]
-pub(crate) struct SideEnd {
-    pub(crate) node: u8,
+/// An end of a stream: a life of a node, and the number that the stream has there.
+#[derive(Clone, Copy, Debug, PartialEq, Eq, Hash)]
+pub(crate) struct LifeEnd {
+    pub(crate) life: u64,
     pub(crate) number: u64,
 }
 
 /// A stream whose dial is sent.
 #[derive(Drop)]
 pub(crate) struct Stream {
-    /// The node that dialled.
-    pub(crate) near: u8,
+    /// The life that dialled.
+    pub(crate) near: u64,
     /// The number that the stream has there.
     pub(crate) number: u64,
     /// Where it was dialled to.
     pub(crate) to: Locator,
-    /// The node where it was opened.
-    pub(crate) far: Option<u8>,
+    /// The life in which it was opened.
+    pub(crate) far: Option<u64>,
     pub(crate) near_side: Standing,
     pub(crate) far_side: Standing,
     pub(crate) from_near: Sent,
@@ -101,22 +102,22 @@ impl Stream {
     }
 
     /// The side of this stream, which has this number, where what comes is delivered to it.
-    pub(crate) fn side(&self, k: u64, far: bool) -> Option<SideEnd>
+    pub(crate) fn side(&self, k: u64, far: bool) -> Option<LifeEnd>
         ensures { result ≡ side_end self.now k far }
     {
         if far {
             if self.far_side == Standing::Lives {
-                let node = self.far?;
-                Some(SideEnd {
-                    node,
+                let life = self.far?;
+                Some(LifeEnd {
+                    life,
                     number: far_number(k),
                 })
             } else {
                 None
             }
         } else if self.near_side == Standing::Lives {
-            Some(SideEnd {
-                node: self.near,
+            Some(LifeEnd {
+                life: self.near,
                 number: self.number,
             })
         } else {
@@ -165,15 +166,35 @@ impl Stream {
         }
     }
 
-    /// It is opened at this node, which took it or turned it away.
-    pub(crate) fn open(&mut self, node: u8, taken: bool)
-        ensures { self.new ≡ stream_opened self.old node taken }
+    /// It is opened in this life, whose node took it or turned it away.
+    pub(crate) fn open(&mut self, life: u64, taken: bool)
+        ensures { self.new ≡ stream_opened self.old life taken }
     {
-        self.far = Some(node);
+        self.far = Some(life);
         self.far_side = if taken {
             Standing::Lives
         } else {
             Standing::TurnedAway
         };
+    }
+
+    /// The life of this node ends, one of so many: a side of it is told that the stream is closed, and so is the far one where
+    /// the stream goes to the node and wasn't opened.
+    pub(crate) fn end_life(&mut self, life: u64, node: u8, nodes: u8)
+        ensures { self.new ≡ ended_at life node nodes self.old }
+    {
+        if self.near == life {
+            self.near_side = Standing::ToldClosed;
+        }
+        if self.far == Some(life) || self.waits_for(node, nodes) {
+            self.far_side = Standing::ToldClosed;
+        }
+    }
+
+    /// Whether the stream goes to this node, one of so many, and wasn't opened there.
+    fn waits_for(&self, node: u8, nodes: u8) -> bool
+        ensures { result ≡ goes_to node nodes self.now }
+    {
+        self.far_side == Standing::NotYet && listener(nodes, &self.to) == Some(node)
     }
 }

@@ -1,16 +1,17 @@
 //! The table of the streams of a network.
 
-ghost use Rattle.std.specs.Prelude.{◌≡◌, ◌+◌, ◌<◌, ℕ, List, [], length, nat_le, option_map, slice_get, OnOk, OnErr, IfSome};
+ghost use Rattle.std.specs.Prelude.{◌≡◌, ◌+◌, ◌<◌, ℕ, List, [], Some, length, map, nat_le, option_map, slice_get, OnOk, OnErr, IfSome};
 ghost use Rattle.grasp_model_node.specs.Queue.{encoding};
 ghost use Rattle.grasp_types.specs.declared.message.Message.{Message};
 ghost use Rattle.grasp_model_network.specs.Streams.{StreamState, stream_numbered, change_at_end, told_closed, with_delivered, with_ended, with_number, with_sent, with_side};
+ghost use Rattle.grasp_model_network.specs.World.{end_of};
 ghost use Rattle.grasp_model_network.specs.Setting.{numbered};
-ghost use Rattle.grasp_simulator.specs.StreamParts.{no_sent, first_stream, side_of, piece_at};
+ghost use Rattle.grasp_simulator.specs.StreamParts.{no_sent, first_standing, first_stream, side_of, piece_at, ended_at};
 ghost use Rattle.grasp_laws_delivery.specs.Ready.{AreSent, IsDialOf};
 ghost use Rattle.grasp_simulator.specs.Arriving.{Opens};
-ghost use Rattle.grasp_simulator.specs.StreamsStand.{StreamsStand, most_streams, ChangesAt, IsTalk, end_here, dial_at, near_place, far_here, place_in};
+ghost use Rattle.grasp_simulator.specs.StreamsStand.{StreamsStand, Queueing, most_streams, ChangesAt, IsTalk, dial_at, near_place, far_here, place_in};
 
-use crate::stream::{Sent, SideEnd, Standing, Stream};
+use crate::stream::{LifeEnd, Sent, Standing, Stream};
 use grasp_cbor::{Octets, OutOfMemory};
 use grasp_types::Locator;
 use indexmap::IndexMap;
@@ -19,24 +20,17 @@ use std::alloc::Global;
 /// There is room for so many streams. Nothing can hold as many.
 const MOST_STREAMS: usize = 1 << 62;
 
-/// The number of a stream at the node that dialled.
-#[derive(Clone, Copy, Debug, PartialEq, Eq, Hash)]
-pub(crate) struct NearEnd {
-    pub(crate) node: u8,
-    pub(crate) number: u64,
-}
-
 /// The streams whose dials were sent, in that order, and the number from 1 that each has there, by its near end.
 #[derive(Drop)]
 pub(crate) struct Streams {
     list: Vec<Stream>,
-    near: IndexMap<NearEnd, u64>,
+    near: IndexMap<LifeEnd, u64>,
 }
 
 impl Streams {
     /// No streams.
     pub(crate) fn new(alloc: Global) -> Streams
-        ensures { StreamsStand result [] 0 }
+        ensures { (begins : Queueing) → StreamsStand result begins [] 0 }
     {
         Streams {
             list: Vec::new(alloc),
@@ -45,20 +39,20 @@ impl Streams {
     }
 
     /// The number of the dial that was sent from this end.
-    fn dial_at(&self, node: u8, number: u64) -> Option<u64>
-        ensures { result ≡ dial_at self.now.near.entries (end_here node number) }
+    fn dial_at(&self, life: u64, number: u64) -> Option<u64>
+        ensures { result ≡ dial_at self.now.near.entries (end_of life number) }
     {
-        self.near.get(&NearEnd { node, number }).copied()
+        self.near.get(&LifeEnd { life, number }).copied()
     }
 
     /// The place of the stream with this near end.
-    fn near_place(&self, node: u8, number: u64) -> Option<(usize, bool)>
-        ensures place { result ≡ near_place self.now.list.items (end_here node number) (dial_at self.now.near.entries (end_here node number)) }
+    fn near_place(&self, life: u64, number: u64) -> Option<(usize, bool)>
+        ensures place { result ≡ near_place self.now.list.items (end_of life number) (dial_at self.now.near.entries (end_of life number)) }
         ensures within { IfSome result (λ p. p.0 < length self.now.list.items) }
     {
-        let place = self.dial_at(node, number)?.saturating_sub(1) as usize;
+        let place = self.dial_at(life, number)?.saturating_sub(1) as usize;
         let stream = self.list.get(place)?;
-        if node == stream.near && number == stream.number {
+        if life == stream.near && number == stream.number {
             Some((place, false))
         } else {
             None
@@ -66,13 +60,13 @@ impl Streams {
     }
 
     /// The place of the stream with this far end.
-    fn far_place(&self, node: u8, place: usize) -> Option<(usize, bool)>
-        ensures place { result ≡ far_here (slice_get self.now.list.items place) node place }
+    fn far_place(&self, life: u64, place: usize) -> Option<(usize, bool)>
+        ensures place { result ≡ far_here (slice_get self.now.list.items place) life place }
         ensures within { IfSome result (λ p. p.0 < length self.now.list.items) }
     {
         let stream = self.list.get(place)?;
         let far = stream.far?;
-        if far == node {
+        if far == life {
             Some((place, true))
         } else {
             None
@@ -80,14 +74,14 @@ impl Streams {
     }
 
     /// The place of the stream with this end, and whether it is the far end.
-    fn place_of(&self, node: u8, number: u64) -> Option<(usize, bool)>
-        ensures place { result ≡ place_in self.now.list.items self.now.near.entries node number }
+    fn place_of(&self, life: u64, number: u64) -> Option<(usize, bool)>
+        ensures place { result ≡ place_in self.now.list.items self.now.near.entries life number }
         ensures within { IfSome result (λ p. p.0 < length self.now.list.items) }
     {
         if number % 2 == 0 {
-            self.near_place(node, number)
+            self.near_place(life, number)
         } else {
-            self.far_place(node, (number / 2) as usize)
+            self.far_place(life, (number / 2) as usize)
         }
     }
 
@@ -98,25 +92,32 @@ impl Streams {
         MOST_STREAMS <= self.list.len()
     }
 
-    /// The next dial is sent: that of the stream with this number at this node, to this locator. After an `Err` nothing is said
-    /// of the table.
-    pub(crate) fn dial(&mut self, node: u8, number: u64, to: Locator) -> Result<(), OutOfMemory>
+    /// The next dial is sent: that of the stream with this number in this life, to this locator. Its far side waits to be opened,
+    /// or was told before that the stream is closed. After an `Err` nothing is said of the table.
+    pub(crate) fn dial(
+        &mut self,
+        life: u64,
+        number: u64,
+        to: Locator,
+        closed: bool,
+    ) -> Result<(), OutOfMemory>
         requires { length self.old.list.items < most_streams }
-        ensures stands { OnOk result ((ts : List StreamState) (dials : ℕ) → IsDialOf ts (end_here node number) to
-            → StreamsStand self.old ts dials
-            → StreamsStand self.new (change_at_end ts (end_here node number) (with_number (dials + 1))) (dials + 1)) }
+        ensures stands { OnOk result ((begins : Queueing) (ts : List StreamState) (dials : ℕ) → IsDialOf ts (end_of life number) to
+            → begins (end_of life number) to ≡ Some closed → StreamsStand self.old begins ts dials
+            → StreamsStand self.new begins (change_at_end ts (end_of life number) (with_number (dials + 1))) (dials + 1)) }
     {
         let alloc = *self.near.allocator();
-        self.list.push(first_stream(alloc, node, number, to))?;
+        self.list
+            .push(first_stream(alloc, life, number, to, closed))?;
         let k = self.list.len() as u64;
-        self.near.insert(NearEnd { node, number }, k)?;
+        self.near.insert(LifeEnd { life, number }, k)?;
         Ok(())
     }
 
     /// The side with this end has ended its direction, of which nothing is kept.
-    pub(crate) fn close(&mut self, node: u8, number: u64)
-        ensures stands { (ts : List StreamState) (dials : ℕ) → StreamsStand self.old ts dials
-            → StreamsStand self.new (change_at_end ts (end_here node number) with_ended) dials }
+    pub(crate) fn close(&mut self, life: u64, number: u64)
+        ensures stands { (begins : Queueing) (ts : List StreamState) (dials : ℕ) → StreamsStand self.old begins ts dials
+            → StreamsStand self.new begins (change_at_end ts (end_of life number) with_ended) dials }
     {}
 
     /// The stream at this place.
@@ -129,7 +130,7 @@ impl Streams {
     /// The stream of this number among the dials that were sent.
     pub(crate) fn get(&self, k: u64) -> Option<&Stream>
         ensures stream { option_map (λ code. code.now) result ≡ numbered self.now.list.items k }
-        ensures stands { (ts : List StreamState) (dials : ℕ) → StreamsStand self.now ts dials
+        ensures stands { (begins : Queueing) (ts : List StreamState) (dials : ℕ) → StreamsStand self.now begins ts dials
             → IsTalk k (numbered self.now.list.items k) (stream_numbered ts k) }
     {
         if k == 0 {
@@ -144,7 +145,7 @@ impl Streams {
     }
 
     /// The side of the stream of this number, where what comes is delivered to it.
-    pub(crate) fn side(&self, k: u64, far: bool) -> Option<SideEnd>
+    pub(crate) fn side(&self, k: u64, far: bool) -> Option<LifeEnd>
         ensures { result ≡ side_of (numbered self.now.list.items k) k far }
     {
         self.get(k)?.side(k, far)
@@ -162,14 +163,14 @@ impl Streams {
     }
 
     /// The stream with this end sends these bytes, where there is one. After an `Err` nothing has changed.
-    pub(crate) fn send(&mut self, node: u8, number: u64, bytes: &[u8]) -> Result<(), OutOfMemory>
-        ensures stands { OnOk result ((ts : List StreamState) (dials : ℕ) (m : Message) → bytes.now ≡ encoding m
-            → AreSent ts (end_here node number) → StreamsStand self.old ts dials
-            → StreamsStand self.new (change_at_end ts (end_here node number) (with_sent m)) dials) }
+    pub(crate) fn send(&mut self, life: u64, number: u64, bytes: &[u8]) -> Result<(), OutOfMemory>
+        ensures stands { OnOk result ((begins : Queueing) (ts : List StreamState) (dials : ℕ) (m : Message) → bytes.now ≡ encoding m
+            → AreSent ts (end_of life number) → StreamsStand self.old begins ts dials
+            → StreamsStand self.new begins (change_at_end ts (end_of life number) (with_sent m)) dials) }
         ensures streams_stay { OnErr result (self.new.list.items ≡ self.old.list.items) }
         ensures index_stays { OnErr result (self.new.near ≡ self.old.near) }
     {
-        let Some((place, far)) = self.place_of(node, number) else {
+        let Some((place, far)) = self.place_of(life, number) else {
             return Ok(());
         };
         let Some(stream) = self.list.get_mut(place) else {
@@ -182,10 +183,10 @@ impl Streams {
 /// The streams as their ends change them.
 impl Streams {
     /// The next so many bytes that the other side sent are delivered to this end, or all that are left.
-    pub(crate) fn deliver(&mut self, node: u8, number: u64, count: u64)
-        ensures { ChangesAt self.old self.new node number (with_delivered count) }
+    pub(crate) fn deliver(&mut self, life: u64, number: u64, count: u64)
+        ensures { ChangesAt self.old self.new life number (with_delivered count) }
     {
-        let Some((place, far)) = self.place_of(node, number) else {
+        let Some((place, far)) = self.place_of(life, number) else {
             return;
         };
         let Some(stream) = self.list.get_mut(place) else {
@@ -195,10 +196,10 @@ impl Streams {
     }
 
     /// This end is told that the stream is closed.
-    pub(crate) fn tell_closed(&mut self, node: u8, number: u64)
-        ensures { ChangesAt self.old self.new node number (with_side told_closed) }
+    pub(crate) fn tell_closed(&mut self, life: u64, number: u64)
+        ensures { ChangesAt self.old self.new life number (with_side told_closed) }
     {
-        let Some((place, far)) = self.place_of(node, number) else {
+        let Some((place, far)) = self.place_of(life, number) else {
             return;
         };
         let Some(stream) = self.list.get_mut(place) else {
@@ -207,9 +208,9 @@ impl Streams {
         stream.tell_closed(far);
     }
 
-    /// The stream of this number is opened at this node, which took it or turned it away.
-    pub(crate) fn open(&mut self, k: u64, node: u8, taken: bool)
-        ensures { Opens self.old self.new k node taken }
+    /// The stream of this number is opened in this life, whose node took it or turned it away.
+    pub(crate) fn open(&mut self, k: u64, life: u64, taken: bool)
+        ensures { Opens self.old self.new k life taken }
     {
         if k == 0 {
             return;
@@ -217,7 +218,18 @@ impl Streams {
         let Some(stream) = self.list.get_mut((k - 1) as usize) else {
             return;
         };
-        stream.open(node, taken);
+        stream.open(life, taken);
+    }
+
+    /// The life of this node ends, one of so many: its sides are told that their streams are closed, and so are the far sides of
+    /// those that go to the node and weren't opened.
+    pub(crate) fn end_life(&mut self, life: u64, node: u8, nodes: u8)
+        ensures streams { self.new.list.items ≡ map (ended_at life node nodes) self.old.list.items }
+        ensures index { self.new.near ≡ self.old.near }
+    {
+        for stream in self.list.iter_mut() {
+            stream.end_life(life, node, nodes);
+        }
     }
 }
 
@@ -231,17 +243,28 @@ fn no_sent(alloc: Global) -> Sent
     }
 }
 
+/// How the far side stands where the dial was just sent.
+fn first_standing(closed: bool) -> Standing
+    ensures { result ≡ first_standing closed }
+{
+    if closed {
+        Standing::ToldClosed
+    } else {
+        Standing::NotYet
+    }
+}
+
 /// A stream whose dial was just sent.
-fn first_stream(alloc: Global, node: u8, number: u64, to: Locator) -> Stream
-    ensures { result ≡ first_stream node number to }
+fn first_stream(alloc: Global, life: u64, number: u64, to: Locator, closed: bool) -> Stream
+    ensures { result ≡ first_stream life number to closed }
 {
     Stream {
-        near: node,
+        near: life,
         number,
         to,
         far: None,
         near_side: Standing::Lives,
-        far_side: Standing::NotYet,
+        far_side: first_standing(closed),
         from_near: no_sent(alloc),
         from_far: no_sent(alloc),
     }

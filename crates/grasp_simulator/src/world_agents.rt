@@ -5,6 +5,7 @@ ghost use Rattle.grasp_model_network.specs.Plans.{IsNode};
 ghost use Rattle.grasp_model_network.specs.declared.event.Event.TheVariants as event;
 ghost use Rattle.grasp_simulator.specs.WorldSteps.{Runs};
 
+use crate::notes::note_of;
 use crate::world::World;
 use grasp_cbor::OutOfMemory;
 use grasp_laws_delivery::streams_are_ready;
@@ -18,9 +19,15 @@ impl World {
         ensures count { length self.new.seats.items ≡ length self.old.seats.items }
     {
         streams_are_ready();
-        let (call, reply) = self.seats[usize::from(node - 1)].agent_step()?;
-        self.places.note(node, &reply)?;
+        let life = self.seats[usize::from(node - 1)].life;
+        let made = self.seats[usize::from(node - 1)].own_step()?;
+        self.places.note(life, &made.reply)?;
+        self.notes.offer(note_of(node, life, made.begun))?;
+        self.notes.accept(life, made.accepted)?;
         self.send_behind(node, hold)?;
-        Ok(Report::Agent { call, reply })
+        Ok(Report::Agent {
+            call: made.call,
+            reply: made.reply,
+        })
     }
 }

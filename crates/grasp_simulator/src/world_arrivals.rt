@@ -3,35 +3,25 @@
 ghost use Rattle.std.specs.Prelude.{◌≡◌, length, IfOk, OnErr};
 ghost use Rattle.grasp_model_network.specs.Setting.{numbered};
 ghost use Rattle.grasp_model_network.specs.declared.event.Event.TheVariants as event;
-ghost use Rattle.grasp_simulator.specs.Arriving.{listener_from, waiting_in, is_taken};
+ghost use Rattle.grasp_simulator.specs.Arriving.{waiting_in, is_taken};
 ghost use Rattle.grasp_simulator.specs.WorldSteps.{Runs, MayStarve};
 
-use crate::opening::{address_of, locator_of};
+use crate::opening::{address_of, listener};
 use crate::seat::is_starved;
 use crate::stream::{Standing, far_number};
 use crate::world::World;
 use grasp_cbor::OutOfMemory;
 use grasp_laws_delivery::streams_are_ready;
 use grasp_model_network::Report;
-use grasp_types::{Input, Locator, Reply};
+use grasp_types::{Input, Reply};
 
 /// A stream that isn't opened yet: the node that dialled, and the one that listens where it dialled to.
 #[derive(Clone, Copy, Debug, PartialEq, Eq)]
-pub(crate) struct Waiting {
-    pub(crate) near: u8,
-    pub(crate) node: u8,
-}
-
-/// The node that listens there, among so many.
-fn listener(nodes: u8, to: &Locator) -> Option<u8>
-    ensures { result ≡ listener_from 1 nodes to.now }
-{
-    for before in 0..nodes {
-        if *to == locator_of(before + 1) {
-            return Some(before + 1);
-        }
-    }
-    None
+pub struct Waiting {
+    /// The node that dialled.
+    pub near: u8,
+    /// The node that is to open it.
+    pub node: u8,
 }
 
 /// Whether the node took the stream.
@@ -61,6 +51,7 @@ impl World {
         }
         let number = far_number(stream);
         let from = address_of(waiting.near);
+        let life = self.seats[usize::from(node - 1)].life;
         let reply = self.seats[usize::from(node - 1)].step(Input::Opened {
             stream: number,
             from,
@@ -68,22 +59,20 @@ impl World {
         if is_starved(&reply) {
             return Err(OutOfMemory);
         }
-        self.streams.open(stream, node, is_taken(&reply));
+        self.streams.open(stream, life, is_taken(&reply));
         self.send_behind(node, hold)?;
         Ok(Report::Reply(reply))
     }
 
     /// The stream of this number, where it isn't opened yet and a node listens where it was dialled to.
     fn waiting(&self, k: u64) -> Option<Waiting>
-        ensures { result ≡ waiting_in self.now.plan.nodes (numbered self.now.streams.list.items k) }
+        ensures { result ≡ waiting_in self.now.lives self.now.plan.nodes (numbered self.now.streams.list.items k) }
     {
         let stream = self.streams.get(k)?;
         if stream.far_side == Standing::NotYet {
             let node = listener(self.plan.nodes, &stream.to)?;
-            Some(Waiting {
-                near: stream.near,
-                node,
-            })
+            let near = self.member(stream.near)?;
+            Some(Waiting { near, node })
         } else {
             None
         }

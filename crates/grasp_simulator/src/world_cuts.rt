@@ -7,7 +7,7 @@ ghost use Rattle.grasp_simulator.specs.WorldSteps.{Runs, MayStarve};
 use crate::seat::is_starved;
 use crate::world::World;
 use grasp_cbor::OutOfMemory;
-use grasp_laws_delivery::streams_are_ready;
+use grasp_laws_delivery::{steps_are_present, streams_are_ready};
 use grasp_model_network::Report;
 use grasp_types::Input;
 
@@ -19,20 +19,19 @@ impl World {
         ensures count { length self.new.seats.items ≡ length self.old.seats.items }
     {
         streams_are_ready();
+        steps_are_present();
         let Some(end) = self.streams.side(stream, far) else {
             return Ok(Report::Nothing);
         };
-        if !self.has(end.node) {
+        let Some(node) = self.owner(end.life) else {
             return Ok(Report::Nothing);
-        }
-        self.streams.tell_closed(end.node, end.number);
-        let reply = self.seats[usize::from(end.node - 1)].step(Input::Closed {
-            stream: end.number,
-        });
+        };
+        self.streams.tell_closed(end.life, end.number);
+        let reply = self.seats[usize::from(node - 1)].step(Input::Closed { stream: end.number });
         if is_starved(&reply) {
             return Err(OutOfMemory);
         }
-        self.send_behind(end.node, hold)?;
+        self.send_behind(node, hold)?;
         Ok(Report::Reply(reply))
     }
 }

@@ -14,7 +14,7 @@ use grasp_agent::{ReturnFault, WantFault};
 use grasp_cbor::OutOfMemory;
 use grasp_laws_delivery::streams_are_ready;
 use grasp_model_network::{Event, Report, WorldStop};
-use grasp_types::{Call, Input, Prefix};
+use grasp_types::{Call, Prefix};
 
 /// So many bytes of datagrams and streams may be sent.
 const MOST_BYTES: u64 = 268_435_456;
@@ -36,7 +36,7 @@ impl World {
     }
 
     /// The network goes no further.
-    fn stop(&mut self, stop: WorldStop) -> WorldStop
+    pub(crate) fn stop(&mut self, stop: WorldStop) -> WorldStop
         ensures result { result ≡ stop }
         ensures stopped { self.new ≡ record self.old { stopped = Some stop } }
     {
@@ -129,11 +129,13 @@ impl World {
         ensures count { length self.new.seats.items ≡ length self.old.seats.items }
     {
         streams_are_ready();
-        let reply = self.seats[usize::from(node - 1)].step(Input::Api { asa, call });
+        let life = self.seats[usize::from(node - 1)].life;
+        let (reply, accepted) = self.seats[usize::from(node - 1)].call_step(asa, call);
         if is_starved(&reply) {
             return Err(OutOfMemory);
         }
-        self.places.note(node, &reply)?;
+        self.places.note(life, &reply)?;
+        self.notes.accept(life, accepted)?;
         self.send_behind(node, hold)?;
         Ok(Report::Reply(reply))
     }

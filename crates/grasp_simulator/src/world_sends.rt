@@ -5,6 +5,7 @@ ghost use Rattle.grasp_model_network.specs.Plans.{IsNode};
 ghost use Rattle.grasp_simulator.specs.Sends.{Posts, Puts, HandsOver, Sends, SendsBehind};
 ghost use Rattle.grasp_simulator.specs.WorldStands.{most_count};
 
+use crate::marks::is_marked;
 use crate::parcel::Parcel;
 use crate::ways::way_to;
 use crate::world::World;
@@ -22,10 +23,12 @@ impl World {
         requires { IsNode (length self.old.seats.items) node }
         ensures sends { IfOk result (λ count. Sends self.old self.new node max count) }
         ensures count { length self.new.seats.items ≡ length self.old.seats.items }
+        ensures notes { self.new.notes ≡ self.old.notes }
     {
         streams_are_ready();
+        let life = self.seats[usize::from(node - 1)].life;
         let outputs = self.seats[usize::from(node - 1)].drain(max)?;
-        self.hand_over(node, outputs.slice())?;
+        self.hand_over(node, life, outputs.slice())?;
         Ok(outputs.len())
     }
 
@@ -34,6 +37,7 @@ impl World {
         requires { IsNode (length self.old.seats.items) node }
         ensures sends { OnOk result (SendsBehind self.old self.new node hold) }
         ensures count { length self.new.seats.items ≡ length self.old.seats.items }
+        ensures notes { self.new.notes ≡ self.old.notes }
     {
         if !hold {
             let _sent = self.send(node, EVENT_DRAIN)?;
@@ -41,21 +45,23 @@ impl World {
         Ok(())
     }
 
-    /// These outputs of a node are sent in order.
-    fn hand_over(&mut self, node: u8, outputs: &[Output]) -> Result<(), OutOfMemory>
-        ensures hands { OnOk result (HandsOver self.old self.new node outputs.now) }
+    /// These outputs of a node's present life are sent in order.
+    fn hand_over(&mut self, node: u8, life: u64, outputs: &[Output]) -> Result<(), OutOfMemory>
+        ensures hands { OnOk result (HandsOver self.old self.new node life outputs.now) }
         ensures count { length self.new.seats.items ≡ length self.old.seats.items }
+        ensures notes { self.new.notes ≡ self.old.notes }
     {
         for output in outputs {
-            self.put(node, output)?;
+            self.put(node, life, output)?;
         }
         Ok(())
     }
 
-    /// This output of a node is sent.
-    fn put(&mut self, node: u8, output: &Output) -> Result<(), OutOfMemory>
-        ensures puts { OnOk result (Puts self.old self.new node output.now) }
+    /// This output of a node's present life is sent.
+    fn put(&mut self, node: u8, life: u64, output: &Output) -> Result<(), OutOfMemory>
+        ensures puts { OnOk result (Puts self.old self.new node life output.now) }
         ensures count { length self.new.seats.items ≡ length self.old.seats.items }
+        ensures notes { self.new.notes ≡ self.old.notes }
     {
         match output {
             Output::Datagram { link, to, bytes } => self.post(node, *link, *to, bytes),
@@ -63,15 +69,17 @@ impl World {
                 if self.streams.is_full() {
                     return Err(OutOfMemory);
                 }
-                self.streams.dial(node, *stream, to.copy()?)
+                let marks = self.marks.slice();
+                let closed = is_marked(marks, life, *stream, self.plan.nodes, to);
+                self.streams.dial(life, *stream, to.copy()?, closed)
             }
             Output::Send { stream, bytes } => {
-                self.streams.send(node, *stream, bytes.bytes())?;
+                self.streams.send(life, *stream, bytes.bytes())?;
                 self.add(bytes.len());
                 Ok(())
             }
             Output::Close { stream } => {
-                self.streams.close(node, *stream);
+                self.streams.close(life, *stream);
                 Ok(())
             }
         }
@@ -81,6 +89,7 @@ impl World {
     fn post(&mut self, node: u8, link: u8, to: u8, bytes: &Octets) -> Result<(), OutOfMemory>
         ensures posts { OnOk result (Posts self.old self.new node link to bytes.now) }
         ensures count { length self.new.seats.items ≡ length self.old.seats.items }
+        ensures notes { self.new.notes ≡ self.old.notes }
     {
         let alloc = self.streams.allocator();
         let Some(way) = way_to(alloc, self.plan.links.slice(), node, link, to)? else {

@@ -2,9 +2,11 @@
 
 use super::Traced;
 use grasp_cbor::{Octets, OutOfMemory};
-use grasp_io::{Arrival, Links, MemLinks, MemSink};
+use grasp_io::{Arrival, Counted, Journal, Links, LogLevel, LogSwitch, MemLinks, MemSink};
 use grasp_types::{Address, Input, Locator, Output, Proto};
 use std::alloc::Global;
+use std::io;
+use std::io::Read;
 use std::str::from_utf8;
 use std::test::Fail;
 
@@ -107,5 +109,28 @@ fn each_line_is_written(rt: HostRuntime) -> Result<(), Fail> {
     let written = from_utf8(traced.writer.page.sink.written());
     assert_eq!(rt; written, Ok(LINES));
     assert_eq!(rt; traced.left_out(), 0);
+    assert_eq!(rt; traced.counters(), traced.into_links().counters());
+    Ok(())
+}
+
+#[test]
+fn over_a_journal_each_line_has_its_time_and_a_name(rt: HostRuntime) -> Result<(), Fail> {
+    let (mut reader, writer) = io::pipe(&rt)?;
+    let switch = LogSwitch::new(LogLevel::Events);
+    let journal = Journal::new(writer, rt, "7f000001", &switch, LogLevel::Traffic);
+    let links = MemLinks::new(rt.alloc(), &[]);
+    let mut traced = Traced::new(rt.alloc(), links, journal);
+    let close = Output::Close { stream: 4 };
+    let _quiet = traced.send(&close);
+    switch.set(LogLevel::Traffic);
+    let _told = traced.send(&close);
+    let mut block = [0u8; 256];
+    let count = reader.read(&mut block)?;
+    let line = &block[..count];
+    assert_eq!(rt;
+        line.len(),
+        b"2026-11-29T07:10:29.828Z 7f000001 sent closing 4\n".len()
+    );
+    assert!(rt; line.ends_with(b"Z 7f000001 sent closing 4\n"));
     Ok(())
 }

@@ -46,7 +46,7 @@ use Rattle.grasp_model_network.specs.Sending.{gained, having_made, streams_made,
 use Rattle.grasp_model_network.specs.Setting.{Member, Setting, numbered}
 use Rattle.grasp_model_network.specs.Streams.{StreamEnd, StreamState, end_at, next_bytes, stream_numbered}
 use Rattle.grasp_model_network.specs.Visits.{Visit, Choice, VisitStep, MayCome, no_choice}
-use Rattle.grasp_model_network.specs.World.{Seat, WorldState, present_life, seat_at, with_seat, end_of, life_of}
+use Rattle.grasp_model_network.specs.World.{Seat, WorldState, present_life, seat_at, with_seat, end_of}
 use Rattle.grasp_model_network.specs.declared.event.Event.{Event}
 use Rattle.grasp_model_network.specs.declared.event.Event.TheVariants as event
 use Rattle.grasp_laws_delivery.specs.Ready.{StreamsAreReady}
@@ -68,11 +68,11 @@ use Rattle.grasp_laws_delivery.specs.Saying.{OfEachStream}
 -- ---- what is so of each open stream of a node
 
 -- what came on the stream of this number
-abbrev pub HeardOn : List StreamState → ℕ → Seat → ℕ → ℕ → Past → Type 0
-HeardOn ts node seat limit stream past = IsHeard ts (end_of node seat stream) limit past
+abbrev pub HeardOn : List StreamState → ℕ → ℕ → ℕ → Past → Type 0
+HeardOn ts node limit stream past = IsHeard ts (end_of node stream) limit past
 
 abbrev pub Hears : List StreamState → ℕ → Seat → Type 0
-Hears ts node seat = Holds (HeardOn ts node seat seat.core.plan.limit) seat.core
+Hears ts node seat = Holds (HeardOn ts node seat.core.plan.limit) seat.core
 
 abbrev pub AllHear : WorldState → Type 0
 AllHear w = (node : ℕ) (seat : Seat) → seat_at w node ≡ Some seat → Hears w.streams node seat
@@ -103,14 +103,6 @@ quiet_turns P Q n x r (input.Closed stream) q turn = absurd q
 quiet_turns P Q n x r _ q turn = turn
 
 module _ (ready : StreamsAreReady) where
-  -- the end of a node's stream is the one that was reached
-  pub end_there : (s : Setting) (w : WorldState) → IsReached s w → (v : Visit) (x : Reached) (t : StreamState) (side : Side) (place : ℕ) → slice_get w.streams place ≡ Some t → end_at t side ≡ Some x.at
-      → seat_at w v.node ≡ Some v.seat → v.node ≡ x.at.node → end_of v.node v.seat x.at.number ≡ x.at
-  end_there s w r v x t side place stands at here same =
-      ap (λ n. ended n (life_of v.seat)) same ∙ ap (ended x.at.node) (ap length (ready.lives s w r v.node v.seat here) ∙ sym (needs.first_lives ready s w r place t stands side x.at at)) where
-        ended : ℕ → ℕ → StreamEnd
-        ended node life = record { node = node; life = life; number = x.at.number }
-
   -- ---- what a step dials
 
   -- a step that dials has queued the dial of the next stream
@@ -135,83 +127,81 @@ module _ (ready : StreamsAreReady) where
 
   -- nothing came yet on a stream that the step dials
   step_dials : (v : Visit) (c : Choice) (ts : List StreamState) → VisitStep v c → 0 < v.seat.core.plan.limit
-      → Dials (HeardOn (fold (having_made v.node v.seat) ts (gained v.seat.core c.after)) v.node v.seat v.seat.core.plan.limit) (begin v.seat.core v.now) c.after
+      → Dials (HeardOn (fold (having_made v.node) ts (gained v.seat.core c.after)) v.node v.seat.core.plan.limit) (begin v.seat.core v.now) c.after
   step_dials v c ts step some less = from (dials_of v.seat.core c.after v.now v.input c.coming c.reply step.steps (subst (λ d. d < c.after.streams.dialled) begun less)) where
     begun : (begin v.seat.core v.now).streams.dialled ≡ v.seat.core.streams.dialled
     begun = (beginnings_end v.seat.core v.now).0.dialled
 
     from : (more : List ℕ) × (dialled_in (gained v.seat.core c.after) ≡ (2 * v.seat.core.streams.dialled) ∷ more)
-        → IsHeard (fold (having_made v.node v.seat) ts (gained v.seat.core c.after)) (end_of v.node v.seat (next_stream (begin v.seat.core v.now).streams)) v.seat.core.plan.limit no_past
-    from q = subst (λ d. IsHeard (fold (having_made v.node v.seat) ts (gained v.seat.core c.after)) (end_of v.node v.seat (2 * d)) v.seat.core.plan.limit no_past) (sym begun)
-        (dial_heard v.node v.seat v.seat.core.plan.limit (2 * v.seat.core.streams.dialled) q.0 (gained v.seat.core c.after) ts q.1 (none_came v.seat.core.plan.limit some))
+        → IsHeard (fold (having_made v.node) ts (gained v.seat.core c.after)) (end_of v.node (next_stream (begin v.seat.core v.now).streams)) v.seat.core.plan.limit no_past
+    from q = subst (λ d. IsHeard (fold (having_made v.node) ts (gained v.seat.core c.after)) (end_of v.node (2 * d)) v.seat.core.plan.limit no_past) (sym begun)
+        (dial_heard v.node v.seat.core.plan.limit (2 * v.seat.core.streams.dialled) q.0 (gained v.seat.core c.after) ts q.1 (none_came v.seat.core.plan.limit some))
 
   -- ---- a step
 
   -- the streams that a step leaves
   abbrev made : Visit → Choice → List StreamState → List StreamState
-  made v c ts = fold (having_made v.node v.seat) ts (gained v.seat.core c.after)
+  made v c ts = fold (having_made v.node) ts (gained v.seat.core c.after)
 
   quiet_step : (w : WorldState) (v : Visit) (c : Choice) → IsQuiet v.input
-      → Turns (HeardOn w.streams v.node v.seat v.seat.core.plan.limit) (HeardOn (made v c w.streams) v.node v.seat v.seat.core.plan.limit) (begin v.seat.core v.now) c.coming c.reply v.input
+      → Turns (HeardOn w.streams v.node v.seat.core.plan.limit) (HeardOn (made v c w.streams) v.node v.seat.core.plan.limit) (begin v.seat.core v.now) c.coming c.reply v.input
   quiet_step w v c quiet =
-      quiet_turns (HeardOn w.streams v.node v.seat v.seat.core.plan.limit) (HeardOn (made v c w.streams) v.node v.seat v.seat.core.plan.limit) (begin v.seat.core v.now) c.coming c.reply v.input quiet
-      (λ stream past h. made_heard v.node v.seat (end_of v.node v.seat stream) v.seat.core.plan.limit past (gained v.seat.core c.after) w.streams h)
+      quiet_turns (HeardOn w.streams v.node v.seat.core.plan.limit) (HeardOn (made v c w.streams) v.node v.seat.core.plan.limit) (begin v.seat.core v.now) c.coming c.reply v.input quiet
+      (λ stream past h. made_heard v.node (end_of v.node stream) v.seat.core.plan.limit past (gained v.seat.core c.after) w.streams h)
 
   opened_step : (s : Setting) (w : WorldState) (k : ℕ) (v : Visit) (c : Choice) → IsReached s w → IsOpening s w k v → 0 < v.seat.core.plan.limit
-      → Turns (HeardOn w.streams v.node v.seat v.seat.core.plan.limit)
-      (HeardOn (made v c (arrived w v (s.arrives_as v.node k) c.reply (stream_numbered w.streams k)).streams) v.node v.seat v.seat.core.plan.limit) (begin v.seat.core v.now) c.coming c.reply v.input
+      → Turns (HeardOn w.streams v.node v.seat.core.plan.limit)
+      (HeardOn (made v c (arrived w v (s.arrives_as v.node k) c.reply (stream_numbered w.streams k)).streams) v.node v.seat.core.plan.limit) (begin v.seat.core v.now) c.coming c.reply v.input
   opened_step s w k v c r o some =
       subst
       (λ (x : Option StreamState).
-      Turns (HeardOn w.streams v.node v.seat v.seat.core.plan.limit) (HeardOn (made v c (arrived w v (s.arrives_as v.node k) c.reply x).streams) v.node v.seat v.seat.core.plan.limit) (begin v.seat.core v.now) c.coming c.reply v.input)
+      Turns (HeardOn w.streams v.node v.seat.core.plan.limit) (HeardOn (made v c (arrived w v (s.arrives_as v.node k) c.reply x).streams) v.node v.seat.core.plan.limit) (begin v.seat.core v.now) c.coming c.reply v.input)
       (sym o.found)
       (subst
       (λ (i : Input).
-      Turns (HeardOn w.streams v.node v.seat v.seat.core.plan.limit) (HeardOn (made v c (arrived w v (s.arrives_as v.node k) c.reply (Some o.talk)).streams) v.node v.seat v.seat.core.plan.limit) (begin v.seat.core v.now) c.coming c.reply i)
+      Turns (HeardOn w.streams v.node v.seat.core.plan.limit) (HeardOn (made v c (arrived w v (s.arrives_as v.node k) c.reply (Some o.talk)).streams) v.node v.seat.core.plan.limit) (begin v.seat.core v.now) c.coming c.reply i)
       (sym o.is.input_is) (others, new)) where
-        others : (stream : ℕ) (past : Past) → IsHeard w.streams (end_of v.node v.seat stream) v.seat.core.plan.limit past
-            → IsHeard (made v c (arrived w v (s.arrives_as v.node k) c.reply (Some o.talk)).streams) (end_of v.node v.seat stream) v.seat.core.plan.limit past
+        others : (stream : ℕ) (past : Past) → IsHeard w.streams (end_of v.node stream) v.seat.core.plan.limit past
+            → IsHeard (made v c (arrived w v (s.arrives_as v.node k) c.reply (Some o.talk)).streams) (end_of v.node stream) v.seat.core.plan.limit past
         others stream past h =
-            made_heard v.node v.seat (end_of v.node v.seat stream) v.seat.core.plan.limit past (gained v.seat.core c.after) (arrived w v (s.arrives_as v.node k) c.reply (Some o.talk)).streams
-            (arrived_heard w v (s.arrives_as v.node k) c.reply o.talk (end_of v.node v.seat stream) v.seat.core.plan.limit past (numbered_place k w.streams o.talk o.found) o.waiting (same_end_one ready s w r) h)
+            made_heard v.node (end_of v.node stream) v.seat.core.plan.limit past (gained v.seat.core c.after) (arrived w v (s.arrives_as v.node k) c.reply (Some o.talk)).streams
+            (arrived_heard w v (s.arrives_as v.node k) c.reply o.talk (end_of v.node stream) v.seat.core.plan.limit past (numbered_place k w.streams o.talk o.found) o.waiting (same_end_one ready s w r) h)
 
-        new : c.reply ≡ reply.Taken → IsHeard (made v c (arrived w v (s.arrives_as v.node k) c.reply (Some o.talk)).streams) (end_of v.node v.seat (s.arrives_as v.node k)) v.seat.core.plan.limit no_past
+        new : c.reply ≡ reply.Taken → IsHeard (made v c (arrived w v (s.arrives_as v.node k) c.reply (Some o.talk)).streams) (end_of v.node (s.arrives_as v.node k)) v.seat.core.plan.limit no_past
         new taken =
             let here = numbered_place k w.streams o.talk o.found in
-            made_heard v.node v.seat (end_of v.node v.seat (s.arrives_as v.node k)) v.seat.core.plan.limit no_past (gained v.seat.core c.after) (arrived w v (s.arrives_as v.node k) c.reply (Some o.talk)).streams
+            made_heard v.node (end_of v.node (s.arrives_as v.node k)) v.seat.core.plan.limit no_past (gained v.seat.core c.after) (arrived w v (s.arrives_as v.node k) c.reply (Some o.talk)).streams
             (opened_heard w v (s.arrives_as v.node k) c.reply o.talk v.seat.core.plan.limit here o.waiting (sane s w r here.place o.talk here.stands) taken (none_came v.seat.core.plan.limit some))
 
-  piece_step : (s : Setting) (w : WorldState) (k count : ℕ) (side : Side) (v : Visit) (c : Choice) → IsReached s w → seat_at w v.node ≡ Some v.seat
+  piece_step : (s : Setting) (w : WorldState) (k count : ℕ) (side : Side) (v : Visit) (c : Choice) → IsReached s w
       → IsReaching w k side v (λ x. input.Bytes x.at.number (next_bytes x.talk (other side) count))
-      → Turns (HeardOn w.streams v.node v.seat v.seat.core.plan.limit) (HeardOn (made v c (delivered w count (reached_side w k side)).streams) v.node v.seat v.seat.core.plan.limit) (begin v.seat.core v.now) c.coming c.reply v.input
-  piece_step s w k count side v c r here o =
+      → Turns (HeardOn w.streams v.node v.seat.core.plan.limit) (HeardOn (made v c (delivered w count (reached_side w k side)).streams) v.node v.seat.core.plan.limit) (begin v.seat.core v.now) c.coming c.reply v.input
+  piece_step s w k count side v c r o =
       subst
       (λ (x : Option Reached).
-      Turns (HeardOn w.streams v.node v.seat v.seat.core.plan.limit) (HeardOn (made v c (delivered w count x).streams) v.node v.seat v.seat.core.plan.limit) (begin v.seat.core v.now) c.coming c.reply v.input)
+      Turns (HeardOn w.streams v.node v.seat.core.plan.limit) (HeardOn (made v c (delivered w count x).streams) v.node v.seat.core.plan.limit) (begin v.seat.core v.now) c.coming c.reply v.input)
       (sym o.found)
       (subst
       (λ (i : Input).
-      Turns (HeardOn w.streams v.node v.seat v.seat.core.plan.limit) (HeardOn (made v c (delivered w count (Some o.reached)).streams) v.node v.seat v.seat.core.plan.limit) (begin v.seat.core v.now) c.coming c.reply i)
+      Turns (HeardOn w.streams v.node v.seat.core.plan.limit) (HeardOn (made v c (delivered w count (Some o.reached)).streams) v.node v.seat.core.plan.limit) (begin v.seat.core v.now) c.coming c.reply i)
       (sym o.is.input_is) (others, own)) where
         side_is : IsReachedSide w k side o.reached
         side_is = reached_is w k side o.reached o.found
 
-        end_is : end_of v.node v.seat o.reached.at.number ≡ o.reached.at
-        end_is =
-            let place = numbered_place k w.streams o.reached.talk side_is.found in
-            end_there s w r v o.reached o.reached.talk side place.place place.stands side_is.ends here o.is.node_is
+        end_is : end_of v.node o.reached.at.number ≡ o.reached.at
+        end_is = ap (λ n. end_of n o.reached.at.number) o.is.node_is
 
-        others : (stream : ℕ) (past : Past) → stream ≢ o.reached.at.number → IsHeard w.streams (end_of v.node v.seat stream) v.seat.core.plan.limit past
-            → IsHeard (made v c (delivered w count (Some o.reached)).streams) (end_of v.node v.seat stream) v.seat.core.plan.limit past
+        others : (stream : ℕ) (past : Past) → stream ≢ o.reached.at.number → IsHeard w.streams (end_of v.node stream) v.seat.core.plan.limit past
+            → IsHeard (made v c (delivered w count (Some o.reached)).streams) (end_of v.node stream) v.seat.core.plan.limit past
         others stream past differs h =
-            made_heard v.node v.seat (end_of v.node v.seat stream) v.seat.core.plan.limit past (gained v.seat.core c.after) (delivered w count (Some o.reached)).streams
-            (delivered_heard w o.reached count (end_of v.node v.seat stream) v.seat.core.plan.limit past (λ e. differs (ap (λ (x : StreamEnd). x.number) e)) h)
+            made_heard v.node (end_of v.node stream) v.seat.core.plan.limit past (gained v.seat.core c.after) (delivered w count (Some o.reached)).streams
+            (delivered_heard w o.reached count (end_of v.node stream) v.seat.core.plan.limit past (λ e. differs (ap (λ (x : StreamEnd). x.number) e)) h)
 
-        own : (past : Past) → IsHeard w.streams (end_of v.node v.seat o.reached.at.number) v.seat.core.plan.limit past
+        own : (past : Past) → IsHeard w.streams (end_of v.node o.reached.at.number) v.seat.core.plan.limit past
             → Adds (begin v.seat.core v.now).plan.limit past (next_bytes o.reached.talk (other side) count) c.coming.added → c.coming.added.kind ≡ waiting
-            → IsHeard (made v c (delivered w count (Some o.reached)).streams) (end_of v.node v.seat o.reached.at.number) v.seat.core.plan.limit (past_after past (next_bytes o.reached.talk (other side) count) c.coming.added)
+            → IsHeard (made v c (delivered w count (Some o.reached)).streams) (end_of v.node o.reached.at.number) v.seat.core.plan.limit (past_after past (next_bytes o.reached.talk (other side) count) c.coming.added)
         own past h adds waits =
-            made_heard v.node v.seat (end_of v.node v.seat o.reached.at.number) v.seat.core.plan.limit (past_after past (next_bytes o.reached.talk (other side) count) c.coming.added) (gained v.seat.core c.after)
+            made_heard v.node (end_of v.node o.reached.at.number) v.seat.core.plan.limit (past_after past (next_bytes o.reached.talk (other side) count) c.coming.added) (gained v.seat.core c.after)
             (delivered w count (Some o.reached)).streams
             (subst (λ (e : StreamEnd). IsHeard (delivered w count (Some o.reached)).streams e v.seat.core.plan.limit (past_after past (next_bytes o.reached.talk (other side) count) c.coming.added)) (sym end_is)
             (piece_heard w k side o.reached count v.seat.core.plan.limit past c.coming.added (same_end_one ready s w r) (needs.distinct ready s w r) side_is
@@ -219,34 +209,34 @@ module _ (ready : StreamsAreReady) where
             (subst (λ (p : NodePlan). Adds p.limit past (next_bytes o.reached.talk (other side) count) c.coming.added) (beginnings_end v.seat.core v.now).0.plan adds) waits))
 
   cut_step : (w : WorldState) (k : ℕ) (side : Side) (v : Visit) (c : Choice) → IsReaching w k side v (λ x. input.Closed x.at.number)
-      → Turns (HeardOn w.streams v.node v.seat v.seat.core.plan.limit) (HeardOn (made v c (told w (reached_side w k side)).streams) v.node v.seat v.seat.core.plan.limit) (begin v.seat.core v.now) c.coming c.reply v.input
+      → Turns (HeardOn w.streams v.node v.seat.core.plan.limit) (HeardOn (made v c (told w (reached_side w k side)).streams) v.node v.seat.core.plan.limit) (begin v.seat.core v.now) c.coming c.reply v.input
   cut_step w k side v c o =
       subst
       (λ (x : Option Reached).
-      Turns (HeardOn w.streams v.node v.seat v.seat.core.plan.limit) (HeardOn (made v c (told w x).streams) v.node v.seat v.seat.core.plan.limit) (begin v.seat.core v.now) c.coming c.reply v.input)
+      Turns (HeardOn w.streams v.node v.seat.core.plan.limit) (HeardOn (made v c (told w x).streams) v.node v.seat.core.plan.limit) (begin v.seat.core v.now) c.coming c.reply v.input)
       (sym o.found)
       (subst
       (λ (i : Input).
-      Turns (HeardOn w.streams v.node v.seat v.seat.core.plan.limit) (HeardOn (made v c (told w (Some o.reached)).streams) v.node v.seat v.seat.core.plan.limit) (begin v.seat.core v.now) c.coming c.reply i)
+      Turns (HeardOn w.streams v.node v.seat.core.plan.limit) (HeardOn (made v c (told w (Some o.reached)).streams) v.node v.seat.core.plan.limit) (begin v.seat.core v.now) c.coming c.reply i)
       (sym o.is.input_is) others) where
-        others : (stream : ℕ) (past : Past) → stream ≢ o.reached.at.number → IsHeard w.streams (end_of v.node v.seat stream) v.seat.core.plan.limit past
-            → IsHeard (made v c (told w (Some o.reached)).streams) (end_of v.node v.seat stream) v.seat.core.plan.limit past
+        others : (stream : ℕ) (past : Past) → stream ≢ o.reached.at.number → IsHeard w.streams (end_of v.node stream) v.seat.core.plan.limit past
+            → IsHeard (made v c (told w (Some o.reached)).streams) (end_of v.node stream) v.seat.core.plan.limit past
         others stream past differs h =
-            made_heard v.node v.seat (end_of v.node v.seat stream) v.seat.core.plan.limit past (gained v.seat.core c.after) (told w (Some o.reached)).streams
-            (told_heard w o.reached (end_of v.node v.seat stream) v.seat.core.plan.limit past h)
+            made_heard v.node (end_of v.node stream) v.seat.core.plan.limit past (gained v.seat.core c.after) (told w (Some o.reached)).streams
+            (told_heard w o.reached (end_of v.node stream) v.seat.core.plan.limit past h)
 
-  step_turns : (s : Setting) (w : WorldState) (e : Event) (v : Visit) (c : Choice) → IsReached s w → seat_at w v.node ≡ Some v.seat → 0 < v.seat.core.plan.limit → visit_of s w e ≡ Some v → IsStep e
-      → Turns (HeardOn w.streams v.node v.seat v.seat.core.plan.limit) (HeardOn (made v c (streams_before s w e v c)) v.node v.seat v.seat.core.plan.limit) (begin v.seat.core v.now) c.coming c.reply v.input
-  step_turns s w (event.Clock node millis) v c r here some is step = quiet_step w v c (clock_quiet s w node millis v is)
-  step_turns s w (event.Want node length longest peer) v c r here some is step = absurd step
-  step_turns s w (event.Return node prefix peer) v c r here some is step = absurd step
-  step_turns s w (event.Agent node hold) v c r here some is step = quiet_step w v c (agent_quiet s w node hold v is)
-  step_turns s w (event.Api node asa call hold) v c r here some is step = quiet_step w v c (call_quiet s w (event.Api node asa call hold) v (present_life w node) (input.Api asa call) is tt)
-  step_turns s w (event.Datagram index hold) v c r here some is step = quiet_step w v c (datagram_quiet s w index hold v is)
-  step_turns s w (event.Arrive k hold) v c r here some is step = opened_step s w k v c r (opening_is s w k v is) some
-  step_turns s w (event.Bytes k far count hold) v c r here some is step = piece_step s w k count (side_named far) v c r here (piece_is w k (side_named far) count v is)
-  step_turns s w (event.Cut k far hold) v c r here some is step = cut_step w k (side_named far) v c (cut_is w k (side_named far) v is)
-  step_turns s w (event.Drain node max) v c r here some is step = absurd step
+  step_turns : (s : Setting) (w : WorldState) (e : Event) (v : Visit) (c : Choice) → IsReached s w → 0 < v.seat.core.plan.limit → visit_of s w e ≡ Some v → IsStep e
+      → Turns (HeardOn w.streams v.node v.seat.core.plan.limit) (HeardOn (made v c (streams_before s w e v c)) v.node v.seat.core.plan.limit) (begin v.seat.core v.now) c.coming c.reply v.input
+  step_turns s w (event.Clock node millis) v c r some is step = quiet_step w v c (clock_quiet s w node millis v is)
+  step_turns s w (event.Want node length longest peer) v c r some is step = absurd step
+  step_turns s w (event.Return node prefix peer) v c r some is step = absurd step
+  step_turns s w (event.Agent node hold) v c r some is step = quiet_step w v c (agent_quiet s w node hold v is)
+  step_turns s w (event.Api node asa call hold) v c r some is step = quiet_step w v c (call_quiet s w (event.Api node asa call hold) v (present_life w node) (input.Api asa call) is tt)
+  step_turns s w (event.Datagram index hold) v c r some is step = quiet_step w v c (datagram_quiet s w index hold v is)
+  step_turns s w (event.Arrive k hold) v c r some is step = opened_step s w k v c r (opening_is s w k v is) some
+  step_turns s w (event.Bytes k far count hold) v c r some is step = piece_step s w k count (side_named far) v c r (piece_is w k (side_named far) count v is)
+  step_turns s w (event.Cut k far hold) v c r some is step = cut_step w k (side_named far) v c (cut_is w k (side_named far) v is)
+  step_turns s w (event.Drain node max) v c r some is step = absurd step
 
   -- ---- at another node
 
@@ -275,12 +265,12 @@ module _ (ready : StreamsAreReady) where
   steps_of s w e c v is o = subst (λ (x : Option Visit). MayCome x c) is o.comes
 
   own_hears : (s : Setting) (w : WorldState) (e : Event) (c : Choice) (v : Visit) (agent : AgentState) → IsReached s w → AllHear w → Occurs s w e c → visit_of s w e ≡ Some v → IsStep e
-      → Hears (after_visit s w e v c).streams v.node (seat_with v.seat c.after agent)
+      → Hears (after_visit s w e v c).streams v.node (seat_with c.after agent)
   unfolding streams_made
   own_hears s w e c v agent r all o is step =
-      weaker (HeardOn (made v c (streams_before s w e v c)) v.node v.seat v.seat.core.plan.limit) (HeardOn (after_visit s w e v c).streams v.node (seat_with v.seat c.after agent) c.after.plan.limit) c.after same
-      (step_holds (HeardOn w.streams v.node v.seat v.seat.core.plan.limit) (HeardOn (made v c (streams_before s w e v c)) v.node v.seat v.seat.core.plan.limit) v.seat.core c.after v.now v.input c.coming c.reply
-      (nodes_are_sound.sound s w r v.node v.seat here) (step_turns s w e v c r here some is step) (step_dials v c (streams_before s w e v c) steps some) (all v.node v.seat here) steps.steps) where
+      weaker (HeardOn (made v c (streams_before s w e v c)) v.node v.seat.core.plan.limit) (HeardOn (after_visit s w e v c).streams v.node c.after.plan.limit) c.after same
+      (step_holds (HeardOn w.streams v.node v.seat.core.plan.limit) (HeardOn (made v c (streams_before s w e v c)) v.node v.seat.core.plan.limit) v.seat.core c.after v.now v.input c.coming c.reply
+      (nodes_are_sound.sound s w r v.node v.seat here) (step_turns s w e v c r some is step) (step_dials v c (streams_before s w e v c) steps some) (all v.node v.seat here) steps.steps) where
         here : seat_at w v.node ≡ Some v.seat
         here = (visits_are_here s w e v is).stands
 
@@ -290,22 +280,22 @@ module _ (ready : StreamsAreReady) where
         steps : VisitStep v c
         steps = steps_of s w e c v is o
 
-        same : (stream : ℕ) (past : Past) → IsHeard (made v c (streams_before s w e v c)) (end_of v.node v.seat stream) v.seat.core.plan.limit past
-            → IsHeard (after_visit s w e v c).streams (end_of v.node (seat_with v.seat c.after agent) stream) c.after.plan.limit past
+        same : (stream : ℕ) (past : Past) → IsHeard (made v c (streams_before s w e v c)) (end_of v.node stream) v.seat.core.plan.limit past
+            → IsHeard (after_visit s w e v c).streams (end_of v.node stream) c.after.plan.limit past
         same stream past h =
-            subst (λ (p : NodePlan). IsHeard (after_visit s w e v c).streams (end_of v.node v.seat stream) p.limit past) (sym (step_plan v.seat.core c.after v.now v.input c.coming c.reply steps.steps))
-            (subst (λ (ts : List StreamState). IsHeard ts (end_of v.node v.seat stream) v.seat.core.plan.limit past) (sym (streams_stepped s w e v c step)) h)
+            subst (λ (p : NodePlan). IsHeard (after_visit s w e v c).streams (end_of v.node stream) p.limit past) (sym (step_plan v.seat.core c.after v.now v.input c.coming c.reply steps.steps))
+            (subst (λ (ts : List StreamState). IsHeard ts (end_of v.node stream) v.seat.core.plan.limit past) (sym (streams_stepped s w e v c step)) h)
 
   other_hears : (s : Setting) (w : WorldState) (e : Event) (c : Choice) (v : Visit) (node : ℕ) (seat : Seat) → IsReached s w → AllHear w → visit_of s w e ≡ Some v → IsStep e → node ≢ v.node
       → seat_at w node ≡ Some seat → Hears (after_visit s w e v c).streams node seat
   unfolding streams_made
   other_hears s w e c v node seat r all is step differs here =
-      weaker (HeardOn w.streams node seat seat.core.plan.limit) (HeardOn (after_visit s w e v c).streams node seat seat.core.plan.limit) seat.core same (all node seat here) where
-        same : (stream : ℕ) (past : Past) → IsHeard w.streams (end_of node seat stream) seat.core.plan.limit past → IsHeard (after_visit s w e v c).streams (end_of node seat stream) seat.core.plan.limit past
+      weaker (HeardOn w.streams node seat.core.plan.limit) (HeardOn (after_visit s w e v c).streams node seat.core.plan.limit) seat.core same (all node seat here) where
+        same : (stream : ℕ) (past : Past) → IsHeard w.streams (end_of node stream) seat.core.plan.limit past → IsHeard (after_visit s w e v c).streams (end_of node stream) seat.core.plan.limit past
         same stream past h =
-            subst (λ (ts : List StreamState). IsHeard ts (end_of node seat stream) seat.core.plan.limit past) (sym (streams_stepped s w e v c step))
-            (made_heard v.node v.seat (end_of node seat stream) seat.core.plan.limit past (gained v.seat.core c.after) (streams_before s w e v c)
-            (other_before s w e v c (end_of node seat stream) seat.core.plan.limit past r is differs h))
+            subst (λ (ts : List StreamState). IsHeard ts (end_of node stream) seat.core.plan.limit past) (sym (streams_stepped s w e v c step))
+            (made_heard v.node (end_of node stream) seat.core.plan.limit past (gained v.seat.core c.after) (streams_before s w e v c)
+            (other_before s w e v c (end_of node stream) seat.core.plan.limit past r is differs h))
 
   step_hears : (s : Setting) (w : WorldState) (e : Event) (c : Choice) (v : Visit) → IsReached s w → AllHear w → Occurs s w e c → visit_of s w e ≡ Some v → IsStep e → AllHear (after_visit s w e v c)
   step_hears s w e c v r all o is step =
@@ -318,40 +308,40 @@ module _ (ready : StreamsAreReady) where
       → IsHeard (drained_from s w node seat m max).streams e limit past
   unfolding handed_over
   handed_heard s w node max seat m e limit past ok h =
-      all_closed_heard node seat e limit past (closes m max) (fold (having_sent s node seat) (with_seat w node (seat_with seat (after_drain m max) seat.agent)) (take max m.queue))
-      (all_sent_heard s node seat e limit past (take max m.queue) (with_seat w node (seat_with seat (after_drain m max) seat.agent)) ok h)
+      all_closed_heard node e limit past (closes m max) (fold (having_sent s node) (with_seat w node (seat_with (after_drain m max) seat.agent)) (take max m.queue))
+      (all_sent_heard s node e limit past (take max m.queue) (with_seat w node (seat_with (after_drain m max) seat.agent)) ok h)
 
   drained_dials : (Q : ℕ → Past → Type 0) (n : NodeState) (max : ℕ) → Dials Q (begin n n.reading) (after_drain (begin n n.reading) max)
   drained_dials Q n max less =
       none_dialled (begin n n.reading) (after_drain (begin n n.reading) max)
-      ((drains_dial_nothing n (after_drain (begin n n.reading) max) n.reading max no_choice.coming (reply.Outputs (drained (begin n n.reading) max)) (drain_steps n max no_choice.coming)).0 ∙ sym (beginnings_end n n.reading).0.dialled) less
+      ((drains_dial_nothing n (after_drain (begin n n.reading) max) n.reading max no_choice.coming (reply.Outputs (drained (begin n n.reading) max)) (drain_steps n n.reading max no_choice.coming)).0 ∙ sym (beginnings_end n n.reading).0.dialled) less
 
   drain_hears : (s : Setting) (w : WorldState) (node max : ℕ) (o : Option Seat) → IsReached s w → 1 ≤ node → seat_at w node ≡ o → AllHear w → AllHear (drained_at s w node max o)
   drain_hears s w node max None r least here all = all
   drain_hears s w node max (Some seat) r least here all =
       each_drained (λ n other. Hears (drained_from s w node seat (begin seat.core seat.core.reading) max).streams n other) s w node seat (begin seat.core seat.core.reading) max least own others where
         step : NodeStep seat.core seat.core.reading (input.Drain max) no_choice.coming (reply.Outputs (drained (begin seat.core seat.core.reading) max)) (after_drain (begin seat.core seat.core.reading) max)
-        step = drain_steps seat.core max no_choice.coming
+        step = drain_steps seat.core seat.core.reading max no_choice.coming
 
-        own : Hears (drained_from s w node seat (begin seat.core seat.core.reading) max).streams node (seat_with seat (after_drain (begin seat.core seat.core.reading) max) seat.agent)
+        own : Hears (drained_from s w node seat (begin seat.core seat.core.reading) max).streams node (seat_with (after_drain (begin seat.core seat.core.reading) max) seat.agent)
         own =
-            step_holds (HeardOn w.streams node seat seat.core.plan.limit)
-            (HeardOn (drained_from s w node seat (begin seat.core seat.core.reading) max).streams node (seat_with seat (after_drain (begin seat.core seat.core.reading) max) seat.agent) (after_drain (begin seat.core seat.core.reading) max).plan.limit)
+            step_holds (HeardOn w.streams node seat.core.plan.limit)
+            (HeardOn (drained_from s w node seat (begin seat.core seat.core.reading) max).streams node (after_drain (begin seat.core seat.core.reading) max).plan.limit)
             seat.core (after_drain (begin seat.core seat.core.reading) max) seat.core.reading (input.Drain max) no_choice.coming (reply.Outputs (drained (begin seat.core seat.core.reading) max))
-            (nodes_are_sound.sound s w r node seat here) turn (drained_dials (HeardOn (drained_from s w node seat (begin seat.core seat.core.reading) max).streams node (seat_with seat (after_drain (begin seat.core seat.core.reading) max) seat.agent) (after_drain (begin seat.core seat.core.reading) max).plan.limit) seat.core max)
+            (nodes_are_sound.sound s w r node seat here) turn (drained_dials (HeardOn (drained_from s w node seat (begin seat.core seat.core.reading) max).streams node (after_drain (begin seat.core seat.core.reading) max).plan.limit) seat.core max)
             (all node seat here) step
           where
-            turn : (stream : ℕ) (past : Past) → IsHeard w.streams (end_of node seat stream) seat.core.plan.limit past
-                → IsHeard (drained_from s w node seat (begin seat.core seat.core.reading) max).streams (end_of node (seat_with seat (after_drain (begin seat.core seat.core.reading) max) seat.agent) stream) (after_drain (begin seat.core seat.core.reading) max).plan.limit past
+            turn : (stream : ℕ) (past : Past) → IsHeard w.streams (end_of node stream) seat.core.plan.limit past
+                → IsHeard (drained_from s w node seat (begin seat.core seat.core.reading) max).streams (end_of node stream) (after_drain (begin seat.core seat.core.reading) max).plan.limit past
             turn stream past h =
-                subst (λ (p : NodePlan). IsHeard (drained_from s w node seat (begin seat.core seat.core.reading) max).streams (end_of node seat stream) p.limit past)
-                (sym (step_plan seat.core (after_drain (begin seat.core seat.core.reading) max) seat.core.reading (input.Drain max) no_choice.coming (reply.Outputs (drained (begin seat.core seat.core.reading) max)) (drain_steps seat.core max no_choice.coming)))
-                (handed_heard s w node max seat (begin seat.core seat.core.reading) (end_of node seat stream) seat.core.plan.limit past (sane s w r) h)
+                subst (λ (p : NodePlan). IsHeard (drained_from s w node seat (begin seat.core seat.core.reading) max).streams (end_of node stream) p.limit past)
+                (sym (step_plan seat.core (after_drain (begin seat.core seat.core.reading) max) seat.core.reading (input.Drain max) no_choice.coming (reply.Outputs (drained (begin seat.core seat.core.reading) max)) (drain_steps seat.core seat.core.reading max no_choice.coming)))
+                (handed_heard s w node max seat (begin seat.core seat.core.reading) (end_of node stream) seat.core.plan.limit past (sane s w r) h)
 
         others : (n : ℕ) (other : Seat) → n ≢ node → seat_at w n ≡ Some other → Hears (drained_from s w node seat (begin seat.core seat.core.reading) max).streams n other
         others n other differs there =
-            weaker (HeardOn w.streams n other other.core.plan.limit) (HeardOn (drained_from s w node seat (begin seat.core seat.core.reading) max).streams n other other.core.plan.limit) other.core
-            (λ stream past h. handed_heard s w node max seat (begin seat.core seat.core.reading) (end_of n other stream) other.core.plan.limit past (sane s w r) h) (all n other there)
+            weaker (HeardOn w.streams n other.core.plan.limit) (HeardOn (drained_from s w node seat (begin seat.core seat.core.reading) max).streams n other.core.plan.limit) other.core
+            (λ stream past h. handed_heard s w node max seat (begin seat.core seat.core.reading) (end_of n stream) other.core.plan.limit past (sane s w r) h) (all n other there)
 
   -- ---- the first network
 
@@ -361,7 +351,7 @@ module _ (ready : StreamsAreReady) where
     by_seat : (seat : Seat) → seat.core.streams ≡ no_streams → Hears ts node seat
     by_seat seat none = record {
       each =
-          subst (λ (t : StreamsState). All (OpenHolds (HeardOn ts node seat seat.core.plan.limit)) t.records) (sym none) (All-nil (OpenHolds (HeardOn ts node seat seat.core.plan.limit)));
+          subst (λ (t : StreamsState). All (OpenHolds (HeardOn ts node seat.core.plan.limit)) t.records) (sym none) (All-nil (OpenHolds (HeardOn ts node seat.core.plan.limit)));
     }
 
   first_hears : (s : Setting) → AllHear (first_world s)
@@ -379,10 +369,10 @@ module _ (ready : StreamsAreReady) where
   one_hears : (w x : WorldState) → OneAgent w x → AllHear w → AllHear x
   one_hears w x o all = agent_keeps Hears w x o (λ each. record { each = each.each }) all
 
-  still_hears : (s : Setting) (member life node : ℕ) (ts : List StreamState) (seat : Seat) (agent : AgentState) → Hears ts node seat → Hears (map (told_at s member life) ts) node (seat_with seat seat.core agent)
+  still_hears : (s : Setting) (member life node : ℕ) (ts : List StreamState) (seat : Seat) (agent : AgentState) → Hears ts node seat → Hears (map (told_at s member life) ts) node (seat_with seat.core agent)
   still_hears s member life node ts seat agent each =
-      weaker (HeardOn ts node seat seat.core.plan.limit) (HeardOn (map (told_at s member life) ts) node (seat_with seat seat.core agent) seat.core.plan.limit) seat.core
-      (λ stream past h. restarted_heard s member life ts (end_of node seat stream) seat.core.plan.limit past h) each
+      weaker (HeardOn ts node seat.core.plan.limit) (HeardOn (map (told_at s member life) ts) node seat.core.plan.limit) seat.core
+      (λ stream past h. restarted_heard s member life ts (end_of node stream) seat.core.plan.limit past h) each
 
   restart_hears : (s : Setting) (w x : WorldState) (node : ℕ) (image : PoolImage) → Restarting s w node image x → AllHear w → AllHear x
   restart_hears s w x node image t all =
@@ -413,8 +403,8 @@ module _ (ready : StreamsAreReady) where
   -- ---- the law
 
   pub heard_there : (s : Setting) (w : WorldState) → IsReached s w → (node : ℕ) (seat : Seat) → seat_at w node ≡ Some seat → (stream : ℕ) (past : Past) → past_of seat.core.streams stream ≡ Some past
-      → IsHeard w.streams (end_of node seat stream) seat.core.plan.limit past
-  heard_there s w r node seat here stream past e = open_has (HeardOn w.streams node seat seat.core.plan.limit) seat.core stream past (all_hear s w r node seat here) e
+      → IsHeard w.streams (end_of node stream) seat.core.plan.limit past
+  heard_there s w r node seat here stream past e = open_has (HeardOn w.streams node seat.core.plan.limit) seat.core stream past (all_hear s w r node seat here) e
 
   open_stream : (s : Setting) (w : WorldState) → IsReached s w → (e : StreamEnd) (limit : ℕ) (past : Past) → IsHeard w.streams e limit past → IsOpenStream w e limit past
   open_stream s w r e limit past h = record {
@@ -429,4 +419,4 @@ module _ (ready : StreamsAreReady) where
         (subst (λ (x : StreamState). HasCome x h.side past) same h.come)
 
   pub records_hold_what_came : RecordsHoldWhatCame
-  records_hold_what_came s w r node seat here stream past e = open_stream s w r (end_of node seat stream) seat.core.plan.limit past (heard_there s w r node seat here stream past e)
+  records_hold_what_came s w r node seat here stream past e = open_stream s w r (end_of node stream) seat.core.plan.limit past (heard_there s w r node seat here stream past e)

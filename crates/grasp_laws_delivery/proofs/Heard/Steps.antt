@@ -20,7 +20,7 @@ use Rattle.grasp_model_network.specs.Sending.{having_made, posted, having_sent, 
 use Rattle.grasp_model_network.specs.Setting.{Setting}
 use Rattle.grasp_model_network.specs.Streams.{StreamEnd, StreamState, Arrival, not_yet, lives, turned_away, told_closed, is_reached, is_waiting, fresh_stream, end_at, side_at, next_bytes, with_side, with_said, with_sent, with_ended, with_number, with_delivered, with_far, at_end, stream_numbered}
 use Rattle.grasp_model_network.specs.Visits.{Visit}
-use Rattle.grasp_model_network.specs.World.{Seat, WorldState, end_of, member_of}
+use Rattle.grasp_model_network.specs.World.{WorldState, end_of, member_of}
 use Rattle.grasp_laws_delivery.proofs.AfterSteps.{posted_each}
 use Rattle.grasp_laws_delivery.proofs.Heard.Talks.{IsHeard, StillComes, heard_pushed, heard_changed, said_comes, dialled_heard, sent_comes, ended_comes, numbered_comes, delivered_elsewhere, delivered_comes, closed_comes, told_comes, opened_comes}
 use Rattle.grasp_laws_delivery.proofs.OnePlace.{Placed, numbered_place}
@@ -33,15 +33,15 @@ use Rattle.grasp_laws_delivery.specs.Saying.{OfEachStream}
 
 -- ---- what a step makes
 
-pub made_heard : (by : ℕ) (making : Seat) (e : StreamEnd) (limit : ℕ) (past : Past) (qs : List Queued) (ts : List StreamState) → IsHeard ts e limit past
-    → IsHeard (fold (having_made by making) ts qs) e limit past
-made_heard by making e limit past [] ts h = h
-made_heard by making e limit past (datagram link to m ∷ qs) ts h = made_heard by making e limit past qs ts h
-made_heard by making e limit past (dial stream to ∷ qs) ts h =
-    made_heard by making e limit past qs (having_made by making ts (dial stream to)) (heard_pushed ts (fresh_stream (end_of by making stream) to) e limit past h)
-made_heard by making e limit past (send stream m ∷ qs) ts h =
-    made_heard by making e limit past qs (having_made by making ts (send stream m))
-    (heard_changed ts (end_of by making stream) (with_said m) e limit past (λ place t side found at c. said_comes (end_of by making stream) e m t side past at c) h)
+pub made_heard : (by : ℕ) (e : StreamEnd) (limit : ℕ) (past : Past) (qs : List Queued) (ts : List StreamState) → IsHeard ts e limit past
+    → IsHeard (fold (having_made by) ts qs) e limit past
+made_heard by e limit past [] ts h = h
+made_heard by e limit past (datagram link to m ∷ qs) ts h = made_heard by e limit past qs ts h
+made_heard by e limit past (dial stream to ∷ qs) ts h =
+    made_heard by e limit past qs (having_made by ts (dial stream to)) (heard_pushed ts (fresh_stream (end_of by stream) to) e limit past h)
+made_heard by e limit past (send stream m ∷ qs) ts h =
+    made_heard by e limit past qs (having_made by ts (send stream m))
+    (heard_changed ts (end_of by stream) (with_said m) e limit past (λ place t side found at c. said_comes (end_of by stream) e m t side past at c) h)
 
 last_placed : (ts : List StreamState) (t : StreamState) → Placed (ts ++ t ∷ []) t
 last_placed [] t = record { place = 0; stands = refl }
@@ -50,16 +50,16 @@ last_placed (x ∷ xs) t = behind (last_placed xs t) where
   behind p = record { place = suc p.place; stands = p.stands }
 
 -- nothing came yet on a stream whose dial is queued
-pub dial_heard : (by : ℕ) (making : Seat) (limit stream : ℕ) (more : List ℕ) (qs : List Queued) (ts : List StreamState) → dialled_in qs ≡ stream ∷ more → Waits limit no_past
-    → IsHeard (fold (having_made by making) ts qs) (end_of by making stream) limit no_past
-dial_heard by making limit stream more [] ts e w = absurd (cc)
-dial_heard by making limit stream more (datagram link to m ∷ qs) ts e w = dial_heard by making limit stream more qs ts e w
-dial_heard by making limit stream more (send other m ∷ qs) ts e w = dial_heard by making limit stream more qs (having_made by making ts (send other m)) e w
-dial_heard by making limit stream more (dial other to ∷ qs) ts e w =
-    subst (λ n. IsHeard (fold (having_made by making) ts (dial other to ∷ qs)) (end_of by making n) limit no_past) (same_first other stream (dialled_in qs) more e)
-    (made_heard by making (end_of by making other) limit no_past qs (having_made by making ts (dial other to)) (new (last_placed ts (fresh_stream (end_of by making other) to)))) where
-      new : Placed (ts ++ fresh_stream (end_of by making other) to ∷ []) (fresh_stream (end_of by making other) to) → IsHeard (ts ++ fresh_stream (end_of by making other) to ∷ []) (end_of by making other) limit no_past
-      new p = dialled_heard ts (end_of by making other) to limit p.place p.stands w
+pub dial_heard : (by limit stream : ℕ) (more : List ℕ) (qs : List Queued) (ts : List StreamState) → dialled_in qs ≡ stream ∷ more → Waits limit no_past
+    → IsHeard (fold (having_made by) ts qs) (end_of by stream) limit no_past
+dial_heard by limit stream more [] ts e w = absurd (cc)
+dial_heard by limit stream more (datagram link to m ∷ qs) ts e w = dial_heard by limit stream more qs ts e w
+dial_heard by limit stream more (send other m ∷ qs) ts e w = dial_heard by limit stream more qs (having_made by ts (send other m)) e w
+dial_heard by limit stream more (dial other to ∷ qs) ts e w =
+    subst (λ n. IsHeard (fold (having_made by) ts (dial other to ∷ qs)) (end_of by n) limit no_past) (same_first other stream (dialled_in qs) more e)
+    (made_heard by (end_of by other) limit no_past qs (having_made by ts (dial other to)) (new (last_placed ts (fresh_stream (end_of by other) to)))) where
+      new : Placed (ts ++ fresh_stream (end_of by other) to ∷ []) (fresh_stream (end_of by other) to) → IsHeard (ts ++ fresh_stream (end_of by other) to ∷ []) (end_of by other) limit no_past
+      new p = dialled_heard ts (end_of by other) to limit p.place p.stands w
 
 -- ---- what a drain sends
 
@@ -67,29 +67,29 @@ posted_heard : (w : WorldState) (m : Message) (route : Option Route) (e : Stream
 posted_heard w m None e limit past h = h
 posted_heard w m (Some route) e limit past h = h
 
-pub all_sent_heard : (s : Setting) (by : ℕ) (sending : Seat) (e : StreamEnd) (limit : ℕ) (past : Past) (qs : List Queued) (w : WorldState) → AreSane w.streams → IsHeard w.streams e limit past
-    → IsHeard (fold (having_sent s by sending) w qs).streams e limit past
-all_sent_heard s by sending e limit past [] w sane h = h
-all_sent_heard s by sending e limit past (datagram link to m ∷ qs) w sane h =
-    all_sent_heard s by sending e limit past qs (having_sent s by sending w (datagram link to m)) (posted_each IsSane w m (route_of s (member_of w by) link to) sane)
+pub all_sent_heard : (s : Setting) (by : ℕ) (e : StreamEnd) (limit : ℕ) (past : Past) (qs : List Queued) (w : WorldState) → AreSane w.streams → IsHeard w.streams e limit past
+    → IsHeard (fold (having_sent s by) w qs).streams e limit past
+all_sent_heard s by e limit past [] w sane h = h
+all_sent_heard s by e limit past (datagram link to m ∷ qs) w sane h =
+    all_sent_heard s by e limit past qs (having_sent s by w (datagram link to m)) (posted_each IsSane w m (route_of s (member_of w by) link to) sane)
     (posted_heard w m (route_of s (member_of w by) link to) e limit past h)
-all_sent_heard s by sending e limit past (dial stream to ∷ qs) w sane h =
-    all_sent_heard s by sending e limit past qs (having_sent s by sending w (dial stream to))
-    (each_changed IsSane IsSane w.streams (end_of by sending stream) (with_number (w.dials + 1)) (numbered_sane (end_of by sending stream) (w.dials + 1)) sane)
-    (heard_changed w.streams (end_of by sending stream) (with_number (w.dials + 1)) e limit past
-    (λ place t side found at c. numbered_comes (end_of by sending stream) e (w.dials + 1) t side past at c) h)
-all_sent_heard s by sending e limit past (send stream m ∷ qs) w sane h =
-    all_sent_heard s by sending e limit past qs (having_sent s by sending w (send stream m))
-    (each_changed IsSane IsSane w.streams (end_of by sending stream) (with_sent m) (sent_sane (end_of by sending stream) m) sane)
-    (heard_changed w.streams (end_of by sending stream) (with_sent m) e limit past
-    (λ place t side found at c. sent_comes (end_of by sending stream) e m t side past (sane place t found) at c) h)
+all_sent_heard s by e limit past (dial stream to ∷ qs) w sane h =
+    all_sent_heard s by e limit past qs (having_sent s by w (dial stream to))
+    (each_changed IsSane IsSane w.streams (end_of by stream) (with_number (w.dials + 1)) (numbered_sane (end_of by stream) (w.dials + 1)) sane)
+    (heard_changed w.streams (end_of by stream) (with_number (w.dials + 1)) e limit past
+    (λ place t side found at c. numbered_comes (end_of by stream) e (w.dials + 1) t side past at c) h)
+all_sent_heard s by e limit past (send stream m ∷ qs) w sane h =
+    all_sent_heard s by e limit past qs (having_sent s by w (send stream m))
+    (each_changed IsSane IsSane w.streams (end_of by stream) (with_sent m) (sent_sane (end_of by stream) m) sane)
+    (heard_changed w.streams (end_of by stream) (with_sent m) e limit past
+    (λ place t side found at c. sent_comes (end_of by stream) e m t side past (sane place t found) at c) h)
 
-pub all_closed_heard : (by : ℕ) (closing : Seat) (e : StreamEnd) (limit : ℕ) (past : Past) (streams : List ℕ) (w : WorldState) → IsHeard w.streams e limit past
-    → IsHeard (fold (having_closed by closing) w streams).streams e limit past
-all_closed_heard by closing e limit past [] w h = h
-all_closed_heard by closing e limit past (stream ∷ streams) w h =
-    all_closed_heard by closing e limit past streams (having_closed by closing w stream)
-    (heard_changed w.streams (end_of by closing stream) with_ended e limit past (λ place t side found at c. ended_comes (end_of by closing stream) e t side past at c) h)
+pub all_closed_heard : (by : ℕ) (e : StreamEnd) (limit : ℕ) (past : Past) (streams : List ℕ) (w : WorldState) → IsHeard w.streams e limit past
+    → IsHeard (fold (having_closed by) w streams).streams e limit past
+all_closed_heard by e limit past [] w h = h
+all_closed_heard by e limit past (stream ∷ streams) w h =
+    all_closed_heard by e limit past streams (having_closed by w stream)
+    (heard_changed w.streams (end_of by stream) with_ended e limit past (λ place t side found at c. ended_comes (end_of by stream) e t side past at c) h)
 
 -- ---- the side that a piece or a cut reaches
 
@@ -191,7 +191,7 @@ pub arrived_heard : (w : WorldState) (v : Visit) (number : ℕ) (r : Reply) (t :
     → IsHeard w.streams e limit past → IsHeard (arrived w v number r (Some t)).streams e limit past
 arrived_heard w v number r t e limit past here waits one h = heard_changed w.streams t.near (with_far far (arrival_by r)) e limit past turn h where
   far : StreamEnd
-  far = end_of v.node v.seat number
+  far = end_of v.node number
 
   turn : (place : ℕ) (u : StreamState) (side : Side) → slice_get w.streams place ≡ Some u → end_at u side ≡ Some e → HasCome u side past → StillComes e side past (at_end t.near (with_far far (arrival_by r)) u)
   turn place u side found at c = at_end_has (StillComes e side past) t.near (with_far far (arrival_by r)) u (λ none. record { ends = at; come = c })
@@ -201,10 +201,10 @@ arrived_heard w v number r t e limit past here waits one h = heard_changed w.str
 
 -- nothing came yet on a stream that is opened
 pub opened_heard : (w : WorldState) (v : Visit) (number : ℕ) (r : Reply) (t : StreamState) (limit : ℕ) → Placed w.streams t → is_waiting t.far_side ≡ true → IsSane t → r ≡ reply.Taken → Waits limit no_past
-    → IsHeard (arrived w v number r (Some t)).streams (end_of v.node v.seat number) limit no_past
+    → IsHeard (arrived w v number r (Some t)).streams (end_of v.node number) limit no_past
 opened_heard w v number r t limit here waits sane taken w0 = from (at_end_has (StillComes far Far no_past) t.near (with_far far (arrival_by r)) t (λ none. absurd (none Near refl)) opened) where
   far : StreamEnd
-  far = end_of v.node v.seat number
+  far = end_of v.node number
 
   nothing : [] ≡ take t.from_near.delivered (encoded t.from_near.sent)
   nothing = sym (ap (λ d. take d (encoded t.from_near.sent)) (sane.came (sane.waiting waits)))

@@ -3,7 +3,7 @@ use Rattle.std.proofs.Common.{◌≡◌, refl, sym, subst, arith, ℕ, ◌-◌, 
 use Rattle.std.specs.Prelude.{replicate}
 use Rattle.std.proofs.lemmas.List.Elements.{All-nil, All-replicate}
 use Rattle.std.proofs.lemmas.Option.{none-some}
-use Rattle.grasp_laws_agent.proofs.LawKept.{kept_reply}
+use Rattle.grasp_laws_agent.proofs.LawKept.{kept_event, kept_first, kept_reply}
 use Rattle.grasp_agent.proofs.Retiring.{retired_kept}
 use Rattle.grasp_agent.proofs.Returning.{kept_settling}
 use Rattle.grasp_agent.specs.Kept.{IsKept}
@@ -50,7 +50,7 @@ use Rattle.grasp_model_network.specs.World.{Seat, SentDatagram, WorldState, pres
 use Rattle.grasp_model_network.specs.declared.event.Event.{Event}
 use Rattle.grasp_model_network.specs.declared.event.Event.TheVariants as event
 use Rattle.grasp_laws_delivery.proofs.AfterSteps.{seats_stepped, each_seat, each_drained, agent_keeps}
-use Rattle.grasp_laws_delivery.proofs.AgentCalls.{agent_call_is, told_kept, fresh_kept, image_pool}
+use Rattle.grasp_laws_delivery.proofs.AgentCalls.{agent_call_is, image_pool}
 use Rattle.grasp_laws_delivery.proofs.Fine.Cache.{IsKept as IsKeptEntry}
 use Rattle.grasp_laws_delivery.proofs.Fine.Registry.{IsEntry}
 use Rattle.grasp_laws_delivery.proofs.Fine.Sessions.{IsFine}
@@ -111,7 +111,7 @@ node_real n after now i x r ok good k step = again (step_real n.plan n after now
   again a = subst (λ (p : NodePlan). IsInRange p after) (sym a.plan_is) a
 
 own_real : (s : Setting) (w : WorldState) (e : Event) (c : Choice) (v : Visit) (agent : AgentState) → IsReached s w → AllReal w → Occurs s w e c → visit_of s w e ≡ Some v → IsStep e
-    → (agent ≡ v.seat.agent) ⊎ (agent ≡ after_reply v.seat.agent c.reply) → IsRealSeat (seat_with v.seat c.after agent)
+    → (agent ≡ v.seat.agent) ⊎ (agent ≡ after_reply v.seat.agent c.reply) → IsRealSeat (seat_with c.after agent)
 own_real s w e c v agent r all o is step which = record {
   real = node_real v.seat.core c.after v.now v.input c.coming c.reply (real_plan s w r v.node v.seat here) (input_good s w e v all o.fit is step) (all v.node v.seat here).real steps.steps;
   agent = by_which which;
@@ -137,10 +137,10 @@ drained_real : (s : Setting) (w : WorldState) (node max : ℕ) (o : Option Seat)
 drained_real s w node max None r least here all = all
 drained_real s w node max (Some seat) r least here all =
     each_drained (λ n other. IsRealSeat other) s w node seat (begin seat.core seat.core.reading) max least own (λ n other differs there. all n other there) where
-      own : IsRealSeat (seat_with seat (after_drain (begin seat.core seat.core.reading) max) seat.agent)
+      own : IsRealSeat (seat_with (after_drain (begin seat.core seat.core.reading) max) seat.agent)
       own = record {
         real = node_real seat.core (after_drain (begin seat.core seat.core.reading) max) seat.core.reading (input.Drain max) no_choice.coming (reply.Outputs (drained (begin seat.core seat.core.reading) max))
-            (real_plan s w r node seat here) tt (all node seat here).real (drain_steps seat.core max no_choice.coming);
+            (real_plan s w r node seat here) tt (all node seat here).real (drain_steps seat.core seat.core.reading max no_choice.coming);
         agent = (all node seat here).agent;
       }
 
@@ -178,7 +178,7 @@ opened_real plan h good pool none = opened (worlds_begin plan h no_choice.coming
   declared = answered_seat registered answer.Done
 
   fresh : IsRealSeat (fresh_seat plan h)
-  fresh = record { real = fresh_real plan; agent = fresh_kept h pool none }
+  fresh = record { real = fresh_real plan; agent = kept_first h pool none }
 
   opened : OpeningsAreSteps plan h no_choice.coming → IsRealSeat (answered_seat declared answer.NotYet)
   opened o =
@@ -219,7 +219,7 @@ real_parts : (s : Setting) → IsGoodSetting s → PartsKeep s AllReal
 unfolding network.drained
 real_parts s good = record {
   steps = λ w e c v r all o is step reached. real_stepped s w e c v r all o is step;
-  told = λ w x e r t all. agent_keeps (λ ts node seat. IsRealSeat seat) w x (one_agent s w e x t) (λ k. record { real = k.real; agent = told_kept t.seat.agent t.telling.what t.possible k.agent }) all;
+  told = λ w x e r t all. agent_keeps (λ ts node seat. IsRealSeat seat) w x (one_agent s w e x t) (λ k. record { real = k.real; agent = kept_event t.seat.agent t.telling.what t.possible k.agent }) all;
   drains = λ w node max r all least. drained_real s w node max (seat_at w node) r least refl all;
   settles = λ w x node p r t all. settled_real w x node p t all;
   restarts = λ w x node image r t all. restarted_real s good w x node image t all;

@@ -3,7 +3,7 @@ use Rattle.std.proofs.lemmas.List.{take_all}
 use Rattle.std.proofs.lemmas.Option.{slice_get_read}
 use Rattle.grasp_node_main.specs.Crew.{readers_from}
 use Rattle.grasp_node_main.specs.Seats.{first_seat}
-use Rattle.grasp_node_main.proofs.Opened.{reader_added}
+use Rattle.grasp_node_main.proofs.Begins.{reader_added}
 use Rattle.grasp_node_main.proofs.opening.add_readers.Goals as goal
 
 pub loop-place-preserved : goal.loop-place-preserved

@@ -1,4 +1,4 @@
-use Rattle.grasp_node_main.proofs.Opened.{core_begins}
+use Rattle.grasp_node_main.proofs.Begins.{core_begins}
 use Rattle.grasp_node_main.proofs.opening.open_core.Goals as goal
 
 pub returns-in-Ok : goal.returns-in-Ok

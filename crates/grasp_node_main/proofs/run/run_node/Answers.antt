@@ -9,7 +9,7 @@ use Rattle.grasp_node_main.specs.declared.seated_agent.SeatedAgent.{SeatedAgent}
 use Rattle.grasp_node_main.specs.declared.worker.Worker.{Worker}
 use Rattle.grasp_pool.specs.declared.roots.RootPrefix.{RootPrefix}
 use Rattle.grasp_node_main.proofs.Ending.{runs}
-use Rattle.grasp_node_main.proofs.Opened.{few_seats}
+use Rattle.grasp_node_main.proofs.Begins.{few_seats}
 use Rattle.grasp_node_main.proofs.run.run_node.Goals as goal
 
 -- the agents that were opened are the plan's

@@ -8,6 +8,7 @@ use Rattle.grasp_script.specs.Scripts.{text_lines}
 use Rattle.grasp_script.specs.declared.header.HeaderLine.{HeaderLine}
 use Rattle.grasp_script.proofs.ScriptLaws.{unfit_no_script}
 use Rattle.grasp_script.proofs.SoFar.{told_more, told_header, told_unfit, told_missing}
+use Rattle.grasp_script.proofs.Splitting.{behind_both}
 use Rattle.grasp_script.proofs.script.read_header.Goals as goal
 
 pub returns-then-is_start-clause-read : goal.returns-then-is_start-clause-read
@@ -36,6 +37,7 @@ loop-line-preserved c =
     let less = c.in-Some-first_line.ensures.shorter in record {
       read = subst (λ (p : WorldPlan). SoFar c.args.text.now c.in-Some-first_line.behind.now p (c.loop-line.number + 1)) (sym c.in_ok-tell.ensures) (told_more c.args.text.now c.loop-line.rest.now c.loop-line.plan c.loop-line.number c.loop-line.invariant.read c.in-Some-first_line.line.now c.in-Some-first_line.behind.now c.in-Some-2.told c.in-Some-first_line.ensures.line found good);
       room = omega (arith, c.loop-line.invariant.room, less);
+      behind = behind_both c.args.text.now c.loop-line.rest.now c.in-Some-first_line.behind.now c.loop-line.invariant.behind c.in-Some-first_line.ensures.behind;
     }
 
 pub returns-clause-none : goal.returns-clause-none
@@ -48,3 +50,7 @@ pub returns-clause-place : goal.returns-clause-place
 returns-clause-place c =
     let over : text_lines c.loop-line.rest.now ≡ [] = search rules in
     inr (told_missing c.args.text.now c.loop-line.rest.now c.loop-line.plan c.loop-line.number c.loop-line.invariant.read over)
+
+pub returns-then-is_start-clause-behind : goal.returns-then-is_start-clause-behind
+returns-then-is_start-clause-behind c =
+    behind_both c.args.text.now c.loop-line.rest.now c.in-Some-first_line.behind.now c.loop-line.invariant.behind c.in-Some-first_line.ensures.behind

@@ -5,6 +5,7 @@ use Rattle.grasp_script.specs.Scripts.{text_lines}
 use Rattle.grasp_script.proofs.Openings.{if_none}
 use Rattle.grasp_script.proofs.ScriptLaws.{unfit_no_script}
 use Rattle.grasp_script.proofs.SoFar.{nodes_unfit, nodes_missing, unsized_begun, sized_begun}
+use Rattle.grasp_script.proofs.Splitting.{behind_both}
 use Rattle.grasp_script.proofs.script.read_opening.Goals as goal
 
 pub returns-in_err-line-clause-none : goal.returns-in_err-line-clause-none
@@ -24,3 +25,7 @@ returns-in-Some-clause-some c = subst (λ (p : WorldPlan). SoFar c.args.text.now
 
 pub returns-in-None-clause-some : goal.returns-in-None-clause-some
 returns-in-None-clause-some c = subst (λ (p : WorldPlan). SoFar c.args.text.now c.in_ok-line.middle.now p 1) (sym c.bare_plan-in-None.ensures) (unsized_begun c.args.text.now c.in_ok-line.middle.now c.in_ok-line.line.now c.in_ok-nodes.nodes c.in_ok-line.ensures.line c.in_ok-nodes.ensures.found c.in_ok-nodes.ensures.good c.in-None.ensures.none)
+
+pub returns-in-Some-clause-behind : goal.returns-in-Some-clause-behind
+returns-in-Some-clause-behind c =
+    behind_both c.args.text.now c.in_ok-line.middle.now c.in-Some.rest.now c.in_ok-line.ensures.behind c.in-Some.ensures.behind

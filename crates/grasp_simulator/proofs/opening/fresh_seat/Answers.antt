@@ -1,4 +1,4 @@
-use Rattle.std.proofs.Common.{◌≡◌, false, sym, subst}
+use Rattle.std.proofs.Common.{◌≡◌, false, refl, sym, subst}
 use Rattle.grasp_model_node.specs.Node.{first_node}
 use Rattle.grasp_model_node.specs.Plan.{is_bad_plan}
 use Rattle.grasp_core.specs.Stands.{NodeStands}
@@ -11,7 +11,10 @@ open_core-requires c =
     subst (λ (n : NodePlan). is_bad_plan n ≡ false) (sym c.in_ok-opened.ensures) (script_nodes_open c.args.plan.now c.args.node c.requires.good c.requires.node)
 
 pub returns : goal.returns
-returns c = record {
-  core = subst (λ (n : NodePlan). NodeStands c.in_ok-core.core (first_node n)) c.in_ok-opened.ensures c.in_ok-core.ensures;
-  agent = c.in_ok-agent.ensures;
-}
+returns c = (
+  refl,
+  λ h is. record {
+    core = subst (λ (n : NodePlan). NodeStands c.in_ok-core.core (first_node n)) c.in_ok-opened.ensures c.in_ok-core.ensures;
+    agent = is;
+  },
+)

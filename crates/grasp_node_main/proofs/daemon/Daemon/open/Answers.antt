@@ -1,5 +1,5 @@
 use Rattle.grasp_node_main.specs.Crew.{crew_with}
-use Rattle.grasp_node_main.proofs.Opened.{seats_begin}
+use Rattle.grasp_node_main.proofs.Begins.{seats_begin}
 use Rattle.grasp_node_main.proofs.daemon.Daemon.open.Goals as goal
 
 pub returns : goal.returns

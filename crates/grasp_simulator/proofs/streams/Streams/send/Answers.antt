@@ -9,17 +9,17 @@ use Rattle.grasp_simulator.proofs.streams.Streams.send.Goals as goal
 pub returns-in_default-clause-stands : goal.returns-in_default-clause-stands
 returns-in_default-clause-stands c =
     let old = c.args.self.now in
-    let none : place_in old.list.items old.near.entries c.args.node c.args.number ≡ None = sym c.place_of.ensures.place ∙ c.in_default.is in
-    λ ts dials m is sent s. sent_nowhere old.list.items old.near.entries c.args.node c.args.number m ts dials none sent s
+    let none : place_in old.list.items old.near.entries c.args.life c.args.number ≡ None = sym c.place_of.ensures.place ∙ c.in_default.is in
+    λ begins ts dials m is sent s. sent_nowhere old.list.items old.near.entries begins c.args.life c.args.number m ts dials none sent s
 
 -- one has
 pub returns-clause-stands : goal.returns-clause-stands
 returns-clause-stands c =
     let old = c.args.self.now in
-    let at : place_in old.list.items old.near.entries c.args.node c.args.number ≡ Some (c.in-Some.place, c.in-Some.far) = sym c.place_of.ensures.place ∙ c.in-Some.is in
+    let at : place_in old.list.items old.near.entries c.args.life c.args.number ≡ Some (c.in-Some.place, c.in-Some.far) = sym c.place_of.ensures.place ∙ c.in-Some.is in
     let got : slice_get old.list.items c.in-Some.place ≡ Some c.in-Some-get_mut.stream.now = got_at old.list.items c.in-Some.place c.in-Some-get_mut.stream.now c.in-Some-get_mut.ensures.item.3.0 c.in-Some-get_mut.ensures.item.1 in
     on_ok_weaker c.send.result
-    (λ new ts dials m is sent s. sent_here old.list.items old.near.entries c.args.node c.args.number (c.in-Some.place, c.in-Some.far) c.in-Some-get_mut.stream.now c.send.new.self c.args.bytes.now m ts dials at got new is s)
+    (λ new begins ts dials m is sent s. sent_here old.list.items old.near.entries begins c.args.life c.args.number (c.in-Some.place, c.in-Some.far) c.in-Some-get_mut.stream.now c.send.new.self c.args.bytes.now m ts dials at got new is s)
     c.send.ensures.ok
 
 pub returns-clause-streams_stay : goal.returns-clause-streams_stay

@@ -1,6 +1,8 @@
-use Rattle.std.proofs.Common.{rules, ◌∙◌, sym, subst}
+use Rattle.grasp_model_network.specs.Plans.{IsNode}
+use Rattle.grasp_simulator.proofs.Presence.{life_read}
+use Rattle.std.proofs.Common.{rules, ◌∙◌, sym, subst, ◌≡◌, ℕ, length}
 use Rattle.grasp_cbor.proofs.Facts.Options.{on_err}
-use Rattle.grasp_simulator.specs.Arriving.{Opens}
+use Rattle.grasp_simulator.specs.Arriving.{Opens, is_taken}
 use Rattle.grasp_simulator.proofs.ArrivesGo.{arrival_starves, arrive_runs, no_arrival, unseated_arrival}
 use Rattle.grasp_simulator.proofs.world.World.arrive.Goals as goal
 
@@ -16,9 +18,15 @@ returns-then-not-has-clause-runs c =
 pub returns-clause-runs : goal.returns-clause-runs
 returns-clause-runs c =
     let self = c.args.self.now in
-    arrive_runs c.streams_are_ready.ensures self c.send_behind.new.self c.args.stream c.args.hold c.in-Some.waiting c.far_number-number.result c.address_of-from.result c.«open».new.self c.from.result c.index_mut.result.now c.step-reply.new.self c.step-reply.result
-    (sym c.waiting.ensures ∙ c.in-Some.is) c.far_number-number.ensures c.address_of-from.ensures (subst (Opens self.streams c.«open».new.self c.args.stream c.in-Some.waiting.node) c.is_taken.ensures c.«open».ensures) (search rules)
-    c.from.ensures c.index_mut.ensures.value c.step-reply.ensures (sym c.is_starved.ensures ∙ c.if-is_starved.false) c.in_ok-send_behind.ensures.sends
+    let own = c.index_mut.result.now in
+    let node = c.in-Some.waiting.node in
+    let there : IsNode (length self.seats.items) node = c.has.ensures.0 (search rules) in
+    let read : c.index.result.now.life ≡ c.index_mut.result.now.life = life_read self node c.from.result c.from-2.result c.index.result.now c.index_mut.result.now there c.from.ensures c.index.ensures c.from-2.ensures c.index_mut.ensures.value in
+    arrive_runs c.streams_are_ready.ensures self c.send_behind.new.self c.args.stream c.args.hold c.in-Some.waiting c.far_number-number.result c.address_of-from.result c.«open».new.self c.from-2.result own c.step-reply.new.self c.step-reply.result
+    (sym c.waiting.ensures ∙ c.in-Some.is) c.far_number-number.ensures c.address_of-from.ensures
+    (subst (λ (n : ℕ). Opens self.streams c.«open».new.self c.args.stream n (is_taken c.step-reply.result)) read (subst (Opens self.streams c.«open».new.self c.args.stream c.index.result.now.life) c.is_taken.ensures c.«open».ensures))
+    there c.step-reply.ensures.life c.from-2.ensures c.index_mut.ensures.value c.step-reply.ensures.steps (sym c.is_starved.ensures ∙ c.if-is_starved.false)
+    c.in_ok-send_behind.ensures.notes c.in_ok-send_behind.ensures.sends
 
 -- ---- want of memory
 

@@ -23,8 +23,8 @@ returns-clause-runs c =
     let parcel = c.in-Some.parcel.now in
     let there : IsNode (length c.args.self.now.seats.items) parcel.receiver = search rules in
     datagram_runs c.streams_are_ready.ensures c.args.self.now c.send_behind.new.self c.args.index c.args.hold parcel parcel.receiver parcel.link parcel.from c.in_ok-bytes.bytes c.from.result c.index_mut.result.now c.step-reply.new.self c.step-reply.result
-    (sym c.in-Some.ensures) refl refl refl c.in_ok-bytes.ensures c.are_octets.ensures there c.from.ensures c.index_mut.ensures.value c.step-reply.ensures
-    (sym c.is_starved.ensures ∙ c.if-is_starved.false) c.in_ok-send_behind.ensures.sends
+    (sym c.in-Some.ensures) refl refl refl c.in_ok-bytes.ensures c.are_octets.ensures there c.step-reply.ensures.life c.from.ensures c.index_mut.ensures.value c.step-reply.ensures.steps
+    (sym c.is_starved.ensures ∙ c.if-is_starved.false) c.in_ok-send_behind.ensures.notes c.in_ok-send_behind.ensures.sends
 
 -- ---- want of memory
 

@@ -54,7 +54,7 @@ returns-in-Api-clause-runs c = subst (λ (e : Event). IfOk c.call.result (λ rep
 
 pub returns-in_ok-send-in-Drain-clause-runs : goal.returns-in_ok-send-in-Drain-clause-runs
 returns-in_ok-send-in-Drain-clause-runs c =
-    subst (λ (e : Event). Runs c.args.self.now c.send.new.self e (report.Sent c.in_ok-send-in-Drain.field-0)) (sym c.in-Drain.is) (drain_runs c.args.self.now c.send.new.self c.in-Drain.node c.in-Drain.max c.in_ok-send-in-Drain.field-0 c.in_ok-send-in-Drain.ensures.sends)
+    subst (λ (e : Event). Runs c.args.self.now c.send.new.self e (report.Sent c.in_ok-send-in-Drain.field-0)) (sym c.in-Drain.is) (drain_runs c.args.self.now c.send.new.self c.in-Drain.node c.in-Drain.max c.in_ok-send-in-Drain.field-0 c.send.ensures.notes c.in_ok-send-in-Drain.ensures.sends)
 
 pub returns-in-Arrive-clause-runs : goal.returns-in-Arrive-clause-runs
 returns-in-Arrive-clause-runs c = subst (λ (e : Event). IfOk c.arrive.result (λ report. Runs c.args.self.now c.arrive.new.self e report)) (sym c.in-Arrive.is) c.arrive.ensures.runs

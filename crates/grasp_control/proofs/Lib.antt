@@ -1,0 +1,11 @@
+mod CallNames
+mod CallRequests
+mod Lines
+mod NameReaders
+mod Printable
+mod Pushed
+mod RequestLaws
+mod RequestStops
+mod SomeWords
+mod Stopping
+mod WholeWords

@@ -1,0 +1,4 @@
+mod Datagrams
+mod Discoveries
+mod Floods
+mod Relaying

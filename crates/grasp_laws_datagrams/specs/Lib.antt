@@ -1,0 +1,4 @@
+pub mod Datagrams
+pub mod Discoveries
+pub mod Floods
+pub mod Relaying

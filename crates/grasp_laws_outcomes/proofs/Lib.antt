@@ -1,0 +1,3 @@
+pub mod Events
+mod Fitting
+mod Scripts

@@ -1,0 +1,3 @@
+mod Finding
+mod Outcomes
+pub mod Receiving
