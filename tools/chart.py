@@ -1,11 +1,15 @@
 #!/usr/bin/env python3
 """Draws what `grasp_replay replay` wrote as a message sequence chart: SVG on standard output.
 
-usage: chart.py [--script SCRIPT] [--title TITLE] [REPORTS]
+usage: chart.py [--script SCRIPT] [--title TITLE] [--lines A-B] [--nodes A,B..] [--all] [REPORTS]
 
 REPORTS is a file of report lines, `LINE = ANSWER`; without it, or with -, standard input is read. The lines of a script up
-to `start` may stand in front of the reports, or --script names the script that was run. They tell the nodes and links.
-Without them the nodes are those that the reports name, and where these are at most two, one link joins nodes 1 and 2.
+to `start` may stand in front of the reports, or --script names the script that was run; without it a file NAME.script beside
+NAME.reports is taken. They tell the nodes and links. Without them the nodes are those that the reports name, and where these
+are at most two, one link joins nodes 1 and 2.
+
+--lines draws the reports from line A to line B alone, --nodes what has to do with these nodes alone; what happened before and
+elsewhere is reckoned all the same. Calls that are answered `notyet`, one behind the other, are one row, unless --all is given.
 
 Each node has a lifeline, and time goes downwards. Arrows are drawn where something is delivered: solid for a datagram and
 for bytes of a stream, dashed for the arrival of a stream that was dialled. A box is an agent's call with its answer, a
@@ -21,6 +25,7 @@ datagram or a stream whose sender can't be told so is written at the left and ge
 The exit status is 0 where a chart was written. It is 1 where the input is wrong: a line on standard error says how and in
 which line, counted from 1, and nothing is drawn. It is 2 for words that are none of these.
 """
+import os
 import pathlib
 import re
 import sys
@@ -34,6 +39,8 @@ from reports import NODE_ADDRESS, Network, Refused, Report, other, read_all  # n
 VERSION = "chart.py 0.1.0"
 
 # ---- What is drawn for each report.
+
+QUIET = 3           # so many calls that are answered `notyet`, one behind the other, are drawn as one
 
 
 @dataclass
@@ -181,6 +188,40 @@ def wrapped(text, width=40):
     return lines
 
 
+# ---- Which of it is drawn.
+
+
+def is_quiet(mark):
+    """Whether it tells nothing: a call that is to be made again."""
+    return mark.kind == "call" and mark.report.answer == ["notyet"] and not mark.under and not mark.report.hold
+
+
+def folded(marks):
+    """Runs of calls that tell nothing as one mark each."""
+    out, run = [], []
+    for mark in marks + [None]:
+        if mark is not None and is_quiet(mark):
+            run.append(mark)
+            continue
+        if len(run) < QUIET:
+            out += run
+        else:
+            nodes = sorted({quiet.at for quiet in run})
+            words = f"{len(run)} calls of node{'s' * (len(nodes) > 1)} {', '.join(str(node) for node in nodes)}: notyet"
+            lines = f"lines {run[0].report.line} to {run[-1].report.line}"
+            out.append(Mark(run[0].report, "quiet", run[0].at if len(nodes) == 1 else 0, 0, wrapped(words) + [lines], faint=True))
+        run = []
+        if mark is not None:
+            out.append(mark)
+    return out
+
+
+def chosen_marks(marks, lines, nodes):
+    """The marks of these lines that have to do with these nodes."""
+    return [mark for mark in marks if (lines is None or lines[0] <= mark.report.line <= lines[1])
+            and (nodes is None or mark.at in nodes or mark.start in nodes)]
+
+
 def left_over(network):
     """What was sent and never delivered, in words."""
     lines = []
@@ -220,23 +261,25 @@ def on_side(mark):
     return mark.kind == "clock" or not mark.at
 
 
-def places_of(count, marks):
+def places_of(nodes, marks):
     """The place of each lifeline from the left, with room for notes and for the words at arrows."""
-    half = {node: 60.0 for node in range(0, count + 2)}
+    half = {node: 60.0 for node in nodes}
+    order = {node: at for at, node in enumerate(nodes)}
     for mark in marks:
         if mark.at and not mark.start and not on_side(mark):
             half[mark.at] = max(half[mark.at], width_of(mark.lines + mark.under) / 2 + 12)
-    at = {1: SIDE + half[1] + width_of([part for mark in marks if on_side(mark) for part in mark.lines])}
-    for node in range(2, count + 1):
-        at[node] = at[node - 1] + half[node - 1] + half[node]
-    spans = sorted({(abs(mark.at - mark.start), min(mark.at, mark.start), width_of(mark.lines)) for mark in marks
+    at = {nodes[0]: SIDE + half[nodes[0]] + width_of([part for mark in marks if on_side(mark) for part in mark.lines])}
+    for before, node in zip(nodes, nodes[1:]):
+        at[node] = at[before] + half[before] + half[node]
+    spans = sorted({(abs(order[mark.at] - order[mark.start]), min(order[mark.at], order[mark.start]), width_of(mark.lines)) for mark in marks
                     if mark.at and mark.start and mark.at != mark.start})
     for span, first, width in spans:
-        missing = width + 40 - (at[first + span] - at[first])
-        for node in range(first + span, count + 1) if missing > 0 else ():
+        missing = width + 40 - (at[nodes[first + span]] - at[nodes[first]])
+        for node in nodes[first + span:] if missing > 0 else ():
             at[node] += missing
-    loops = [width_of(mark.lines) for mark in marks if mark.at == mark.start == count and mark.at]
-    return at, at[count] + max([half[count]] + [width + 50 for width in loops])
+    last = nodes[-1]
+    loops = [width_of(mark.lines) for mark in marks if mark.at == mark.start == last and mark.at]
+    return at, at[last] + max([half[last]] + [width + 50 for width in loops])
 
 
 def height_of(mark):
@@ -329,59 +372,142 @@ def heads(at, y):
     return out
 
 
-def draw(title, count, marks, over):
-    """The whole picture."""
-    at, right = places_of(count, marks)
-    rows, y = [], 84.0
+HEADS = 1400        # behind so many pixels the heads of the lifelines stand again
+
+
+def placed(marks):
+    """Each mark with its height from the top, the heights of the heads between them, and where the lifelines end."""
+    rows, repeated, y, last = [], [], 84.0, 44.0
     for mark in marks:
+        if y - last > HEADS:
+            repeated.append(y + 4)
+            last, y = y, y + 36
         rows.append((mark, y))
         y += height_of(mark)
-    foot = y + 8
+    return rows, repeated, y + 8
+
+
+def draw(title, nodes, marks, over):
+    """The whole picture."""
+    at, right = places_of(nodes, marks)
+    rows, repeated, foot = placed(marks)
     below = ["Sent and not delivered:"] + ["  " + words for words in over] if over else []
     width = max(right + 20, 40 + len(title) * 10, 40 + width_of(below))
     height = foot + 40 + LINE * len(below) + (10 if below else 0)
     out = [f'<svg xmlns="http://www.w3.org/2000/svg" role="img" width="{number(width)}" height="{number(height)}"'
            f' viewBox="0 0 {number(width)} {number(height)}">',
            f"<title>{escape(title)}</title>",
-           f"<desc>{count} nodes, {len(marks)} lines. Each node has a lifeline; time goes downwards.</desc>",
+           f"<desc>{len(nodes)} nodes, {len(marks)} lines. Each node has a lifeline; time goes downwards.</desc>",
            f"<style>{STYLE}</style>", '<rect width="100%" height="100%" fill="#fff"/>',
            text(20, 28, title, "start", "title")]
     out += [line(x, 68, x, foot, "life") for x in at.values()]
-    out += heads(at, 44) + heads(at, foot)
+    for y in [44, *repeated, foot]:
+        out += heads(at, y)
     for mark, y in rows:
         out += draw_mark(mark, y, at)
     out += texts(20, foot + 46, below)
     return "\n".join(out + ["</svg>"]) + "\n"
 
 
-def chart(octets, script=None, title=None):
+@dataclass
+class Choice:
+    """What is drawn: the first and the last line, the nodes, and whether calls that tell nothing are drawn one by one."""
+    lines: tuple = None
+    nodes: list = None
+    all: bool = False
+
+
+def drawn_nodes(count, marks, choice):
+    """The nodes that have a lifeline: all of them, or the chosen ones and those that their arrows lead to."""
+    if choice.nodes is None:
+        return list(range(1, count + 1))
+    if max(choice.nodes) > count:
+        raise Refused(f"there is no node {max(choice.nodes)}")
+    return sorted(set(choice.nodes) | {end for mark in marks for end in (mark.at, mark.start) if end})
+
+
+def chart(octets, script=None, title=None, choice=None):
     """The chart of these report lines, as SVG."""
+    choice = choice or Choice()
     count, links, reports = read_all(octets, script)
     network = Network(count, links)
-    marks = marks_of(network, reports)
-    return draw(title or f"Replay of {count} node{'s' * (count > 1)}", count, marks, left_over(network))
+    marks = chosen_marks(marks_of(network, reports), choice.lines, choice.nodes)
+    nodes = drawn_nodes(count, marks, choice)
+    over = left_over(network) if choice.lines is None and choice.nodes is None else []
+    return draw(title or f"Replay of {count} node{'s' * (count > 1)}", nodes, marks if choice.all else folded(marks), over)
 
 
 # ---- Words of the command line.
 
 
+@dataclass
+class Words:
+    script: str = None
+    title: str = None
+    choice: Choice = field(default_factory=Choice)
+    file: str = "-"
+
+
+def lines_chosen(word):
+    found = re.fullmatch("([1-9][0-9]{0,8})-([1-9][0-9]{0,8})?", word)
+    return (int(found.group(1)), int(found.group(2) or 999_999_999)) if found else None
+
+
+def nodes_chosen(word):
+    found = re.fullmatch("[1-9][0-9]?(,[1-9][0-9]?)*", word)
+    return sorted({int(part) for part in word.split(",")}) if found else None
+
+
 def words_of(words):
-    """The script, the title and the file, or None where the words are wrong."""
-    named, files = {"--script": None, "--title": None}, []
-    words = list(words)
+    """What the words ask for, or None where they are wrong."""
+    out, seen, words = Words(), set(), list(words)
     while words:
         word = words.pop(0)
-        if word in named and words and named[word] is None:
-            named[word] = words.pop(0)
-        elif word == "-" or not word.startswith("-"):
-            files.append(word)
+        if word in seen:
+            return None
+        if word in ("--script", "--title", "--lines", "--nodes"):
+            seen.add(word)
+            if not words:
+                return None
+            value = words.pop(0)
+            if word == "--script":
+                out.script = value
+            elif word == "--title":
+                out.title = value
+            elif word == "--lines":
+                out.choice.lines = lines_chosen(value)
+            else:
+                out.choice.nodes = nodes_chosen(value)
+            if word == "--lines" and out.choice.lines is None or word == "--nodes" and out.choice.nodes is None:
+                return None
+        elif word == "--all":
+            seen.add(word)
+            out.choice.all = True
+        elif (word == "-" or not word.startswith("-")) and "file" not in seen:
+            seen.add("file")
+            out.file = word
         else:
             return None
-    return None if len(files) > 1 else (named["--script"], named["--title"], files[0] if files else "-")
+    return out
+
+
+def script_beside(file):
+    """The script of NAME.reports, where it stands beside it."""
+    path = pathlib.Path(file)
+    beside = path.with_suffix(".script")
+    return str(beside) if path.suffix == ".reports" and beside.is_file() else None
+
+
+def picture_of(words):
+    """The chart that the words ask for."""
+    script = words.script or script_beside(words.file)
+    head = pathlib.Path(script).read_bytes() if script else None
+    octets = sys.stdin.buffer.read() if words.file == "-" else pathlib.Path(words.file).read_bytes()
+    return chart(octets, head, words.title, words.choice)
 
 
 def main(words):
-    if words == ["--help"]:
+    if words in (["--help"], ["-h"]):
         print(__doc__.strip())
         return 0
     if words == ["--version"]:
@@ -389,27 +515,23 @@ def main(words):
         return 0
     chosen = words_of(words)
     if chosen is None:
-        print("usage: chart.py [--script SCRIPT] [--title TITLE] [REPORTS]", file=sys.stderr)
+        print("usage: chart.py [--script SCRIPT] [--title TITLE] [--lines A-B] [--nodes A,B..] [--all] [REPORTS]; try --help", file=sys.stderr)
         return 2
-    script, title, file = chosen
     try:
-        head = None
-        if script is not None:
-            with open(script, "rb") as source:
-                head = source.read()
-        if file == "-":
-            octets = sys.stdin.buffer.read()
-        else:
-            with open(file, "rb") as source:
-                octets = source.read()
-        picture = chart(octets, head, title)
+        picture = picture_of(chosen)
     except Refused as why:
-        print(why, file=sys.stderr)
+        print(f"chart.py: {why}", file=sys.stderr)
         return 1
     except OSError as why:
-        print(f"{why.filename}: {why.strerror}", file=sys.stderr)
+        print(f"chart.py: {why.filename}: {why.strerror}", file=sys.stderr)
         return 1
-    sys.stdout.write(picture)
+    try:
+        sys.stdout.write(picture)
+        sys.stdout.flush()
+    except OSError as why:
+        print(f"chart.py: standard output: {why.strerror}", file=sys.stderr)
+        os.dup2(os.open(os.devnull, os.O_WRONLY), 1)
+        return 1
     return 0
 
 

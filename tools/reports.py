@@ -168,9 +168,10 @@ def lines_of(octets, where=""):
 
 
 def read_all(octets, script):
-    """The nodes, the links (None where they aren't known) and the reports."""
+    """The nodes, the links (None where they aren't known) and the reports, numbered as the lines of their script where that is known."""
     lines = lines_of(octets)
     nodes, links, used = read_head(lines)
+    before = 0
     if script is not None:
         of_script = read_head(lines_of(script, " of the script"), " of the script")
         if of_script[0] == 0:
@@ -178,13 +179,16 @@ def read_all(octets, script):
         if used and (nodes, links) != of_script[:2]:
             raise Refused("another header in line 1")
         nodes, links = of_script[:2]
+        before = of_script[2] if not used else 0
     reports = [read_report(at, text) for at, text in enumerate(lines[used:], used + 1)]
+    for report in reports:
+        report.line += before
     if not reports and nodes == 0:
         raise Refused("no report in line 1")
     if nodes:
         for report in reports:
             if max(named_nodes(report)) > nodes:
-                raise Refused(f"unknown node in line {report.line}")
+                raise Refused(f"unknown node in line {report.line - before}")
         return nodes, links, reports
     nodes = max(2, max(max(named_nodes(report)) for report in reports))
     return nodes, [[1, 2]] if nodes == 2 else None, reports

@@ -369,6 +369,63 @@ class Pictures(unittest.TestCase):
             picture = chart.chart(reports, head.encode() + b"start\n")
             self.assertNotIn('class="untold', picture)
 
+    def test_lines_of_the_script(self):
+        """Where the script is known, a row has the number of its line there."""
+        head = b"nodes 2\nlink 1 2\nstart\n"
+        numbers = [group.get("data-line") for group in groups_of("arrive 1 = nothing\narrive 2 = nothing\n", head)]
+        self.assertEqual(numbers, ["4", "5"])
+        self.assertEqual([group.get("data-line") for group in groups_of(head.decode() + "arrive 1 = nothing\n")], ["4"])
+
+
+class Choices(unittest.TestCase):
+    def drawn(self, reports, **choice):
+        picture = chart.chart(written_out(reports), None, None, chart.Choice(**choice))
+        return [group for group in tree.fromstring(picture).iter(GROUP) if group.get("data-line")]
+
+    def test_lines(self):
+        chosen = self.drawn(FLOOD, lines=(9, 12), all=True)
+        self.assertEqual([group.get("data-line") for group in chosen], ["9", "10", "11", "12"])
+        every = self.drawn(FLOOD, all=True)
+        self.assertEqual([group.get("data-words") for group in chosen], [group.get("data-words") for group in every if 9 <= int(group.get("data-line")) <= 12])
+
+    def test_nodes(self):
+        every, chosen = self.drawn(RING, all=True), self.drawn(RING, nodes=[2], all=True)
+        wanted = [group.get("data-line") for group in every if "2" in (group.get("data-node"), group.get("data-to"), group.get("data-from"))]
+        self.assertEqual([group.get("data-line") for group in chosen], wanted)
+        self.assertLess(len(chosen), len(every))
+        with self.assertRaises(chart.Refused):
+            self.drawn(RING, nodes=[64])
+
+    def test_calls_that_tell_nothing(self):
+        polls = "".join("api 1 2 poll 1 = notyet\n" for _ in range(9))
+        reports = TWO + AGENTS + polls + "clock 1 7 = 7\n" + 2 * "api 2 2 listen 'x = notyet\n"
+        self.assertEqual(len(self.drawn(reports, all=True)), 17)
+        shown = self.drawn(reports)
+        self.assertEqual(len(shown), 9)
+        self.assertEqual(shown[5].get("data-words"), "9 calls of node 1: notyet | lines 9 to 17")
+
+    def test_heads_again(self):
+        picture = chart.chart((TWO + 600 * "state 1 = held reserved doubt\n").encode())
+        heights = [float(found) for found in re.findall('class="head"', picture) and re.findall(r'y="([0-9.]+)" text-anchor="middle" class="head"', picture)]
+        self.assertTrue(all(after - before < 1500 for before, after in zip(heights, heights[1:])))
+        self.assertGreater(len(heights), 10)
+
+    def test_script_beside(self):
+        path = HERE.parent / "examples" / "flood.reports"
+        with_script = chart.chart(path.read_bytes(), path.with_suffix(".script").read_bytes())
+        done = subprocess.run([sys.executable, str(HERE / "chart.py"), str(path)], capture_output=True, check=True)
+        self.assertEqual(done.stdout.decode(), with_script)
+
+    def test_words(self):
+        self.assertEqual(chart.words_of(["--lines", "3-", "--nodes", "4,2", "--all"]).choice, chart.Choice((3, 999_999_999), [2, 4], True))
+        for words in (["--lines", "3"], ["--lines", "0-4"], ["--nodes", "2,"], ["--nodes"], ["--all", "--all"], ["--lines", "1-2", "--lines", "1-2"]):
+            self.assertIsNone(chart.words_of(words), words)
+
+    def test_no_room(self):
+        with open("/dev/full", "w") as full:
+            done = subprocess.run([sys.executable, str(HERE / "chart.py"), str(HERE.parent / "examples" / "flood.reports")], stdout=full, stderr=subprocess.PIPE)
+        self.assertEqual((done.returncode, done.stderr.decode()), (1, "chart.py: standard output: No space left on device\n"))
+
 
 class Refusals(unittest.TestCase):
     def refuses(self, octets, words, script=None):
@@ -418,7 +475,7 @@ class Refusals(unittest.TestCase):
         self.assertIn("usage: chart.py", text)
         self.assertEqual(self.run_tool("--scale", "3")[:2], (2, ""))
         self.assertEqual(self.run_tool("a", "b")[:2], (2, ""))
-        self.assertEqual(self.run_tool(given=b"arrive 1 = token\n"), (1, "", "bad answer in line 1\n"))
+        self.assertEqual(self.run_tool(given=b"arrive 1 = token\n"), (1, "", "chart.py: bad answer in line 1\n"))
         self.assertEqual(self.run_tool("/no/such/file")[:2], (1, ""))
         status, text, errors = self.run_tool("--title", "T", "-", given=written_out(WAITS))
         self.assertEqual((status, errors), (0, ""))
