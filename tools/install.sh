@@ -1,5 +1,5 @@
 #!/bin/sh
-# Installs grasp_replay and grasp_node with their manual pages and the unit for systemd. --help says how.
+# Installs grasp_replay and grasp_node with their manual pages and the units for systemd. --help says how.
 set -eu
 umask 022
 
@@ -10,8 +10,9 @@ usage: tools/install.sh [--build] [--programs FOLDER] [PREFIX]
 Installs these files under PREFIX, which is /usr/local where it is left out:
 
   bin/grasp_replay  bin/grasp_node
-  share/man/man1/grasp_replay.1  share/man/man1/grasp_node.1  share/man/man5/grasp_node.toml.5
-  lib/systemd/system/grasp_node.service, which starts PREFIX/bin/grasp_node
+  share/man/man1/grasp_replay.1  share/man/man1/grasp_node.1  and the other pages of docs/man, each below its section
+  lib/systemd/system/grasp_node.service, which starts PREFIX/bin/grasp_node for a number of turns
+  lib/systemd/system/grasp_node_serve.service, which starts it until it is stopped
 
 The programs are those that the gate, `rt ci`, proved and left in crates/grasp_replay/out and crates/grasp_node/out. Where
 one of them is missing, or is older than a source, nothing is installed.
@@ -20,9 +21,9 @@ one of them is missing, or is older than a source, nothing is installed.
                      which takes long, and needs the Rattle kit's `rt` on the path
   --programs FOLDER  takes the two programs from FOLDER in place of those of the gate, whatever they are
 
-With DESTDIR in the environment all files go below that folder, and the unit still names PREFIX. The unit reads its
-configuration from /etc/grasp_node.toml and keeps its mark in /var/lib/grasp_node, whatever PREFIX is. Nothing is enabled or
-started. What is installed is printed, a line a file.
+With DESTDIR in the environment all files go below that folder, and the units still name PREFIX. Both units read
+their configuration from /etc/grasp_node.toml; the first keeps its mark in /var/lib/grasp_node and the second has its control
+socket in /run/grasp_node, whatever PREFIX is. Nothing is enabled or started. What is installed is printed, a line a file.
 TEXT
 }
 
@@ -78,7 +79,7 @@ case $prefix in
 *) wrong_words "PREFIX is $prefix, and has to begin with /" ;;
 esac
 case $prefix in
-*[!A-Za-z0-9/._+-]*) wrong_words "PREFIX is $prefix, and may have letters, digits and / . _ + - alone, since the unit names it" ;;
+*[!A-Za-z0-9/._+-]*) wrong_words "PREFIX is $prefix, and may have letters, digits and / . _ + - alone, since the units name it" ;;
 esac
 [ "$prefix" != / ] || prefix=
 [ "$build" = no ] || [ -z "$programs" ] || wrong_words "--build and --programs don't go together"
@@ -125,12 +126,12 @@ else
     replay=$top/crates/grasp_replay/out/grasp_replay
     node=$top/crates/grasp_node/out/grasp_node
 fi
-unit=contrib/systemd/grasp_node.service
+units="grasp_node.service grasp_node_serve.service"
 for program in "$replay" "$node"; do
     [ -f "$program" ] || fail "$program: it isn't there"
     [ -x "$program" ] || fail "$program: it can't be run"
 done
-for file in docs/man/grasp_replay.1 docs/man/grasp_node.1 docs/man/grasp_node.toml.5 "$unit"; do
+for file in docs/man/*.[1-9] contrib/systemd/*.service; do
     [ -r "$file" ] || fail "$top/$file: it can't be read"
 done
 
@@ -160,24 +161,28 @@ put() {
 half=
 work=$(mktemp -d) || fail "${TMPDIR:-/tmp}: no folder can be made in it"
 trap 'rm -rf "$work" ${half:+"$half"}' EXIT
-sed "s|/usr/local/bin/|$prefix/bin/|" "$unit" >"$work/unit"
-grep -q "^ExecStart=$prefix/bin/grasp_node run " "$work/unit" || fail "$top/$unit: it names no program of /usr/local/bin"
+for unit in $units; do
+    sed "s|/usr/local/bin/|$prefix/bin/|g" "contrib/systemd/$unit" >"$work/$unit"
+    grep -q "^ExecStart=$prefix/bin/grasp_node " "$work/$unit" || fail "$top/contrib/systemd/$unit: it names no program of /usr/local/bin"
+done
 
 put "$replay" bin grasp_replay 755
 put "$node" bin grasp_node 755
-put docs/man/grasp_replay.1 share/man/man1 grasp_replay.1 644
-put docs/man/grasp_node.1 share/man/man1 grasp_node.1 644
-put docs/man/grasp_node.toml.5 share/man/man5 grasp_node.toml.5 644
-put "$work/unit" lib/systemd/system grasp_node.service 644
+for page in docs/man/*.[1-9]; do
+    put "$page" "share/man/man${page##*.}" "$(basename "$page")" 644
+done
+for unit in $units; do
+    put "$work/$unit" lib/systemd/system "$unit" 644
+done
 
 # ---- what the user should know
 
 case $prefix in
 /usr | /usr/local | '') ;;
-*) echo "install.sh: note: systemd doesn't look for units in $prefix; \`systemctl link $prefix/lib/systemd/system/grasp_node.service\` names this one" >&2 ;;
+*) echo "install.sh: note: systemd doesn't look for units in $prefix; \`systemctl link $prefix/lib/systemd/system/UNIT\` names one of these" >&2 ;;
 esac
 case $prefix/ in
 /home/* | /root/* | /run/user/* | /tmp/* | /var/tmp/*)
-    echo "install.sh: note: the unit can't run a program below $prefix, which it hides from it (ProtectHome, PrivateTmp)" >&2
+    echo "install.sh: note: the units can't run a program below $prefix, which they hide from it (ProtectHome, PrivateTmp)" >&2
     ;;
 esac

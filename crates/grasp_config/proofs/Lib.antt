@@ -7,3 +7,11 @@ pub mod OneConfig
 pub mod Ranges
 pub mod RootsDecided
 pub mod SomeConfig
+pub mod NodeParts
+pub mod FirstOf
+pub mod OneServe
+pub mod ServeGood
+pub mod ServeTold
+pub mod ServeRanges
+pub mod PlacesTold
+pub mod SomeServe

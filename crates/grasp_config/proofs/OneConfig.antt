@@ -29,7 +29,7 @@ one_config_of table a b x y = λ i. record {
 }
 
 -- a text is TOML for one table
-same_table : (text : List ℕ) (s t : Members) → IsTomlOf text s → IsTomlOf text t → s ≡ t
+pub same_table : (text : List ℕ) (s t : Members) → IsTomlOf text s → IsTomlOf text t → s ≡ t
 same_table text s t x y = same_Some s t (sym x.parsed ∙ y.parsed)
 
 pub one_config : (text : List ℕ) (a b : NodeConfig) → HasConfig text a → HasConfig text b → a ≡ b
@@ -50,7 +50,7 @@ key_is_good table config Reader is = is_read _ config.readers is.readers
 key_is_good table config Unknown is = λ bad. let e : true ≡ false = sym is.known ∙ bad in cc
 key_is_good table config Toml is = λ bad. bad
 
-no_first : (table : Members) (config : NodeConfig) (keys : List ConfigKey) (key : ConfigKey) → IsConfigOf table config → ¬ FirstBadOf table keys key
+pub no_first : (table : Members) (config : NodeConfig) (keys : List ConfigKey) (key : ConfigKey) → IsConfigOf table config → ¬ FirstBadOf table keys key
 no_first table config [] key is = λ bad. bad
 no_first table config (first ∷ others) key is = λ bad. elim bad [
   | inl here ↦ key_is_good table config first is here.0
@@ -58,7 +58,7 @@ no_first table config (first ∷ others) key is = λ bad. elim bad [
 ]
 
 -- the first bad key is bad
-first_is_bad : (table : Members) (keys : List ConfigKey) (key : ConfigKey) → FirstBadOf table keys key → IsBadKey table key
+pub first_is_bad : (table : Members) (keys : List ConfigKey) (key : ConfigKey) → FirstBadOf table keys key → IsBadKey table key
 first_is_bad table [] key bad = absurd bad
 first_is_bad table (first ∷ others) key (inl bad) = subst (IsBadKey table) (sym bad.1) bad.0
 first_is_bad table (first ∷ others) key (inr more) = first_is_bad table others key more.1

@@ -24,7 +24,7 @@ pub record ReadOf {A B : Type 0} (found : Option A) (read : A → Option B) (b :
   pub was : found ≡ Some first
   pub gives : read first ≡ Some b
 
-read_of : {A B : Type 0} (found : Option A) (read : A → Option B) (b : B) → (found >>= read) ≡ Some b → ReadOf found read b
+pub read_of : {A B : Type 0} (found : Option A) (read : A → Option B) (b : B) → (found >>= read) ≡ Some b → ReadOf found read b
 read_of None read b is = absurd (let e : None ≡ Some b = is in cc)
 read_of (Some a) read b is = record { first = a; was = refl; gives = is }
 
@@ -39,13 +39,13 @@ whole_range : (least most : ℕ) (z : ℤ) (n : ℕ) → whole_in least most z �
 whole_range least most (pos m) n is = number_by least most m n (nat_le least m && nat_le m most) refl is
 whole_range least most (negsuc m) n is = absurd (let e : None ≡ Some n = is in cc)
 
-number_range : (least most : ℕ) (value : Data) (n : ℕ) → number_in least most value ≡ Some n → (least ≤ n) × (n ≤ most)
+pub number_range : (least most : ℕ) (value : Data) (n : ℕ) → number_in least most value ≡ Some n → (least ≤ n) × (n ≤ most)
 number_range least most value n is = let r = read_of (as_integer value) (whole_in least most) n is in whole_range least most r.first n r.gives
 
 at_range : (least most : ℕ) (key : List ℕ) (table : Members) (n : ℕ) → number_at least most key table ≡ Some n → (least ≤ n) × (n ≤ most)
 at_range least most key table n is = let r = read_of (get_member key table) (number_in least most) n is in number_range least most r.first n r.gives
 
-absent_range : (absent least most : ℕ) (found : Option Data) (n : ℕ) → least ≤ absent → absent ≤ most → or_absent absent (number_in least most) found ≡ Some n → (least ≤ n) × (n ≤ most)
+pub absent_range : (absent least most : ℕ) (found : Option Data) (n : ℕ) → least ≤ absent → absent ≤ most → or_absent absent (number_in least most) found ≡ Some n → (least ≤ n) × (n ≤ most)
 absent_range absent least most None n low high is = subst (λ (x : ℕ). (least ≤ x) × (x ≤ most)) (same_Some absent n is) (low, high)
 absent_range absent least most (Some value) n low high is = number_range least most value n is
 
@@ -61,7 +61,7 @@ each_is P read all (item value items) list is =
     let s = read_of (each read items) (λ rest. Some (r.first ∷ rest)) list r.gives in
     subst (AllByRecursion P) (same_Some (r.first ∷ s.first) list s.gives) (all value r.first r.was, each_is P read all items s.first s.was)
 
-list_is : {A : Type 0} (P : A → Type 0) (read : Data → Option A) → ((value : Data) (a : A) → read value ≡ Some a → P a) → (value : Data) (list : List A) → list_of read value ≡ Some list → AllByRecursion P list
+pub list_is : {A : Type 0} (P : A → Type 0) (read : Data → Option A) → ((value : Data) (a : A) → read value ≡ Some a → P a) → (value : Data) (list : List A) → list_of read value ≡ Some list → AllByRecursion P list
 list_is P read all value list is = let r = read_of (as_array value) (each read) list is in each_is P read all r.first list r.gives
 
 absent_is : {A : Type 0} (P : A → Type 0) (read : Data → Option A) → ((value : Data) (a : A) → read value ≡ Some a → P a) → (found : Option Data) (list : List A) → or_absent [] (list_of read) found ≡ Some list → AllByRecursion P list

@@ -14,11 +14,11 @@ use Rattle.grasp_config.proofs.FirstBad.{AreGood}
 use Rattle.grasp_config.proofs.OneConfig.{bad_text}
 use Rattle.grasp_config.proofs.RootsDecided.{Decided, roots_decided}
 
-none_decided : {A : Type 0} (found : Option A) → Decided (found ≡ None)
+pub none_decided : {A : Type 0} (found : Option A) → Decided (found ≡ None)
 none_decided None = inl refl
 none_decided (Some a) = inr (λ e. cc)
 
-false_decided : (b : Bool) → Decided (b ≡ false)
+pub false_decided : (b : Bool) → Decided (b ≡ false)
 false_decided false = inl refl
 false_decided true = inr (λ e. cc)
 
@@ -54,7 +54,7 @@ first_or_good table (key ∷ keys) = elim (key_decided table key) [
   ]
 ]
 
-found_one : {A : Type 0} (found : Option A) → ¬ (found ≡ None) → (a : A) × (found ≡ Some a)
+pub found_one : {A : Type 0} (found : Option A) → ¬ (found ≡ None) → (a : A) × (found ≡ Some a)
 found_one None some = absurd (some refl)
 found_one (Some a) some = (a, refl)
 
@@ -65,7 +65,7 @@ found_roots (Some roots) good = elim (roots_decided roots) [
   | inr bad ↦ absurd (good bad)
 ]
 
-is_true : (b : Bool) → ¬ (b ≡ false) → b ≡ true
+pub is_true : (b : Bool) → ¬ (b ≡ false) → b ≡ true
 is_true true h = refl
 is_true false h = absurd (h refl)
 
@@ -86,13 +86,13 @@ good_config table (address, (listen, (turns, (wait, (size, (roots, (links, (want
       record { address = a.1; listen = l.1; turns = t.1; wait = w.1; size = s.1; roots = r.1.0; opens = r.1.1; links = n.1; wants = p.1; beacons = b.1; readers = d.1; known = is_true (is_known table) known },
     )
 
-config_or_first : (table : Members) → ((config : NodeConfig) × IsConfigOf table config) ⊎ ((key : ConfigKey) × IsFirstBad table key)
+pub config_or_first : (table : Members) → ((config : NodeConfig) × IsConfigOf table config) ⊎ ((key : ConfigKey) × IsFirstBad table key)
 config_or_first table = elim (first_or_good table key_order) [
   | inl first ↦ inr first
   | inr good ↦ inl (good_config table good)
 ]
 
-utf8_decided : (text : List ℕ) (b : Bool) → is_utf8 text ≡ b → Decided (IsUtf8 text)
+pub utf8_decided : (text : List ℕ) (b : Bool) → is_utf8 text ≡ b → Decided (IsUtf8 text)
 utf8_decided text true is = inl (IsUtf8-from_is_utf8 text is)
 utf8_decided text false is = inr (λ utf8. let e : true ≡ false = sym (is_utf8-from_IsUtf8 text utf8) ∙ is in cc)
 

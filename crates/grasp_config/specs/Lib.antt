@@ -8,3 +8,11 @@ pub mod Answered
 pub mod Groups
 pub mod Laws
 pub mod Levels
+pub mod NodePart
+pub mod Floodable
+pub mod ServeKeys
+pub mod Serve
+pub mod ServeFaults
+pub mod ServeGroups
+pub mod ServeLaws
+pub mod Places

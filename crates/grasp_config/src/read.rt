@@ -71,7 +71,7 @@ struct Agents {
 }
 
 /// The configuration that a table is.
-fn config_of(alloc: Global, table: &Table) -> Result<NodeConfig, ConfigFault>
+pub(crate) fn config_of(alloc: Global, table: &Table) -> Result<NodeConfig, ConfigFault>
     ensures found { IfOk result (λ config. IsConfigOf (table_view table.now) config) }
     ensures first { IfBadConfig result (λ key. IsFirstBad (table_view table.now) key) }
 {

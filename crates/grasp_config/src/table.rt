@@ -26,6 +26,8 @@ pub(crate) enum Part {
     Beacon,
     /// A value that is read.
     Reader,
+    /// How a node serves.
+    Serve,
 }
 
 /// The value at a key, or `None` where the table doesn't have it.
@@ -82,7 +84,7 @@ pub(crate) fn number_at(table: &Table, key: &str, least: u64, most: u64) -> Opti
 }
 
 /// Whether the key is one of those of this table.
-fn is_key(part: Part, key: &str) -> bool
+pub(crate) fn is_key(part: Part, key: &str) -> bool
     ensures { result ≡ list_any (bytes_eq key.now) (keys_of part) }
 {
     match part {
@@ -92,6 +94,7 @@ fn is_key(part: Part, key: &str) -> bool
         Part::Want => key == "length" || key == "longest" || key == "peer",
         Part::Beacon => key == "name" || key == "value" || key == "ttl" || key == "loops",
         Part::Reader => key == "name",
+        Part::Serve => is_serve_key(key),
     }
 }
 
@@ -102,6 +105,16 @@ fn is_top_key(key: &str) -> bool
     let basic = key == "address" || key == "listen" || key == "turns" || key == "wait";
     let sized = key == "size" || key == "roots" || key == "link";
     basic || sized || key == "want" || key == "beacon" || key == "reader"
+}
+
+/// Whether the key is one of those of the table `serve`.
+fn is_serve_key(key: &str) -> bool
+    ensures { result ≡ list_any (bytes_eq key.now) (keys_of Part.Serve) }
+{
+    let door = key == "control" || key == "guests" || key == "mode" || key == "store";
+    let stream = key == "forget" || key == "locator" || key == "allow" || key == "streams";
+    let pace = key == "silence" || key == "retry" || key == "retry_most" || key == "every";
+    door || stream || pace || key == "tick" || key == "visitors" || key == "log" || key == "name"
 }
 
 /// Whether the table has no other keys than its own.

@@ -15,7 +15,7 @@ fn parted_at_colon(text: &str) -> Option<(&str, &str)>
 }
 
 /// What stands before the first slash, and behind it, or `None`.
-fn parted_at_slash(text: &str) -> Option<(&str, &str)>
+pub(crate) fn parted_at_slash(text: &str) -> Option<(&str, &str)>
     ensures { option_map (λ x. (x.0.now, x.1.now)) result ≡ parted 47 text.now }
 {
     text.split_once('/')

@@ -13,8 +13,6 @@ mod names;
 mod orders;
 mod reading;
 mod request;
-#[cfg(test)]
-mod tests;
 
 pub use answers::{PlainAnswer, goes_on, push_echo, push_plain, push_read, push_version};
 pub use asking::push_request;

@@ -14,6 +14,3 @@ pub use counters::{CountedDesk, DeskCounters};
 pub use desk::{Desk, DeskPlan, Told, Visiting};
 pub use memory_desk::{MemDesk, Visit};
 pub use mio_desk::{DeskFault, MioDesk};
-
-#[cfg(test)]
-mod tests;

@@ -16,6 +16,3 @@ pub use laws::{
 pub use left::Left;
 pub use list::DiskList;
 pub use memory::MemDisk;
-
-#[cfg(test)]
-mod tests;

@@ -43,13 +43,10 @@ pub use patient::PatientSink;
 pub use reading::{ReadError, Source, read_all};
 pub use sockets::MioLinks;
 pub use stamp::Stamp;
-pub use standard::{StdSink, StdSource};
+pub use standard::{StdSink, StdSource, read_some, write_some};
 pub use writing::{Sink, write_all};
 
 /// A read or a write failed, or the links could not be opened. The count of faults of the source, the sink or the links rose in
 /// that call.
 #[derive(Clone, Copy, Debug, PartialEq, Eq)]
 pub struct Failed;
-
-#[cfg(test)]
-mod tests;

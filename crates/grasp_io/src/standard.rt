@@ -65,8 +65,8 @@ impl<W: Write> Sink for StdSink<W> {
     }
 }
 
-// One read. A read that a signal interrupted is made again.
-pub(crate) fn read_some<R: Read>(reader: &mut R, into: &mut [u8]) -> Result<usize, Failed>
+/// One read. A read that a signal interrupted is made again.
+pub fn read_some<R: Read>(reader: &mut R, into: &mut [u8]) -> Result<usize, Failed>
     ensures { IfOk result (λ n. n ≤ length into.new) }
 {
     for _ in 0..u64::MAX {
@@ -82,8 +82,8 @@ pub(crate) fn read_some<R: Read>(reader: &mut R, into: &mut [u8]) -> Result<usiz
     Err(Failed)
 }
 
-// One write. A write that a signal interrupted is made again.
-pub(crate) fn write_some<W: Write>(writer: &mut W, piece: &[u8]) -> Result<usize, Failed>
+/// One write. A write that a signal interrupted is made again.
+pub fn write_some<W: Write>(writer: &mut W, piece: &[u8]) -> Result<usize, Failed>
     ensures { IfOk result (λ n. n ≤ length piece.now) }
 {
     for _ in 0..u64::MAX {
@@ -97,53 +97,4 @@ pub(crate) fn write_some<W: Write>(writer: &mut W, piece: &[u8]) -> Result<usize
         }
     }
     Err(Failed)
-}
-
-#[cfg(test)]
-mod tests {
-    use super::*;
-    use std::io;
-
-    // A stream whose first call a signal interrupts, and whose third fails.
-    #[derive(Drop)]
-    struct Unsteady(u8);
-
-    impl Unsteady {
-        fn turn(&mut self, len: usize) -> io::Result<usize>
-            ensures { IfOk result (λ n. n ≤ len) }
-        {
-            self.0 = self.0.saturating_add(1);
-            match self.0 {
-                1 => Err(io::Error::from(ErrorKind::Interrupted)),
-                3 => Err(io::Error::from(ErrorKind::BrokenPipe)),
-                _ => Ok(len),
-            }
-        }
-    }
-
-    impl Read for Unsteady {
-        fn read(&mut self, buf: &mut [u8]) -> io::Result<usize> {
-            self.turn(buf.len())
-        }
-    }
-
-    impl Write for Unsteady {
-        fn write(&mut self, buf: &[u8]) -> io::Result<usize> {
-            self.turn(buf.len())
-        }
-
-        fn flush(&mut self) -> io::Result<()> {
-            Ok(())
-        }
-    }
-
-    #[test]
-    fn an_interrupted_call_is_made_again(rt: HostRuntime) {
-        let mut stream = Unsteady(0);
-        assert_eq!(rt; read_some(&mut stream, &mut [0; 3]), Ok(3));
-        assert_eq!(rt; read_some(&mut stream, &mut [0; 3]), Err(Failed));
-        let mut stream = Unsteady(0);
-        assert_eq!(rt; write_some(&mut stream, b"abc"), Ok(3));
-        assert_eq!(rt; write_some(&mut stream, b"abc"), Err(Failed));
-    }
 }

@@ -4,9 +4,10 @@ use Rattle.std.specs.Prelude.{IfOk}
 use Rattle.std.proofs.lemmas.Bool.Decides.{eqb_tells}
 use Rattle.grasp_cbor.specs.declared.memory.OutOfMemory.{OutOfMemory}
 use Rattle.std.proofs.lemmas.Option.{slice_get_within, slice_get_cases}
-use Rattle.grasp_model_node.specs.Node.{first_node}
+use Rattle.grasp_model_node.specs.Node.{NodeState, first_node}
 use Rattle.grasp_node_main.specs.Crew.{crew_of, crew_after, AgentsMade, AllMade}
-use Rattle.grasp_shared.specs.History.{History, own_calls}
+use Rattle.grasp_shared.specs.History.{History, IsLegalHistory, own_calls}
+use Rattle.grasp_node_main.specs.Openings.{openings}
 use Rattle.grasp_node_main.specs.Runs.{Ran, RunsNode, workers_of, AllGoing}
 use Rattle.grasp_node_main.specs.Seats.{SeatStands, SeatsStand}
 use Rattle.grasp_node_main.specs.Steps.{RanSeats}
@@ -50,8 +51,10 @@ left c (w ∷ crew) (s ∷ seats) history same h =
     ∙ ap (λ l. after_calls w (own_calls c history) ∷ l) (left (c + 1) crew seats history (omega (arith, same)) (λ place k v t e atv att. h (suc place) k v t (omega (arith, e)) atv att))
 
 -- with its agents
-pub ran_going : (plan : DaemonPlan) (old new : Told) (seats : List SeatedAgent) → RanSeats (first_node plan.node) (crew_of plan) plan.wait plan.turns old seats new → AllGoing seats → Ran plan old new (Some (workers_of seats))
-ran_going plan old new seats r going = record {
+pub ran_going : (plan : DaemonPlan) (opened : NodeState) (old new : Told) (seats : List SeatedAgent) → IsLegalHistory (first_node plan.node) openings opened → RanSeats opened (crew_of plan) plan.wait plan.turns old seats new → AllGoing seats → Ran plan old new (Some (workers_of seats))
+ran_going plan opened old new seats o r going = record {
+  opened = opened;
+  opening = o;
   history = r.history;
   to = r.to;
   turns = r.turns;
@@ -69,8 +72,10 @@ ran_going plan old new seats r going = record {
 }
 
 -- without them
-pub ran_somehow : (plan : DaemonPlan) (old new : Told) (seats : List SeatedAgent) → RanSeats (first_node plan.node) (crew_of plan) plan.wait plan.turns old seats new → Ran plan old new None
-ran_somehow plan old new seats r = record {
+pub ran_somehow : (plan : DaemonPlan) (opened : NodeState) (old new : Told) (seats : List SeatedAgent) → IsLegalHistory (first_node plan.node) openings opened → RanSeats opened (crew_of plan) plan.wait plan.turns old seats new → Ran plan old new None
+ran_somehow plan opened old new seats o r = record {
+  opened = opened;
+  opening = o;
   history = r.history;
   to = r.to;
   turns = r.turns;
@@ -85,10 +90,10 @@ ran_somehow plan old new seats r = record {
 }
 
 -- what a run answers
-pub runs : (plan : DaemonPlan) (old new : Told) (d : Daemon) (result : Result Daemon OutOfMemory) → RanSeats (first_node plan.node) (crew_of plan) plan.wait plan.turns old d.seats.items new
+pub runs : (plan : DaemonPlan) (opened : NodeState) (old new : Told) (d : Daemon) (result : Result Daemon OutOfMemory) → IsLegalHistory (first_node plan.node) openings opened → RanSeats opened (crew_of plan) plan.wait plan.turns old d.seats.items new
     → IfOk result (λ r. r ≡ d) → IfOk result (λ r. AllGoing d.seats.items) → RunsNode plan old result new
-runs plan old new d (Ok r) k same going = subst (λ (x : Daemon). Ran plan old new (Some (workers_of x.seats.items))) (sym same) (ran_going plan old new d.seats.items k going)
-runs plan old new d (Err fault) k same going = inr (ran_somehow plan old new d.seats.items k)
+runs plan opened old new d (Ok r) o k same going = subst (λ (x : Daemon). Ran plan old new (Some (workers_of x.seats.items))) (sym same) (ran_going plan opened old new d.seats.items o k going)
+runs plan opened old new d (Err fault) o k same going = inr (ran_somehow plan opened old new d.seats.items o k)
 
 -- one more that hasn't stopped
 pub going_more : (xs : List SeatedAgent) (i : ℕ) (x : SeatedAgent) → slice_get xs i ≡ Some x → x.stopped ≡ false → ((place : ℕ) (s : SeatedAgent) → place < i → slice_get xs place ≡ Some s → s.stopped ≡ false)

@@ -8,6 +8,8 @@ pub mod Histories
 pub mod Lining
 pub mod Lists
 pub mod MainRuns
+pub mod Networks
+pub mod Openings
 pub mod Outcomes
 pub mod Passing
 pub mod Pushed

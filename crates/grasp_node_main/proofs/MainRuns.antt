@@ -72,6 +72,8 @@ begins_input left seed old new before after input config is has begins = record 
 -- whatever is told of the agents
 ran_anyhow : (plan : DaemonPlan) (old new : Told) (workers : Option (List Worker)) → Ran plan old new workers → Ran plan old new None
 ran_anyhow plan old new workers r = record {
+  opened = r.opened;
+  opening = r.opening;
   history = r.history;
   to = r.to;
   turns = r.turns;

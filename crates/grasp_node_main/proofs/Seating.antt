@@ -46,7 +46,7 @@ seat_stopped w s t own turns k is = record { calls_are = k.calls_are; most = ome
 
 -- no turn
 pub goes_nowhere : (shared : Shared) (s : SeatedAgent) → HasPass shared s → SeatGoes shared 0 s s
-goes_nowhere shared s h = record { before = h.pass; was = h.is; after = h.pass; is = h.is; own = h.own; number = refl; stands = λ w turns k. subst (λ n. SeatStands w (view_of h.pass).mine n s) (none turns) k } where
+goes_nowhere shared s h = record { before = h.pass; was = h.is; after = h.pass; is = h.is; own = h.own; number = refl; stands = λ w turns k. subst (λ n. SeatStands w (view_of h.pass).mine n s) (none turns) k; halts = λ e. refl } where
   none : (n : ℕ) → n ≡ n + 0
   none n = omega arith
 
@@ -68,11 +68,12 @@ goes_on shared m n a b c p q =
       stands = λ w turns k.
           let sum : (turns + m) + n ≡ turns + (m + n) = omega arith in
           subst (λ t. SeatStands w (view_of q.after).mine t c) sum (q.stands w (turns + m) (subst (λ (x : Pass). SeatStands w (view_of x).mine (turns + m) b) same (p.stands w turns k)));
+      halts = λ e. let stays = p.halts e in q.halts (ap (λ (s : SeatedAgent). s.stopped) stays ∙ e) ∙ stays;
     }
 
 -- a turn of an agent that has stopped before it, or in it
-pub goes_stopped : (shared : Shared) (s t : SeatedAgent) → HasPass shared s → t.pass ≡ s.pass → t.stopped ≡ true → SeatGoes shared 1 s t
-goes_stopped shared s t h keeps is = record {
+pub goes_stopped : (shared : Shared) (s t : SeatedAgent) → HasPass shared s → t.pass ≡ s.pass → t.stopped ≡ true → (s.stopped ≡ true → t ≡ s) → SeatGoes shared 1 s t
+goes_stopped shared s t h keeps is halts = record {
   before = h.pass;
   was = h.is;
   after = h.pass;
@@ -80,7 +81,12 @@ goes_stopped shared s t h keeps is = record {
   own = h.own;
   number = refl;
   stands = λ w turns k. seat_stopped w s t (view_of h.pass).mine turns k is;
+  halts = halts;
 }
+
+-- an agent that hasn't stopped has not stopped
+pub going_stopped : (s : SeatedAgent) → s.stopped ≡ false → s.stopped ≡ true → ⊥
+going_stopped s a b = let e : false ≡ true = sym a ∙ b in absurd (cc)
 
 -- a turn in which it made its next call; `m` is the agent once it is ready for it
 pub goes_called : (shared : Shared) (s m t : SeatedAgent) (i : Input) → Called shared i m t → m.pass ≡ s.pass → i ≡ next_input s.worker → s.stopped ≡ false
@@ -98,4 +104,5 @@ goes_called shared s m t i c keeps is stays then =
       stands = λ w turns k.
           let made : (view_of c.after).mine ≡ v.mine ++ e (next_input s.worker) ∷ [] = ap (λ (x : View). x.mine) c.served.2 ∙ ap (λ (j : Input). v.mine ++ e j ∷ []) is in
           subst (λ (h : History). SeatStands w h (turns + 1) t) (sym made) (seat_called w s t v.mine turns v.number c.reply k stays (then c.reply c.worker));
+      halts = λ e. absurd (going_stopped s stays e);
     }

@@ -1,6 +1,7 @@
 -- What is told, part after part.
 use Rattle.std.proofs.Common.{◌≡◌, ◌≤◌, inl, inr, ℕ, List, [], ◌∷◌, ◌++◌, Option, None, Some, ◌∙◌, refl, ap, subst, arith}
 use Rattle.grasp_io.proofs.Facts.{rose_before}
+use Rattle.grasp_io.specs.Counted.{StaysAt}
 use Rattle.grasp_io.specs.Faults.{Rose}
 use Rattle.grasp_io.specs.Told.{Stays, Grows, MayGrow}
 use Rattle.grasp_io.specs.Links.{Hands, IsAnswer}
@@ -27,6 +28,16 @@ module _ {A : Type 0} where
   stays_grows (Some xs) None c x p q = absurd p
   stays_grows (Some xs) (Some ys) None x p q = absurd q
   stays_grows (Some xs) (Some ys) (Some zs) x p q = q ∙ ap (λ l. l ++ x ∷ []) p
+
+-- ---- counts
+
+pub stays_at_same : (a : Option ℕ) → StaysAt a a
+stays_at_same None = tt
+stays_at_same (Some n) = refl
+
+pub stays_at_on : (a b c : Option ℕ) → StaysAt a b → StaysAt b c → StaysAt a c
+stays_at_on None b c p q = tt
+stays_at_on (Some n) b c p q = subst (λ x. StaysAt x c) p q
 
 -- ---- handing over
 
@@ -65,21 +76,22 @@ handed_alone a b f g o w = (b, g, w, (stays_same b, omega arith))
 
 -- nothing
 pub hands_nothing : (x : LinksTold) → HandsOnly x [] x
-hands_nothing x = record { is_open = refl; plans = stays_same x.plans; waits = stays_same x.waits; given = stays_same x.given; handed = (stays_same x.handed, omega arith) }
+hands_nothing x = record { is_open = refl; plans = stays_same x.plans; asks = stays_at_same x.asks; waits = stays_same x.waits; given = stays_same x.given; handed = (stays_same x.handed, omega arith) }
 
 -- where links are only handed some outputs and then only handed others, they are only handed all of these
 pub hands_on : (x y z : LinksTold) (os ps : List Output) → HandsOnly x os y → HandsOnly y ps z → HandsOnly x (os ++ ps) z
 hands_on x y z os ps v w = record {
   is_open = w.is_open ∙ v.is_open;
   plans = stays_on x.plans y.plans z.plans v.plans w.plans;
+  asks = stays_at_on x.asks y.asks z.asks v.asks w.asks;
   waits = stays_on x.waits y.waits z.waits v.waits w.waits;
   given = stays_on x.given y.given z.given v.given w.given;
   handed = hands_more x.handed y.handed z.handed x.faults y.faults z.faults os ps v.handed w.handed;
 }
 
 -- one send
-pub one_sent : (x y : LinksTold) (s : Sent) (o : Output) → y.is_open ≡ x.is_open → Stays x.plans y.plans → Stays x.waits y.waits → Stays x.given y.given → Hands x.handed y.handed s o → IsAnswer o s x.faults y.faults → x.faults ≤ y.faults → HandsOnly x (o ∷ []) y
-one_sent x y s o is p w g h i l = record { is_open = is; plans = p; waits = w; given = g; handed = handed_alone x.handed y.handed x.faults y.faults o (handed_one x.handed y.handed x.faults y.faults s o h i l) }
+pub one_sent : (x y : LinksTold) (s : Sent) (o : Output) → y.is_open ≡ x.is_open → Stays x.plans y.plans → StaysAt x.asks y.asks → Stays x.waits y.waits → Stays x.given y.given → Hands x.handed y.handed s o → IsAnswer o s x.faults y.faults → x.faults ≤ y.faults → HandsOnly x (o ∷ []) y
+one_sent x y s o is p a w g h i l = record { is_open = is; plans = p; asks = a; waits = w; given = g; handed = handed_alone x.handed y.handed x.faults y.faults o (handed_one x.handed y.handed x.faults y.faults s o h i l) }
 
 -- ---- turns
 

@@ -1,11 +1,11 @@
--- The agents of a node's plan: the one that manages prefixes, then the beacons, then the readers. As callers they are 1 and up, in
--- this order.
+-- The agents of a node's plan once it is opened: the one that manages prefixes, which has made its opening calls, then the beacons,
+-- then the readers. As callers they are 1 and up, in this order.
 use Rattle.std.specs.Prelude.{◌≡◌, ◌≤◌, ℕ, ◌+◌, List, [], ◌∷◌, ◌++◌, length, slice_get, Some}
 use Rattle.grasp_agent.specs.Announcing.{first_beacon, first_reader}
 use Rattle.grasp_pool.specs.Functions.{pool_of}
 use Rattle.grasp_pool.specs.declared.roots.RootPrefix.{RootPrefix}
 use Rattle.grasp_shared.specs.History.{History, own_calls}
-use Rattle.grasp_node_main.specs.Manager.{first_manager}
+use Rattle.grasp_node_main.specs.Manager.{opened_manager}
 use Rattle.grasp_node_main.specs.Workers.{AreCallsOf, after_calls}
 use Rattle.grasp_node_main.specs.declared.plan.BeaconPlan.{BeaconPlan}
 use Rattle.grasp_node_main.specs.declared.plan.DaemonPlan.{DaemonPlan}
@@ -25,7 +25,7 @@ readers_from number (name ∷ names) = Reader (first_reader number name) ∷ rea
 
 -- beacons and readers are numbered from 1, each by themselves
 abbrev pub crew_with : List RootPrefix → List WantPlan → List BeaconPlan → List (List ℕ) → List Worker
-crew_with roots wants beacons readers = Manager (first_manager (pool_of roots) wants) ∷ (beacons_from 1 beacons ++ readers_from 1 readers)
+crew_with roots wants beacons readers = Manager (opened_manager (pool_of roots) wants) ∷ (beacons_from 1 beacons ++ readers_from 1 readers)
 
 abbrev pub crew_of : DaemonPlan → List Worker
 crew_of p = crew_with p.roots p.wants p.beacons p.readers

@@ -3,6 +3,8 @@ pub mod Exits
 pub mod Finish
 pub mod Lines
 pub mod Manager
+pub mod Networks
+pub mod Openings
 pub mod Plans
 pub mod Program
 pub mod Roots

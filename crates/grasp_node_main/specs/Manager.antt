@@ -1,11 +1,12 @@
 -- The agent that manages a node's prefixes, with what it is to want.
 use Rattle.std.specs.Prelude.{ℕ, ◌+◌, ◌-◌, ◌&&◌, is_some, is_none, if◌then◌else◌, List, Option, None, Some, Result, Ok, Err, length, replicate, slice_get, slice_set}
 use Rattle.grasp_agent.specs.Replies.{want_reply, after_want, after_reply}
-use Rattle.grasp_agent.specs.States.{AgentState, first_agent}
+use Rattle.grasp_agent.specs.States.{AgentState}
 use Rattle.grasp_agent.specs.declared.want.WantEnd.{WantEnd}
 use Rattle.grasp_agent.specs.declared.want.WantFault.{WantFault}
 use Rattle.grasp_pool.specs.Holdings.{Holding}
 use Rattle.grasp_types.specs.declared.reply.Reply.{Reply}
+use Rattle.grasp_node_main.specs.Openings.{opened_agent}
 use Rattle.grasp_node_main.specs.declared.want_plan.WantPlan.{WantPlan}
 
 -- the agent; its wants, in their order; how each of them ended, where it did; and how many of them the agent took so far
@@ -15,9 +16,9 @@ pub record ManagerState : Type 0 where
   pub ends : List (Option WantEnd)
   pub taken : ℕ
 
--- an agent that has made no call, and none of whose wants has ended
-abbrev pub first_manager : Holding → List WantPlan → ManagerState
-first_manager pool wants = record { agent = first_agent pool; wants = wants; ends = replicate (length wants) None; taken = 0 }
+-- an agent that has made its opening calls, and none of whose wants has ended
+abbrev pub opened_manager : Holding → List WantPlan → ManagerState
+opened_manager pool wants = record { agent = opened_agent pool; wants = wants; ends = replicate (length wants) None; taken = 0 }
 
 -- the agent takes a want, unless one isn't finished or its pool has no room
 abbrev pub giving : ManagerState → WantPlan → Result (Unit {0}) WantFault → ManagerState

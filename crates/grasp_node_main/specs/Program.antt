@@ -3,6 +3,7 @@ use Rattle.std.specs.Prelude.{◌≡◌, ◌≤◌, ◌⊎◌, ℕ, Bool, false,
 use Rattle.std.specs.Io.KnownBytes.{Appends}
 use Rattle.grasp_config.specs.Config.{HasConfig}
 use Rattle.grasp_config.specs.declared.config.NodeConfig.{NodeConfig}
+use Rattle.grasp_io.specs.Counted.{StaysAt}
 use Rattle.grasp_io.specs.Known.{AppendsFront}
 use Rattle.grasp_io.specs.Told.{Stays, Grows}
 use Rattle.grasp_node_main.specs.Lines.{crew_text}
@@ -97,6 +98,7 @@ IsOkOrMemory (BadConfig key) = ⊥
 
 -- nothing was asked of the links, and nothing was given to them; whether they were opened isn't said
 pub record NothingPassed (old new : LinksTold) : Type 0 where
+  pub asks : StaysAt old.asks new.asks
   pub waits : Stays old.waits new.waits
   pub given : Stays old.given new.given
   pub handed : Stays old.handed new.handed

@@ -6,6 +6,7 @@ use Rattle.grasp_types.specs.declared.reply.Reply.{Reply}
 use Rattle.grasp_model_node.specs.Node.{NodeState, first_node}
 use Rattle.grasp_node_main.specs.Crew.{crew_of, AgentsMade, AllMade, crew_after}
 use Rattle.grasp_shared.specs.History.{History, IsLegalHistory, own_calls}
+use Rattle.grasp_node_main.specs.Openings.{openings}
 use Rattle.grasp_node_main.specs.Tells.{Told, TellsRun}
 use Rattle.grasp_node_main.specs.Turns.{Turn, loop_calls}
 use Rattle.grasp_node_main.specs.declared.daemon.Daemon.{Daemon}
@@ -18,15 +19,18 @@ abbrev pub EndsAs : DaemonPlan → History → Option (List Worker) → Type 0
 EndsAs plan history None = Unit {0}
 EndsAs plan history (Some workers) = AllMade (crew_of plan) history plan.turns × (workers ≡ crew_after 1 (crew_of plan) history)
 
--- The node of the plan made all its turns. Of the one history, which is legal, each entry is a call of the loop or of an agent. The
--- loop's own calls are those of the turns and the last drain; and what the links and the clock told before and tell afterwards is
--- that of these turns. Each agent's own calls are the first that it makes, at most one in each turn.
+-- The node of the plan was opened and made all its turns. Its history begins with the opening calls, before which nothing came in
+-- and no other agent called. Of what follows, which is legal too, each entry is a call of the loop or of an agent. The loop's own
+-- calls are those of the turns and the last drain; and what the links and the clock told before and tell afterwards is that of these
+-- turns. Each agent's own calls are the first that it makes once the node is opened, at most one in each turn.
 pub record Ran (plan : DaemonPlan) (old new : Told) (workers : Option (List Worker)) : Type 0 where
+  pub opened : NodeState
+  pub opening : IsLegalHistory (first_node plan.node) openings opened
   pub history : History
   pub to : NodeState
   pub turns : List Turn
   pub last : Reply
-  pub legal : IsLegalHistory (first_node plan.node) history to
+  pub legal : IsLegalHistory opened history to
   pub callers : AllByRecursion (λ e. e.caller ≤ length (crew_of plan)) history
   pub count : length turns ≡ plan.turns
   pub loop : own_calls 0 history ≡ loop_calls turns last

@@ -1,5 +1,5 @@
 -- Inside: agents with passes of their own, and how they come by them and give them back.
-use Rattle.std.specs.Prelude.{◌≡◌, ◌≤◌, ◌<◌, ◌+◌, ◌-◌, ℕ, List, [], ◌∷◌, ◌++◌, length, take, slice_get, slice_index_or, Option, Some, None}
+use Rattle.std.specs.Prelude.{◌≡◌, ◌≤◌, ◌<◌, ◌+◌, ◌-◌, ℕ, true, List, [], ◌∷◌, ◌++◌, length, take, slice_get, slice_index_or, Option, Some, None}
 use Rattle.grasp_types.specs.declared.reply.Reply.{Reply}
 use Rattle.grasp_types.specs.declared.traffic.Input.{Input}
 use Rattle.grasp_shared.specs.Calls.{Kept, answered}
@@ -25,7 +25,7 @@ AllHavePasses shared seats = (place : ℕ) (d : SeatedAgent) → place < length 
 
 -- ---- turns
 
--- the agent had so many turns more, and stands with its pass's own calls
+-- the agent had so many turns more, and stands with its pass's own calls; one that had stopped stays as it was
 pub record SeatGoes (shared : Shared) (count : ℕ) (old new : SeatedAgent) : Type 0 where
   pub before : Pass
   pub was : old.pass ≡ Some before
@@ -34,6 +34,7 @@ pub record SeatGoes (shared : Shared) (count : ℕ) (old new : SeatedAgent) : Ty
   pub own : IsPassOf shared after
   pub number : (view_of after).number ≡ (view_of before).number
   pub stands : (w : Worker) (turns : ℕ) → SeatStands w (view_of before).mine turns old → SeatStands w (view_of after).mine (turns + count) new
+  pub halts : old.stopped ≡ true → new ≡ old
 
 -- each agent did
 abbrev pub SeatsGo : Shared → ℕ → List SeatedAgent → List SeatedAgent → Type 0

@@ -13,7 +13,7 @@ use Rattle.grasp_shared.specs.declared.shared.Shared.{Shared}
 use Rattle.grasp_node_main.specs.Roots.{RootMade}
 use Rattle.grasp_node_main.specs.Seats.{SeatsStand}
 use Rattle.grasp_node_main.specs.Sharing.{Went, IsLeft, keeps}
-use Rattle.grasp_node_main.specs.Tells.{LinksTold, Told, AsksOnce, HandsOnly, TellsTurn, TellsTurns, TellsRun}
+use Rattle.grasp_node_main.specs.Tells.{LinksTold, Told, AsksOnce, asked_in, HandsOnly, TellsTurn, TellsTurns, TellsRun}
 use Rattle.grasp_node_main.specs.Turns.{Asking, got, Turn, turn_calls, all_turn_calls, loop_calls, loop_call, asking_calls, closed_again, outputs_in, closings, last_reading}
 use Rattle.grasp_node_main.specs.declared.daemon.Daemon.{Daemon}
 use Rattle.grasp_node_main.specs.declared.seated_agent.SeatedAgent.{SeatedAgent}
@@ -25,7 +25,7 @@ use Rattle.grasp_node_main.specs.declared.worker.Worker.{Worker}
 pub record TakesIn (shared : Shared) (now wait : ℕ) (root : Root) (old : LinksTold) (away : Option ℕ) (root_after : Root) (new : LinksTold) : Type 0 where
   pub asking : Asking
   pub made : RootMade shared root (asking_calls now asking) root_after
-  pub asks : AsksOnce wait old asking new
+  pub asks : AsksOnce wait old (asked_in asking) new
   pub away_is : closings away ≡ closed_again asking
 
 -- Inside: what the links gave went to the node

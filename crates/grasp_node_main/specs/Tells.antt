@@ -1,20 +1,23 @@
 -- What the links and the clock of a node tell of its turns, where they tell it.
 use Rattle.std.specs.Prelude.{◌≡◌, ◌≤◌, ◌⊎◌, ℕ, Bool, List, [], ◌∷◌, Option}
+use Rattle.grasp_io.specs.Counted.{StaysAt, CountsOne}
 use Rattle.grasp_io.specs.Faults.{Rose}
 use Rattle.grasp_io.specs.Told.{Stays, Grows}
 use Rattle.grasp_io.specs.Links.{Waits, Gives}
 use Rattle.grasp_io.specs.declared.links.Asked.{Asked}
 use Rattle.grasp_io.specs.declared.links.Asked.TheVariants as asked
 use Rattle.grasp_io.specs.declared.links.LinkPlan.{LinkPlan}
+use Rattle.grasp_io.specs.declared.links.Links.{Ghosts}
 use Rattle.grasp_types.specs.declared.reply.Reply.{Reply}
 use Rattle.grasp_types.specs.declared.traffic.Input.{Input}
 use Rattle.grasp_types.specs.declared.traffic.Output.{Output}
 use Rattle.grasp_node_main.specs.Turns.{Asking, got, nothing, no_memory, Turn, turn_outputs, outputs_in}
 
--- what links tell: whether they are open, the plans that they were opened with, the waits of the asks, the inputs given and the outputs handed over so far, and how often they failed
+-- what links tell: whether they are open, the plans that they were opened with, how often they were asked, the waits of the asks, the inputs given and the outputs handed over so far, and how often they failed
 pub record LinksTold : Type 0 where
   pub is_open : Bool
   pub plans : Option (List LinkPlan)
+  pub asks : Option ℕ
   pub waits : Option (List ℕ)
   pub given : Option (List Input)
   pub handed : Option (List Output)
@@ -25,8 +28,17 @@ pub record Told : Type 0 where
   pub readings : Option (List ℕ)
   pub links : LinksTold
 
-abbrev pub links_told : Bool → Option (List LinkPlan) → Option (List ℕ) → Option (List Input) → Option (List Output) → ℕ → LinksTold
-links_told is_open plans waits given handed faults = record { is_open = is_open; plans = plans; waits = waits; given = given; handed = handed; faults = faults }
+-- what these links tell
+abbrev pub links_told : {L : Type 0} → Ghosts L → L → LinksTold
+links_told ghosts l = record {
+  is_open = ghosts.is_open l;
+  plans = ghosts.plans l;
+  asks = ghosts.asks l;
+  waits = ghosts.waits l;
+  given = ghosts.given l;
+  handed = ghosts.handed l;
+  faults = ghosts.faults l;
+}
 
 abbrev pub told : Option (List ℕ) → LinksTold → Told
 told readings links = record { readings = readings; links = links }
@@ -47,11 +59,12 @@ asked_in nothing = asked.Nothing
 asked_in no_memory = asked.OutOfMemory
 
 -- the links were asked once, with this wait, and that came of it; nothing was opened or handed over
-pub record AsksOnce (wait : ℕ) (old : LinksTold) (asking : Asking) (new : LinksTold) : Type 0 where
+pub record AsksOnce (wait : ℕ) (old : LinksTold) (came : Asked) (new : LinksTold) : Type 0 where
   pub is_open : new.is_open ≡ old.is_open
   pub plans : Stays old.plans new.plans
-  pub waits : Waits old.waits new.waits (asked_in asking) wait
-  pub given : Gives old.given new.given (asked_in asking)
+  pub asks : CountsOne old.asks new.asks
+  pub waits : Waits old.waits new.waits came wait
+  pub given : Gives old.given new.given came
   pub handed : Stays old.handed new.handed
   pub faults : old.faults ≤ new.faults
 
@@ -59,6 +72,7 @@ pub record AsksOnce (wait : ℕ) (old : LinksTold) (asking : Asking) (new : Link
 pub record HandsOnly (old : LinksTold) (outputs : List Output) (new : LinksTold) : Type 0 where
   pub is_open : new.is_open ≡ old.is_open
   pub plans : Stays old.plans new.plans
+  pub asks : StaysAt old.asks new.asks
   pub waits : Stays old.waits new.waits
   pub given : Stays old.given new.given
   pub handed : HandsAll old.handed old.faults outputs new.handed new.faults
@@ -67,7 +81,7 @@ pub record HandsOnly (old : LinksTold) (outputs : List Output) (new : LinksTold)
 pub record TellsTurn (wait : ℕ) (old : Told) (t : Turn) (new : Told) : Type 0 where
   pub readings : Grows old.readings new.readings t.now
   pub asked : LinksTold
-  pub asks : AsksOnce wait old.links t.asking asked
+  pub asks : AsksOnce wait old.links (asked_in t.asking) asked
   pub hands : HandsOnly asked (turn_outputs t) new.links
 
 -- turn by turn

@@ -28,12 +28,8 @@ fn run_loop<R: Wait, L: Links, C: Clock>(
     clock: &mut C,
 ) -> u64
     requires { IsRootOf shared.now root.old }
-    ensures { Looped shared.now wait turns root.old (told (C.readings clock.old)
-        (links_told (L.is_open links.old) (L.plans links.old) (L.waits links.old) (L.given links.old) (L.handed links.old)
-        (L.faults links.old))) result root.new
-        (told (C.readings clock.new)
-        (links_told (L.is_open links.new) (L.plans links.new) (L.waits links.new) (L.given links.new) (L.handed links.new)
-        (L.faults links.new))) }
+    ensures { Looped shared.now wait turns root.old (told (C.readings clock.old) (links_told L.Links links.old)) result root.new
+        (told (C.readings clock.new) (links_told L.Links links.new)) }
 {
     let mut now = 0;
     for _turn in 0..turns {
@@ -85,12 +81,8 @@ pub(crate) fn run_beside<R: Threads + Wait + Sync, L: Links, C: Clock, G: Gate +
 ) -> u64
     requires root { IsRootOf shared.now root.old }
     requires passes { AllHavePasses shared.now seats.old }
-    ensures looped { Looped shared.now wait turns root.old (told (C.readings clock.old)
-        (links_told (L.is_open links.old) (L.plans links.old) (L.waits links.old) (L.given links.old) (L.handed links.old)
-        (L.faults links.old))) result root.new
-        (told (C.readings clock.new)
-        (links_told (L.is_open links.new) (L.plans links.new) (L.waits links.new) (L.given links.new) (L.handed links.new)
-        (L.faults links.new))) }
+    ensures looped { Looped shared.now wait turns root.old (told (C.readings clock.old) (links_told L.Links links.old)) result root.new
+        (told (C.readings clock.new) (links_told L.Links links.new)) }
     ensures went { SeatsGo shared.now turns seats.old seats.new }
 {
     let pace = Pace::new();
@@ -101,12 +93,8 @@ pub(crate) fn run_beside<R: Threads + Wait + Sync, L: Links, C: Clock, G: Gate +
     { run_seats(rt, shared, gate, pace, turns, seats) };
     let mut network = || -> u64
         requires { IsRootOf shared.now root.now }
-        ensures { Looped shared.entry.now wait turns root.entry.now (told (C.readings clock.entry.now)
-            (links_told (L.is_open links.entry.now) (L.plans links.entry.now) (L.waits links.entry.now) (L.given links.entry.now)
-            (L.handed links.entry.now) (L.faults links.entry.now))) result root.exit.now
-            (told (C.readings clock.exit.now)
-            (links_told (L.is_open links.exit.now) (L.plans links.exit.now) (L.waits links.exit.now) (L.given links.exit.now)
-            (L.handed links.exit.now) (L.faults links.exit.now))) }
+        ensures { Looped shared.entry.now wait turns root.entry.now (told (C.readings clock.entry.now) (links_told L.Links links.entry.now)) result
+            root.exit.now (told (C.readings clock.exit.now) (links_told L.Links links.exit.now)) }
     { run_loop(rt, shared, pace, turns, wait, root, links, clock) };
     let (_, now) = join_mut(rt, &mut agents, &mut network);
     now

@@ -44,13 +44,9 @@ impl Daemon {
         gate: &G,
     ) -> Result<Daemon, OutOfMemory>
         requires { length self.seats.items < 4294967294 }
-        ensures { (from : NodeState) (crew : List Worker) → Reaches from [] self.core → SeatsStand crew [] 0 self.seats.items →
-            RunsSeats from crew wait turns
-            (told (C.readings clock.old)
-            (links_told (L.is_open links.old) (L.plans links.old) (L.waits links.old) (L.given links.old) (L.handed links.old) (L.faults links.old)))
-            result
-            (told (C.readings clock.new)
-            (links_told (L.is_open links.new) (L.plans links.new) (L.waits links.new) (L.given links.new) (L.handed links.new) (L.faults links.new))) }
+        ensures { (from : NodeState) (crew : List Worker) → Reaches from [] self.core → SeatsStand crew [] 0 self.seats.items
+            → RunsSeats from crew wait turns (told (C.readings clock.old) (links_told L.Links links.old)) result
+            (told (C.readings clock.new) (links_told L.Links links.new)) }
     {
         let Daemon { core, mut seats } = self;
         match Shared::open(alloc, core) {
@@ -81,11 +77,8 @@ fn run_shared<R: Threads + Wait + Sync, L: Links, C: Clock, G: Gate + Sync>(
     requires own { IsRootOf shared.now root.old }
     requires fresh { IsFresh root.old }
     requires few { length seats.old < 4294967294 }
-    ensures { RanShared shared.now wait turns (told (C.readings clock.old)
-        (links_told (L.is_open links.old) (L.plans links.old) (L.waits links.old) (L.given links.old) (L.handed links.old)
-        (L.faults links.old))) root.old seats.old
-        (told (C.readings clock.new) (links_told (L.is_open links.new) (L.plans links.new) (L.waits links.new)
-        (L.given links.new) (L.handed links.new) (L.faults links.new))) root.new seats.new }
+    ensures { RanShared shared.now wait turns (told (C.readings clock.old) (links_told L.Links links.old)) root.old seats.old
+        (told (C.readings clock.new) (links_told L.Links links.new)) root.new seats.new }
 {
     split_all(shared, root, seats);
     let now = run_beside(rt, shared, gate, turns, wait, links, clock, root, seats);

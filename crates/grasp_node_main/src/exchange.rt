@@ -5,7 +5,7 @@ ghost use Rattle.grasp_shared.specs.Handles.{IsRootOf, out_of};
 ghost use Rattle.grasp_node_main.specs.Steps.{TakesIn, GivesIn, DrainsOut, Exchanges};
 ghost use Rattle.grasp_node_main.specs.Tells.{links_told, told};
 
-use crate::handing::{away_of, close_again, hand_over, opened};
+use crate::handing::{ask_once, away_of, close_again, hand_over, opened};
 use grasp_io::{Asked, Clock, Links};
 use grasp_shared::{Root, Shared};
 use grasp_types::Input;
@@ -27,12 +27,8 @@ pub(crate) fn exchange<R: Wait, L: Links, C: Clock>(
     clock: &mut C,
 ) -> u64
     requires { IsRootOf shared.now root.old }
-    ensures { Exchanges shared.now wait root.old (told (C.readings clock.old)
-        (links_told (L.is_open links.old) (L.plans links.old) (L.waits links.old) (L.given links.old) (L.handed links.old)
-        (L.faults links.old))) result root.new
-        (told (C.readings clock.new)
-        (links_told (L.is_open links.new) (L.plans links.new) (L.waits links.new) (L.given links.new) (L.handed links.new)
-        (L.faults links.new))) }
+    ensures { Exchanges shared.now wait root.old (told (C.readings clock.old) (links_told L.Links links.old)) result root.new
+        (told (C.readings clock.new) (links_told L.Links links.new)) }
 {
     let now = clock.now();
     let away = take_in(rt, shared, now, wait, root, links);
@@ -51,12 +47,9 @@ fn take_in<R: Wait, L: Links>(
     links: &mut L,
 ) -> Option<u64>
     requires { IsRootOf shared.now root.old }
-    ensures { TakesIn shared.now now wait root.old (links_told (L.is_open links.old) (L.plans links.old) (L.waits links.old)
-        (L.given links.old) (L.handed links.old) (L.faults links.old)) result root.new
-        (links_told (L.is_open links.new) (L.plans links.new) (L.waits links.new) (L.given links.new) (L.handed links.new)
-        (L.faults links.new)) }
+    ensures { TakesIn shared.now now wait root.old (links_told L.Links links.old) result root.new (links_told L.Links links.new) }
 {
-    match links.ask(wait) {
+    match ask_once(links, wait) {
         Asked::Got(input) => give_in(rt, shared, now, root, input),
         Asked::Nothing => None,
         Asked::OutOfMemory => None,
@@ -76,10 +69,7 @@ fn give_in<R: Wait>(rt: &R, shared: &Shared, now: u64, root: &mut Root, input: I
 /// Drains the node, and hands its outputs over.
 fn drain_out<R: Wait, L: Links>(rt: &R, shared: &Shared, now: u64, root: &mut Root, links: &mut L)
     requires { IsRootOf shared.now root.old }
-    ensures { DrainsOut shared.now now 64 root.old (links_told (L.is_open links.old) (L.plans links.old) (L.waits links.old)
-        (L.given links.old) (L.handed links.old) (L.faults links.old)) root.new
-        (links_told (L.is_open links.new) (L.plans links.new) (L.waits links.new) (L.given links.new) (L.handed links.new)
-        (L.faults links.new)) }
+    ensures { DrainsOut shared.now now 64 root.old (links_told L.Links links.old) root.new (links_told L.Links links.new) }
 {
     let reply = shared.root_call(rt, root, now, Input::Drain { max: DRAIN });
     hand_over(links, &reply);
@@ -89,10 +79,7 @@ fn drain_out<R: Wait, L: Links>(rt: &R, shared: &Shared, now: u64, root: &mut Ro
 pub(crate) fn drain_last<L: Links>(shared: &Shared, now: u64, root: &mut Root, links: &mut L)
     requires own { IsRootOf shared.now root.old }
     requires alone { out_of root.old ≡ 0 }
-    ensures { DrainsOut shared.now now 320 root.old (links_told (L.is_open links.old) (L.plans links.old)
-        (L.waits links.old) (L.given links.old) (L.handed links.old) (L.faults links.old)) root.new
-        (links_told (L.is_open links.new) (L.plans links.new) (L.waits links.new) (L.given links.new) (L.handed links.new)
-        (L.faults links.new)) }
+    ensures { DrainsOut shared.now now 320 root.old (links_told L.Links links.old) root.new (links_told L.Links links.new) }
 {
     match shared.root_try_call(root, now, Input::Drain { max: LAST_DRAIN }) {
         Ok(reply) => hand_over(links, &reply),

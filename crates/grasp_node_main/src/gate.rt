@@ -1,6 +1,6 @@
 //! What stands in front of each agent's calls.
 
-/// It is asked before each call of an agent, in the agent's own thread.
+/// It is asked before each call that an agent makes in a turn, in the agent's own thread.
 pub trait Gate {
     /// Before this call of this agent. Agents are numbered from 1, in their order, and the 255th and all behind it are 255.
     /// An agent's calls are numbered from 0.

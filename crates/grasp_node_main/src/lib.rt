@@ -1,16 +1,18 @@
 //! A node and its agents, which call its core beside each other.
 //!
-//! A turn of the network loop reads the clock, asks the links once, gives what they gave to the core, and drains the core into
-//! the links. Each agent has a thread of its own, in which it makes one call in each of its turns. What all callers did is one
-//! history of the core, which the contracts speak of.
+//! Before all else the agent that manages prefixes makes its opening calls. A turn of the network loop reads the clock, asks
+//! the links once, gives what they gave to the core, and drains the core into the links. Each agent has a thread of its own, in
+//! which it makes one call in each of its turns. What all callers did is one history of the core, which the contracts speak of.
 #![tactic(auto)]
 
 mod beside;
 mod daemon;
 mod exchange;
 mod exit;
+mod first_calls;
 mod gate;
 mod handing;
+mod laws;
 mod lines;
 mod manager;
 mod named_reader;
@@ -29,8 +31,10 @@ mod worker;
 
 pub use daemon::Daemon;
 pub use exit::{Status, fault_line};
+pub use first_calls::open_agent;
 pub use gate::{Gate, OpenGate};
-pub use handing::{away_of, close_again, hand_over, opened, send_all};
+pub use handing::{ask_once, away_of, close_again, hand_over, opened, send_all};
+pub use laws::nodes_open_as_seats;
 pub use lines::text_of;
 pub use manager::Manager;
 pub use named_reader::NamedReader;

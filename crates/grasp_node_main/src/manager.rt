@@ -5,11 +5,15 @@ ghost use Rattle.grasp_agent.specs.Calls.{next_call};
 ghost use Rattle.grasp_agent.specs.States.{AgentState};
 ghost use Rattle.grasp_pool.specs.Functions.{pool_of};
 ghost use Rattle.grasp_types.specs.declared.traffic.Input.TheVariants as input;
-ghost use Rattle.grasp_node_main.specs.Manager.{first_manager, ready_manager, manager_after, ends_with};
+ghost use Rattle.grasp_shared.specs.Adding.{Adds};
+ghost use Rattle.grasp_node_main.specs.Openings.{openings};
+ghost use Rattle.grasp_node_main.specs.Manager.{opened_manager, ready_manager, manager_after, ends_with};
 
+use crate::first_calls::open_agent;
 use crate::want_plan::WantPlan;
 use grasp_agent::{Agent, PrefixAgent, WantEnd};
 use grasp_cbor::OutOfMemory;
+use grasp_core::NodeCore;
 use grasp_pool::{Pool, RootPrefix};
 use grasp_types::{Input, List, Plain, Reply};
 use std::alloc::Global;
@@ -33,19 +37,22 @@ impl Model for Manager {
 }
 
 impl Manager {
-    /// An agent that holds these roots, which `Pool::open` accepts, and has made no call.
+    /// An agent that holds these roots, which `Pool::open` accepts, and that has made its opening calls, as by `open_agent`.
     ///
-    /// Roots that aren't accepted are answered as want of memory.
+    /// Roots that aren't accepted are answered as want of memory. Nothing is claimed of the core after an `Err`.
     pub fn open(
         alloc: Global,
+        core: &mut NodeCore,
         roots: &[RootPrefix],
         wants: List<WantPlan>,
     ) -> Result<Manager, OutOfMemory>
-        ensures { IfOk result (λ m. m ≡ first_manager (pool_of roots.now) wants) }
+        ensures opened { IfOk result (λ m. m ≡ opened_manager (pool_of roots.now) wants) }
+        ensures calls { IfOk result (λ _. Adds core.old openings core.new) }
     {
-        let Ok(agent) = PrefixAgent::open(alloc, roots) else {
+        let Ok(mut agent) = PrefixAgent::open(alloc, roots) else {
             return Err(OutOfMemory);
         };
+        open_agent(core, &mut agent)?;
         let mut ends = Vec::new(alloc);
         for _want in wants.slice() {
             ends.push(None)?;

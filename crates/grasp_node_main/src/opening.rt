@@ -4,7 +4,9 @@ ghost use Rattle.std.specs.Prelude.{◌≡◌, ◌<◌, ◌++◌, [], ◌∷◌,
 ghost use Rattle.grasp_model_node.specs.Node.{first_node};
 ghost use Rattle.grasp_model_node.specs.Plan.{is_bad_plan};
 ghost use Rattle.grasp_node_main.specs.Crew.{crew_with, beacons_from, readers_from};
+ghost use Rattle.grasp_shared.specs.Adding.{Adds};
 ghost use Rattle.grasp_shared.specs.History.{Reaches};
+ghost use Rattle.grasp_node_main.specs.Openings.{openings};
 ghost use Rattle.grasp_node_main.specs.Seats.{first_seat, SeatsStand};
 
 use crate::daemon::Daemon;
@@ -23,9 +25,11 @@ use grasp_types::{List, Plain};
 use std::alloc::Global;
 
 impl Daemon {
-    /// A node to which nothing has happened, and its agents, which have made no call. Each list has fewer than 255 entries.
+    /// A node with its agents. The one that manages prefixes has made its opening calls, before which nothing has happened; the
+    /// others have made no call. Each list has fewer than 255 entries.
     ///
-    /// A bad plan and roots that `Pool::open` doesn't accept are answered as want of memory.
+    /// A bad plan and roots that `Pool::open` doesn't accept are answered as want of memory, and so is an opening call that
+    /// isn't answered as it is where there is memory.
     pub fn open(
         alloc: Global,
         node: NodePlan,
@@ -36,11 +40,11 @@ impl Daemon {
     ) -> Result<Daemon, OutOfMemory>
         requires beacons { length beacons.now < 255 }
         requires readers { length readers.now < 255 }
-        ensures core { IfOk result (λ d. Reaches (first_node node) [] d.core) }
+        ensures core { IfOk result (λ d. Reaches (first_node node) openings d.core) }
         ensures seats { IfOk result (λ d. SeatsStand (crew_with roots.now wants beacons.now readers.now) [] 0 d.seats.items) }
     {
-        let core = open_core(alloc, node)?;
-        let seats = open_seats(alloc, roots, wants, beacons, readers)?;
+        let mut core = open_core(alloc, node)?;
+        let seats = open_seats(alloc, &mut core, roots, wants, beacons, readers)?;
         Ok(Daemon { core, seats })
     }
 }
@@ -55,9 +59,10 @@ pub fn open_core(alloc: Global, node: NodePlan) -> Result<NodeCore, OutOfMemory>
     }
 }
 
-/// Agents that have made no call.
+/// The agents, of which the one that manages prefixes has made its opening calls at this core, and the others no call.
 fn open_seats(
     alloc: Global,
+    core: &mut NodeCore,
     roots: &[RootPrefix],
     wants: List<WantPlan>,
     beacons: &[BeaconPlan],
@@ -65,9 +70,10 @@ fn open_seats(
 ) -> Result<Vec<SeatedAgent>, OutOfMemory>
     requires beacons { length beacons.now < 255 }
     requires readers { length readers.now < 255 }
-    ensures { IfOk result (λ seats. seats.items ≡ map first_seat (crew_with roots.now wants beacons.now readers.now)) }
+    ensures agents { IfOk result (λ seats. seats.items ≡ map first_seat (crew_with roots.now wants beacons.now readers.now)) }
+    ensures calls { IfOk result (λ _. Adds core.old openings core.new) }
 {
-    let manager = Manager::open(alloc, roots, wants)?;
+    let manager = Manager::open(alloc, core, roots, wants)?;
     let mut seats = Vec::new(alloc);
     seats.push(SeatedAgent::of(Worker::Manager(manager)))?;
     add_beacons(alloc, &mut seats, beacons)?;

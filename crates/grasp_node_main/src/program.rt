@@ -36,9 +36,10 @@ const CONFIG_LIMIT: u64 = 65_536;
 /// Runs the node that the source configures, and says how it ended.
 ///
 /// The words are to be `run` and one more, which names what the source reads. The source is read to its end, and the
-/// links are opened with the plan of the configuration. Then the node makes its turns, and at the end it writes a line of
-/// the prefixes that it holds, one for each want and one for each reader. `OutOfMemory` may come wherever memory is wanted:
-/// before the first turn, or after the last one, where agents may have stopped. Nothing was written then.
+/// links are opened with the plan of the configuration. Then the agent that manages prefixes makes its opening calls, and
+/// the node makes its turns. At the end it writes a line of the prefixes that it holds, one for each want and one for each
+/// reader. `OutOfMemory` may come wherever memory is wanted: before the first turn, or after the last one, where agents may
+/// have stopped. Nothing was written then.
 pub fn node_main<R: Threads + Wait + Sync, S: Source, K: Sink, L: Links, C: Clock>(
     rt: &R,
     alloc: Global,
@@ -66,33 +67,20 @@ pub fn node_main<R: Threads + Wait + Sync, S: Source, K: Sink, L: Links, C: Cloc
 
     // Then the links are opened once, with the plan of the configuration. After a fault of that no plan is told.
     ensures link_fault { result ≡ Status.LinkFault → Rose (L.faults links.old) (L.faults links.new) }
-    ensures nothing_passed { result ≡ Status.LinkFault → NothingPassed
-        (links_told (L.is_open links.old) (L.plans links.old) (L.waits links.old) (L.given links.old) (L.handed links.old)
-        (L.faults links.old)) (links_told (L.is_open links.new) (L.plans links.new) (L.waits links.new) (L.given links.new)
-        (L.handed links.new) (L.faults links.new)) }
+    ensures nothing_passed { result ≡ Status.LinkFault → NothingPassed (links_told L.Links links.old) (links_told L.Links links.new) }
     ensures unopened { result ≡ Status.LinkFault → Stays (L.plans links.old) (L.plans links.new) }
     ensures clock_unread { result ≡ Status.LinkFault → clock.new ≡ clock.old }
 
-    // Then the node makes its turns, and its lines are written. After a fault of writing a front of them is; where memory is
+    // Then the node is opened and makes its turns, and its lines are written. After a fault of writing a front of them is; where memory is
     // wanted, no turn was made, whether the links were opened or not, or all were.
-    ensures done { result ≡ Status.Ok → RunsInput (S.left source.old) seed
-        (told (C.readings clock.old) (links_told (L.is_open links.old) (L.plans links.old) (L.waits links.old)
-        (L.given links.old) (L.handed links.old) (L.faults links.old)))
-        (told (C.readings clock.new) (links_told (L.is_open links.new) (L.plans links.new) (L.waits links.new)
-        (L.given links.new) (L.handed links.new) (L.faults links.new))) (K.written sink.old) (K.written sink.new) }
+    ensures done { result ≡ Status.Ok → RunsInput (S.left source.old) seed (told (C.readings clock.old) (links_told L.Links links.old))
+        (told (C.readings clock.new) (links_told L.Links links.new)) (K.written sink.old) (K.written sink.new) }
     ensures write_fault { result ≡ Status.WriteFault → Rose (K.faults sink.old) (K.faults sink.new) }
-    ensures begun { result ≡ Status.WriteFault → BeginsInput (S.left source.old) seed
-        (told (C.readings clock.old) (links_told (L.is_open links.old) (L.plans links.old) (L.waits links.old)
-        (L.given links.old) (L.handed links.old) (L.faults links.old)))
-        (told (C.readings clock.new) (links_told (L.is_open links.new) (L.plans links.new) (L.waits links.new)
-        (L.given links.new) (L.handed links.new) (L.faults links.new))) (K.written sink.old) (K.written sink.new) }
+    ensures begun { result ≡ Status.WriteFault → BeginsInput (S.left source.old) seed (told (C.readings clock.old) (links_told L.Links links.old))
+        (told (C.readings clock.new) (links_told L.Links links.new)) (K.written sink.old) (K.written sink.new) }
     ensures unwritten { result ≢ Status.Ok → result ≢ Status.WriteFault → sink.new ≡ sink.old }
-    ensures memory { result ≡ Status.OutOfMemory → NoneOrAllTurns (S.left source.old) seed
-        (told (C.readings clock.old) (links_told (L.is_open links.old) (L.plans links.old) (L.waits links.old)
-        (L.given links.old) (L.handed links.old) (L.faults links.old)))
-        (told (C.readings clock.new)
-        (links_told (L.is_open links.new) (L.plans links.new) (L.waits links.new) (L.given links.new) (L.handed links.new)
-        (L.faults links.new))) }
+    ensures memory { result ≡ Status.OutOfMemory → NoneOrAllTurns (S.left source.old) seed (told (C.readings clock.old) (links_told L.Links links.old))
+        (told (C.readings clock.new) (links_told L.Links links.new)) }
 
     // Where nothing outside fails, the input alone decides, unless memory is wanted.
     ensures complete { is_run (map string_bytes words.now) ≡ true → ¬ Rose (S.faults source.old) (S.faults source.new)
@@ -109,7 +97,7 @@ pub fn node_main<R: Threads + Wait + Sync, S: Source, K: Sink, L: Links, C: Cloc
     )
 }
 
-/// The same with a gate, which is asked before each agent's call.
+/// The same with a gate, which is asked before each call that an agent makes in a turn.
 pub fn node_run<R: Threads + Wait + Sync, S: Source, K: Sink, L: Links, C: Clock, G: Gate + Sync>(
     rt: &R,
     alloc: Global,
@@ -138,33 +126,20 @@ pub fn node_run<R: Threads + Wait + Sync, S: Source, K: Sink, L: Links, C: Clock
 
     // Then the links are opened once, with the plan of the configuration. After a fault of that no plan is told.
     ensures link_fault { result ≡ Status.LinkFault → Rose (L.faults links.old) (L.faults links.new) }
-    ensures nothing_passed { result ≡ Status.LinkFault → NothingPassed
-        (links_told (L.is_open links.old) (L.plans links.old) (L.waits links.old) (L.given links.old) (L.handed links.old)
-        (L.faults links.old)) (links_told (L.is_open links.new) (L.plans links.new) (L.waits links.new) (L.given links.new)
-        (L.handed links.new) (L.faults links.new)) }
+    ensures nothing_passed { result ≡ Status.LinkFault → NothingPassed (links_told L.Links links.old) (links_told L.Links links.new) }
     ensures unopened { result ≡ Status.LinkFault → Stays (L.plans links.old) (L.plans links.new) }
     ensures clock_unread { result ≡ Status.LinkFault → clock.new ≡ clock.old }
 
-    // Then the node makes its turns, and its lines are written. After a fault of writing a front of them is; where memory is
+    // Then the node is opened and makes its turns, and its lines are written. After a fault of writing a front of them is; where memory is
     // wanted, no turn was made, whether the links were opened or not, or all were.
-    ensures done { result ≡ Status.Ok → RunsInput (S.left source.old) seed
-        (told (C.readings clock.old) (links_told (L.is_open links.old) (L.plans links.old) (L.waits links.old)
-        (L.given links.old) (L.handed links.old) (L.faults links.old)))
-        (told (C.readings clock.new) (links_told (L.is_open links.new) (L.plans links.new) (L.waits links.new)
-        (L.given links.new) (L.handed links.new) (L.faults links.new))) (K.written sink.old) (K.written sink.new) }
+    ensures done { result ≡ Status.Ok → RunsInput (S.left source.old) seed (told (C.readings clock.old) (links_told L.Links links.old))
+        (told (C.readings clock.new) (links_told L.Links links.new)) (K.written sink.old) (K.written sink.new) }
     ensures write_fault { result ≡ Status.WriteFault → Rose (K.faults sink.old) (K.faults sink.new) }
-    ensures begun { result ≡ Status.WriteFault → BeginsInput (S.left source.old) seed
-        (told (C.readings clock.old) (links_told (L.is_open links.old) (L.plans links.old) (L.waits links.old)
-        (L.given links.old) (L.handed links.old) (L.faults links.old)))
-        (told (C.readings clock.new) (links_told (L.is_open links.new) (L.plans links.new) (L.waits links.new)
-        (L.given links.new) (L.handed links.new) (L.faults links.new))) (K.written sink.old) (K.written sink.new) }
+    ensures begun { result ≡ Status.WriteFault → BeginsInput (S.left source.old) seed (told (C.readings clock.old) (links_told L.Links links.old))
+        (told (C.readings clock.new) (links_told L.Links links.new)) (K.written sink.old) (K.written sink.new) }
     ensures unwritten { result ≢ Status.Ok → result ≢ Status.WriteFault → sink.new ≡ sink.old }
-    ensures memory { result ≡ Status.OutOfMemory → NoneOrAllTurns (S.left source.old) seed
-        (told (C.readings clock.old) (links_told (L.is_open links.old) (L.plans links.old) (L.waits links.old)
-        (L.given links.old) (L.handed links.old) (L.faults links.old)))
-        (told (C.readings clock.new)
-        (links_told (L.is_open links.new) (L.plans links.new) (L.waits links.new) (L.given links.new) (L.handed links.new)
-        (L.faults links.new))) }
+    ensures memory { result ≡ Status.OutOfMemory → NoneOrAllTurns (S.left source.old) seed (told (C.readings clock.old) (links_told L.Links links.old))
+        (told (C.readings clock.new) (links_told L.Links links.new)) }
 
     // Where nothing outside fails, the input alone decides, unless memory is wanted.
     ensures complete { is_run (map string_bytes words.now) ≡ true → ¬ Rose (S.faults source.old) (S.faults source.new)
@@ -217,30 +192,17 @@ fn run_input<R: Threads + Wait + Sync, S: Source, K: Sink, L: Links, C: Clock, G
     ensures untouched { IsBeforeLinks result → links.new ≡ links.old }
     ensures clock_untouched { IsBeforeLinks result → clock.new ≡ clock.old }
     ensures link_fault { result ≡ Status.LinkFault → Rose (L.faults links.old) (L.faults links.new) }
-    ensures nothing_passed { result ≡ Status.LinkFault → NothingPassed
-        (links_told (L.is_open links.old) (L.plans links.old) (L.waits links.old) (L.given links.old) (L.handed links.old)
-        (L.faults links.old)) (links_told (L.is_open links.new) (L.plans links.new) (L.waits links.new) (L.given links.new)
-        (L.handed links.new) (L.faults links.new)) }
+    ensures nothing_passed { result ≡ Status.LinkFault → NothingPassed (links_told L.Links links.old) (links_told L.Links links.new) }
     ensures unopened { result ≡ Status.LinkFault → Stays (L.plans links.old) (L.plans links.new) }
     ensures clock_unread { result ≡ Status.LinkFault → clock.new ≡ clock.old }
-    ensures done { result ≡ Status.Ok → RunsInput (S.left source.old) seed
-        (told (C.readings clock.old) (links_told (L.is_open links.old) (L.plans links.old) (L.waits links.old)
-        (L.given links.old) (L.handed links.old) (L.faults links.old)))
-        (told (C.readings clock.new) (links_told (L.is_open links.new) (L.plans links.new) (L.waits links.new)
-        (L.given links.new) (L.handed links.new) (L.faults links.new))) (K.written sink.old) (K.written sink.new) }
+    ensures done { result ≡ Status.Ok → RunsInput (S.left source.old) seed (told (C.readings clock.old) (links_told L.Links links.old))
+        (told (C.readings clock.new) (links_told L.Links links.new)) (K.written sink.old) (K.written sink.new) }
     ensures write_fault { result ≡ Status.WriteFault → Rose (K.faults sink.old) (K.faults sink.new) }
-    ensures begun { result ≡ Status.WriteFault → BeginsInput (S.left source.old) seed
-        (told (C.readings clock.old) (links_told (L.is_open links.old) (L.plans links.old) (L.waits links.old)
-        (L.given links.old) (L.handed links.old) (L.faults links.old)))
-        (told (C.readings clock.new) (links_told (L.is_open links.new) (L.plans links.new) (L.waits links.new)
-        (L.given links.new) (L.handed links.new) (L.faults links.new))) (K.written sink.old) (K.written sink.new) }
+    ensures begun { result ≡ Status.WriteFault → BeginsInput (S.left source.old) seed (told (C.readings clock.old) (links_told L.Links links.old))
+        (told (C.readings clock.new) (links_told L.Links links.new)) (K.written sink.old) (K.written sink.new) }
     ensures unwritten { result ≢ Status.Ok → result ≢ Status.WriteFault → sink.new ≡ sink.old }
-    ensures memory { result ≡ Status.OutOfMemory → NoneOrAllTurns (S.left source.old) seed
-        (told (C.readings clock.old) (links_told (L.is_open links.old) (L.plans links.old) (L.waits links.old)
-        (L.given links.old) (L.handed links.old) (L.faults links.old)))
-        (told (C.readings clock.new)
-        (links_told (L.is_open links.new) (L.plans links.new) (L.waits links.new) (L.given links.new) (L.handed links.new)
-        (L.faults links.new))) }
+    ensures memory { result ≡ Status.OutOfMemory → NoneOrAllTurns (S.left source.old) seed (told (C.readings clock.old) (links_told L.Links links.old))
+        (told (C.readings clock.new) (links_told L.Links links.new)) }
 {
     let input = match read_all(alloc, source, CONFIG_LIMIT) {
         Ok(input) => input,
@@ -271,34 +233,18 @@ fn run_config<R: Threads + Wait + Sync, K: Sink, L: Links, C: Clock, G: Gate + S
     requires { IsInRange config }
     ensures ends { IsOfConfig result }
     ensures link_fault { result ≡ Status.LinkFault → Rose (L.faults links.old) (L.faults links.new) }
-    ensures nothing_passed { result ≡ Status.LinkFault → NothingPassed
-        (links_told (L.is_open links.old) (L.plans links.old) (L.waits links.old) (L.given links.old) (L.handed links.old)
-        (L.faults links.old)) (links_told (L.is_open links.new) (L.plans links.new) (L.waits links.new) (L.given links.new)
-        (L.handed links.new) (L.faults links.new)) }
+    ensures nothing_passed { result ≡ Status.LinkFault → NothingPassed (links_told L.Links links.old) (links_told L.Links links.new) }
     ensures unopened { result ≡ Status.LinkFault → Stays (L.plans links.old) (L.plans links.new) }
     ensures clock_unread { result ≡ Status.LinkFault → clock.new ≡ clock.old }
-    ensures done { result ≡ Status.Ok → RunsConfig config seed (told (C.readings clock.old)
-        (links_told (L.is_open links.old) (L.plans links.old) (L.waits links.old) (L.given links.old) (L.handed links.old)
-        (L.faults links.old))) (told (C.readings clock.new) (links_told (L.is_open links.new) (L.plans links.new)
-        (L.waits links.new) (L.given links.new) (L.handed links.new) (L.faults links.new))) (K.written sink.old)
-        (K.written sink.new) }
+    ensures done { result ≡ Status.Ok → RunsConfig config seed (told (C.readings clock.old) (links_told L.Links links.old))
+        (told (C.readings clock.new) (links_told L.Links links.new)) (K.written sink.old) (K.written sink.new) }
     ensures write_fault { result ≡ Status.WriteFault → Rose (K.faults sink.old) (K.faults sink.new) }
-    ensures begun { result ≡ Status.WriteFault → BeginsConfig config seed
-        (told (C.readings clock.old) (links_told (L.is_open links.old) (L.plans links.old) (L.waits links.old)
-        (L.given links.old) (L.handed links.old) (L.faults links.old)))
-        (told (C.readings clock.new) (links_told (L.is_open links.new) (L.plans links.new) (L.waits links.new)
-        (L.given links.new) (L.handed links.new) (L.faults links.new))) (K.written sink.old) (K.written sink.new) }
+    ensures begun { result ≡ Status.WriteFault → BeginsConfig config seed (told (C.readings clock.old) (links_told L.Links links.old))
+        (told (C.readings clock.new) (links_told L.Links links.new)) (K.written sink.old) (K.written sink.new) }
     ensures unwritten { result ≢ Status.Ok → result ≢ Status.WriteFault → sink.new ≡ sink.old }
-    ensures memory { result ≡ Status.OutOfMemory → NoTurn config
-        (told (C.readings clock.old) (links_told (L.is_open links.old) (L.plans links.old) (L.waits links.old)
-        (L.given links.old) (L.handed links.old) (L.faults links.old)))
-        (told (C.readings clock.new) (links_told (L.is_open links.new) (L.plans links.new) (L.waits links.new)
-        (L.given links.new) (L.handed links.new) (L.faults links.new)))
-        ⊎ TurnsOfConfig config seed (told (C.readings clock.old) (links_told (L.is_open links.old) (L.plans links.old)
-        (L.waits links.old) (L.given links.old) (L.handed links.old) (L.faults links.old)))
-        (told (C.readings clock.new)
-        (links_told (L.is_open links.new) (L.plans links.new) (L.waits links.new) (L.given links.new) (L.handed links.new)
-        (L.faults links.new))) }
+    ensures memory { result ≡ Status.OutOfMemory → NoTurn config (told (C.readings clock.old) (links_told L.Links links.old))
+        (told (C.readings clock.new) (links_told L.Links links.new)) ⊎ TurnsOfConfig config seed (told (C.readings clock.old) (links_told L.Links links.old))
+        (told (C.readings clock.new) (links_told L.Links links.new)) }
 {
     let Ok(joining) = link_plan(&config) else {
         return Status::OutOfMemory;
@@ -326,27 +272,15 @@ fn run_plan<R: Threads + Wait + Sync, K: Sink, L: Links, C: Clock, G: Gate + Syn
     requires beacons { length plan.beacons < 255 }
     requires readers { length plan.readers < 255 }
     ensures ends { IsOfTurns result }
-    ensures done { result ≡ Status.Ok → RunsPlan plan (told (C.readings clock.old)
-        (links_told (L.is_open links.old) (L.plans links.old) (L.waits links.old) (L.given links.old) (L.handed links.old)
-        (L.faults links.old))) (told (C.readings clock.new) (links_told (L.is_open links.new) (L.plans links.new)
-        (L.waits links.new) (L.given links.new) (L.handed links.new) (L.faults links.new))) (K.written sink.old)
-        (K.written sink.new) }
+    ensures done { result ≡ Status.Ok → RunsPlan plan (told (C.readings clock.old) (links_told L.Links links.old))
+        (told (C.readings clock.new) (links_told L.Links links.new)) (K.written sink.old) (K.written sink.new) }
     ensures write_fault { result ≡ Status.WriteFault → Rose (K.faults sink.old) (K.faults sink.new) }
-    ensures begun { result ≡ Status.WriteFault → BeginsPlan plan
-        (told (C.readings clock.old) (links_told (L.is_open links.old) (L.plans links.old) (L.waits links.old)
-        (L.given links.old) (L.handed links.old) (L.faults links.old)))
-        (told (C.readings clock.new) (links_told (L.is_open links.new) (L.plans links.new) (L.waits links.new)
-        (L.given links.new) (L.handed links.new) (L.faults links.new))) (K.written sink.old) (K.written sink.new) }
+    ensures begun { result ≡ Status.WriteFault → BeginsPlan plan (told (C.readings clock.old) (links_told L.Links links.old))
+        (told (C.readings clock.new) (links_told L.Links links.new)) (K.written sink.old) (K.written sink.new) }
     ensures unwritten { result ≡ Status.OutOfMemory → sink.new ≡ sink.old }
-    ensures memory { result ≡ Status.OutOfMemory → ((told (C.readings clock.new)
-        (links_told (L.is_open links.new) (L.plans links.new) (L.waits links.new) (L.given links.new) (L.handed links.new)
-        (L.faults links.new))) ≡ (told (C.readings clock.old) (links_told (L.is_open links.old) (L.plans links.old)
-        (L.waits links.old) (L.given links.old) (L.handed links.old) (L.faults links.old))))
-        ⊎ Ran plan (told (C.readings clock.old) (links_told (L.is_open links.old) (L.plans links.old) (L.waits links.old)
-        (L.given links.old) (L.handed links.old) (L.faults links.old)))
-        (told (C.readings clock.new)
-        (links_told (L.is_open links.new) (L.plans links.new) (L.waits links.new) (L.given links.new) (L.handed links.new)
-        (L.faults links.new))) None }
+    ensures memory { result ≡ Status.OutOfMemory → ((told (C.readings clock.new) (links_told L.Links links.new)) ≡
+        (told (C.readings clock.old) (links_told L.Links links.old))) ⊎ Ran plan (told (C.readings clock.old) (links_told L.Links links.old))
+        (told (C.readings clock.new) (links_told L.Links links.new)) None }
 {
     match run_node(rt, alloc, plan, links, clock, gate) {
         Ok(daemon) => write_lines(alloc, &daemon, sink),

@@ -13,10 +13,11 @@ use std::alloc::Global;
 use std::sync::Wait;
 use std::thread::Threads;
 
-/// Opens the node of this plan and its agents, and makes the plan's turns over links that are open.
+/// Opens the node of this plan and its agents, makes the opening calls of the one that manages prefixes, and then makes the
+/// plan's turns over links that are open.
 ///
-/// Want of memory is answered before the first turn, where there is none for the node; and after the last one, where an
-/// agent had to stop.
+/// Want of memory is answered before the first turn, where there is none for the node or for an opening call; and after the
+/// last one, where an agent had to stop.
 pub fn run_node<R: Threads + Wait + Sync, L: Links, C: Clock, G: Gate + Sync>(
     rt: &R,
     alloc: Global,
@@ -27,11 +28,7 @@ pub fn run_node<R: Threads + Wait + Sync, L: Links, C: Clock, G: Gate + Sync>(
 ) -> Result<Daemon, OutOfMemory>
     requires beacons { length plan.beacons < 255 }
     requires readers { length plan.readers < 255 }
-    ensures { RunsNode plan (told (C.readings clock.old) (links_told (L.is_open links.old) (L.plans links.old)
-        (L.waits links.old) (L.given links.old) (L.handed links.old) (L.faults links.old))) result
-        (told (C.readings clock.new)
-        (links_told (L.is_open links.new) (L.plans links.new) (L.waits links.new) (L.given links.new) (L.handed links.new)
-        (L.faults links.new))) }
+    ensures { RunsNode plan (told (C.readings clock.old) (links_told L.Links links.old)) result (told (C.readings clock.new) (links_told L.Links links.new)) }
 {
     let DaemonPlan {
         node,

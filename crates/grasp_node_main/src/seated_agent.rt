@@ -22,7 +22,7 @@ pub struct SeatedAgent {
 }
 
 impl SeatedAgent {
-    /// An agent that has made no call, and has no pass yet.
+    /// An agent that has made no call in a turn, and has no pass yet.
     pub fn of(worker: Worker) -> SeatedAgent
         ensures { result ≡ first_seat worker }
     {

@@ -1,10 +1,15 @@
 -- How many lines a text has.
-use Rattle.std.proofs.Common.{◌≡◌, ◌≢◌, ◌<◌, ◌≤◌, ◌↔◌, IsTrue, nat_lt, ◌+◌, ◌==◌, if◌then◌else◌, ℕ, Bool, true, false, List, [], ◌∷◌, length, refl, ap, arith}
+use Rattle.std.proofs.Common.{◌≡◌, ◌≢◌, ◌<◌, ◌≤◌, ◌↔◌, IsTrue, nat_lt, ◌+◌, ◌==◌, if◌then◌else◌, ℕ, suc, ◌^◌, Bool, true, false, List, [], ◌∷◌, length, length-append, refl, ap, arith, inl, inr}
 use Rattle.std.proofs.lemmas.Bool.{ltb-true, lt-ltb}
 use Rattle.std.specs.List.{slice_split, onto_first}
 use Rattle.std.proofs.lemmas.List.Splits.{length-slice_split}
 use Rattle.grasp_script.specs.Scripts.{without_empty_end, text_lines}
 use Rattle.grasp_script.proofs.Splitting.{no_line}
+use Rattle.grasp_pool.proofs.Lists.{lt_tells}
+use Rattle.grasp_model_network.specs.declared.plan.WorldPlan.{WorldPlan}
+use Rattle.grasp_script_kept.specs.Scripts.{IsKeptScript, kept_texts}
+use Rattle.grasp_script_kept.specs.declared.line.KeptLine.{KeptLine}
+use Rattle.grasp_replay_main.specs.Limits.{line_limit}
 
 one_more : (c : Bool) (b n : ℕ) (parts : List (List ℕ)) → 1 ≤ length parts → length (without_empty_end parts) ≤ n
     → length (without_empty_end (if c then [] ∷ parts else onto_first b parts)) ≤ n + 1
@@ -42,3 +47,16 @@ more_lines limit count s e = (
 pub has_bytes : (s : List ℕ) → s ≢ [] → 1 ≤ length s
 has_bytes [] some = absurd (some refl)
 has_bytes (b ∷ s) some = omega arith
+
+-- ---- the lines of a script of a network whose nodes crash
+
+as_many_texts : (lines : List KeptLine) → length (kept_texts lines) ≡ length lines
+as_many_texts [] = refl
+as_many_texts (x ∷ xs) = ap (λ (n : ℕ). suc n) (as_many_texts xs)
+
+-- a text of few lines is a script of few
+pub few_kept_lines : (input : List ℕ) (plan : WorldPlan) (lines : List KeptLine) → IsKeptScript input plan lines → ¬ (line_limit < length (text_lines input)) → length lines < 2 ^ 32
+few_kept_lines input plan lines script few = elim (lt_tells line_limit (length (text_lines input))) [
+  | inl h ↦ absurd (few h.1)
+  | inr h ↦ omega (arith, h.1, ap (λ (l : List (List ℕ)). length l) script.parts, length-append script.header (kept_texts lines), as_many_texts lines)
+]

@@ -6,7 +6,7 @@ use Rattle.grasp_replay_main.specs.Task.{Makes, ReadsInput, Tells, input_of, IsT
 use Rattle.grasp_replay_main.specs.declared.exit.Status.{Status}
 use Rattle.grasp_replay_main.specs.declared.exit.Status.TheVariants as status
 use Rattle.grasp_replay_main.specs.declared.task.Task.{Task}
-use Rattle.grasp_replay_main.specs.declared.task.Task.TheVariants.{Show, Pack, Replay, Gen, Draw}
+use Rattle.grasp_replay_main.specs.declared.task.Task.TheVariants.{Show, Pack, Replay, Keep, Gen, Draw}
 use Rattle.grasp_replay_main.proofs.Tasks.{no_bad_input, stops_too_far, whole_runs}
 
 -- R and K: the source and the sink failed; U: the sink is untouched; known: the input, where it is known
@@ -31,6 +31,7 @@ pub made_of : (task : Task) (limit : ℕ) (left before after : Option (List ℕ)
 made_of Show limit left before after s t = made_of_read Show limit left before after tt s t
 made_of Pack limit left before after s t = made_of_read Pack limit left before after tt s t
 made_of Replay limit left before after s t = made_of_read Replay limit left before after tt s t
+made_of Keep limit left before after s t = made_of_read Keep limit left before after tt s t
 made_of (Gen number) limit left before after s t = (t.output, t.makes)
 made_of (Draw number) limit left before after s t = (t.output, t.makes)
 

@@ -17,6 +17,10 @@ use Rattle.grasp_script.proofs.ScriptLaws.{one_script, no_bad_line}
 use Rattle.grasp_model_script.specs.Laws.{TextsAgree, RunsOrStops}
 use Rattle.grasp_model_script.specs.ScriptRuns.{Replays}
 use Rattle.grasp_model_script.specs.Stops.{IsStoppedText, SendsTooMuch, TextSendsTooMuch}
+use Rattle.grasp_model_script_kept.specs.ScriptRuns.{KeepsReporting, KeepsTooMuch, KeptSendsTooMuch, StopsKeeping}
+use Rattle.grasp_model_script_kept.proofs.OneRun.{kept_runs_or_stop, kept_texts_agree}
+use Rattle.grasp_script_kept.specs.declared.line.KeptLine.{KeptLine}
+use Rattle.grasp_script_kept.proofs.ScriptLaws.{one_script as one_kept_script}
 use Rattle.grasp_wire.specs.Laws.{encoded}
 use Rattle.grasp_wire.specs.Reads.{named}
 use Rattle.grasp_wire.specs.Stream.{Divides, waiting, IsRest}
@@ -28,16 +32,16 @@ use Rattle.grasp_replay_main.specs.Laws.{AreLines, IsWholeInput, TasksAreFunctio
 use Rattle.grasp_replay_main.specs.Pack.{CanPack, IsRefused, StopsAt, Packs}
 use Rattle.grasp_replay_main.specs.Ending.{status_of}
 use Rattle.grasp_replay_main.specs.Gen.{Summarizes, Overruns}
-use Rattle.grasp_replay_main.specs.Replay.{Stops, IsShortScript}
+use Rattle.grasp_replay_main.specs.Replay.{Stops, IsShortKeptScript, IsShortScript}
 use Rattle.grasp_replay_main.specs.Show.{Shows, shown, rest_finding}
-use Rattle.grasp_replay_main.specs.Task.{ShowMakes, PackMakes, ReplayMakes, GenMakes, DrawMakes, Makes, RunsTooFar, IsBadScript}
+use Rattle.grasp_replay_main.specs.Task.{ShowMakes, PackMakes, ReplayMakes, KeepMakes, GenMakes, DrawMakes, Makes, RunsTooFar, IsBadScript}
 use Rattle.grasp_replay_main.specs.Written.{Writes}
 use Rattle.grasp_replay_main.specs.declared.exit.Finding.{Finding}
 use Rattle.grasp_replay_main.specs.declared.exit.Finding.TheVariants.{Cut, Truncated, BadText, TooLong}
 use Rattle.grasp_replay_main.specs.declared.exit.Status.{Status}
 use Rattle.grasp_replay_main.specs.declared.exit.Status.TheVariants as status
 use Rattle.grasp_replay_main.specs.declared.task.Task.{Task}
-use Rattle.grasp_replay_main.specs.declared.task.Task.TheVariants.{Show, Pack, Replay, Gen, Draw}
+use Rattle.grasp_replay_main.specs.declared.task.Task.TheVariants.{Show, Pack, Replay, Keep, Gen, Draw}
 use Rattle.grasp_replay_main.specs.declared.unfinished.Unfinished.{Unfinished}
 
 -- a stream divides in one way
@@ -153,6 +157,11 @@ replay_end input output status.Ok x = inl (refl, x)
 replay_end input output status.TooLarge x = inr (refl, x)
 replay_end input output _ x = absurd x
 
+keep_end : (input output : List ℕ) (s : Status) → KeepMakes input output s → EndsOrStops (KeepsReporting input) (StopsKeeping input) output s
+keep_end input output status.Ok x = inl (refl, x)
+keep_end input output status.TooLarge x = inr (refl, x)
+keep_end input output _ x = absurd x
+
 -- what is written of a drawn script whose run is cut off: nothing
 abbrev NothingOf : ℕ → List ℕ → Type 0
 NothingOf number output = (output ≡ []) × Overruns number
@@ -173,6 +182,9 @@ ends_one P Q a b s t ends stops not_both not_either (inr x) (inl y) = absurd (no
 -- a run that is cut off sends too much
 pub too_much : (input output : List ℕ) → Stops input output → TextSendsTooMuch input
 too_much input output x = record { plan = x.plan; lines = x.lines; script = x.script; stops = x.stopped.stops }
+
+pub keeps_too_much : (input output : List ℕ) → StopsKeeping input output → KeepsTooMuch input
+keeps_too_much input output x = record { plan = x.plan; lines = x.lines; script = x.script; stops = x.stopped.stops }
 
 stopped_one : TextsAgree → (input a b : List ℕ) → Stops input a → Stops input b → a ≡ b
 stopped_one k input a b x y =
@@ -202,6 +214,11 @@ replay_one k j input a b s t x y =
     ends_one (Replays input) (Stops input) a b s t (k.replays input a b) (stopped_one k input a b) (λ ends stops. j.replays input a ends (too_much input b stops))
     (λ ends stops. j.replays input b ends (too_much input a stops)) (replay_end input a s x) (replay_end input b t y)
 
+keep_one : (input a b : List ℕ) (s t : Status) → KeepMakes input a s → KeepMakes input b t → (a ≡ b) × (s ≡ t)
+keep_one input a b s t x y =
+    ends_one (KeepsReporting input) (StopsKeeping input) a b s t (kept_texts_agree.texts input a b) (kept_texts_agree.stopped input a b)
+    (λ ends stops. kept_runs_or_stop.texts input a ends (keeps_too_much input b stops)) (λ ends stops. kept_runs_or_stop.texts input b ends (keeps_too_much input a stops)) (keep_end input a s x) (keep_end input b t y)
+
 gen_one : TextsAgree → RunsOrStops → (number : ℕ) (a b : List ℕ) (s t : Status) → GenMakes number a s → GenMakes number b t → (a ≡ b) × (s ≡ t)
 gen_one k j number a b s t x y =
     ends_one (Summarizes number) (NothingOf number) a b s t (k.summaries (script_of number) number a b) (λ p q. p.0 ∙ sym q.0) (λ ends stops. j.summaries (script_of number) number a ends stops.1)
@@ -216,6 +233,7 @@ pub tasks_are_functions : TextsAgree → RunsOrStops → TasksAreFunctions
 tasks_are_functions k j Show limit input a b s t some bytes x y = show_one limit input a b s t bytes x y
 tasks_are_functions k j Pack limit input a b s t some bytes x y = pack_one limit input a b s t x y
 tasks_are_functions k j Replay limit input a b s t some bytes x y = replay_one k j input a b s t x y
+tasks_are_functions k j Keep limit input a b s t some bytes x y = keep_one input a b s t x y
 tasks_are_functions k j (Gen number) limit input a b s t some bytes x y = gen_one k j number a b s t x y
 tasks_are_functions k j (Draw number) limit input a b s t some bytes x y = draw_one number a b s t x y
 
@@ -226,10 +244,17 @@ short_runs input plan lines short x =
     let at_plan : SendsTooMuch plan x.lines = subst (λ (p : WorldPlan). SendsTooMuch p x.lines) one.0 x.stops in
     short.fits (subst (λ (ls : List Line). SendsTooMuch plan ls) one.1 at_plan)
 
+short_keeps : (input : List ℕ) (plan : WorldPlan) (lines : List KeptLine) → IsShortKeptScript input plan lines → ¬ KeepsTooMuch input
+short_keeps input plan lines short x =
+    let one = one_kept_script input x.plan plan x.lines lines x.script short.script in
+    let at_plan : KeptSendsTooMuch plan x.lines = subst (λ (p : WorldPlan). KeptSendsTooMuch p x.lines) one.0 x.stops in
+    short.fits (subst (λ (ls : List KeptLine). KeptSendsTooMuch plan ls) one.1 at_plan)
+
 pub whole_runs : (task : Task) (limit : ℕ) (input : List ℕ) → RunsTooFar task input → ¬ IsWholeInput task limit input
 whole_runs Show limit input far whole = far
 whole_runs Pack limit input far whole = far
 whole_runs Replay limit input far whole = short_runs input whole.0 whole.1 whole.2 far
+whole_runs Keep limit input far whole = short_keeps input whole.0 whole.1 whole.2 far
 whole_runs (Gen number) limit input far whole = whole far
 whole_runs (Draw number) limit input far whole = far
 
@@ -238,6 +263,7 @@ pub stops_too_far : (task : Task) (limit : ℕ) (input output : List ℕ) → Ma
 stops_too_far Show limit input output x = absurd x
 stops_too_far Pack limit input output x = absurd x
 stops_too_far Replay limit input output x = too_much input output x
+stops_too_far Keep limit input output x = keeps_too_much input output x
 stops_too_far (Gen number) limit input output x = x.1
 stops_too_far (Draw number) limit input output x = x
 
@@ -256,6 +282,8 @@ whole_inputs_end_well Pack limit input output ended some bytes whole x =
     (pack_one limit input output (encoded whole.0) ended status.Ok x (packs_whole limit whole.0 input whole.1)).1
 whole_inputs_end_well Replay limit input output ended some bytes whole x =
     well_unless (Replays input) (Stops input) output ended (replay_end input output ended x) (λ stops. whole_runs Replay limit input (too_much input output stops) whole)
+whole_inputs_end_well Keep limit input output ended some bytes whole x =
+    well_unless (KeepsReporting input) (StopsKeeping input) output ended (keep_end input output ended x) (λ stops. whole_runs Keep limit input (keeps_too_much input output stops) whole)
 whole_inputs_end_well (Gen number) limit input output ended some bytes whole x =
     well_unless (Summarizes number) (NothingOf number) output ended (gen_end number output ended x) (λ stops. whole stops.1)
 whole_inputs_end_well (Draw number) limit input output ended some bytes whole x = draw_ends number output ended x
@@ -288,4 +316,5 @@ written_whole P task named limit input before after (Err e) some bytes is makes 
 -- no line of a whole input is bad
 pub no_bad_input : (task : Task) (limit : ℕ) (input : List ℕ) (line : ℕ) → IsBadScript task input line → ¬ IsWholeInput task limit input
 no_bad_input Replay limit input line bad whole = no_bad_line input whole.0 whole.1 line whole.2.script bad.0
+no_bad_input Keep limit input line bad whole = bad.1 whole.0 whole.1 whole.2.script
 no_bad_input _ limit input line bad whole = bad

@@ -6,6 +6,8 @@ use Rattle.grasp_script.specs.Scripts.{text_lines, IsBadLine, IsNoScript}
 use Rattle.grasp_script_draws.specs.Generator.{script_of}
 use Rattle.grasp_model_script.specs.ScriptRuns.{Replays, BeginsToReplay}
 use Rattle.grasp_model_script.specs.Stops.{TextSendsTooMuch}
+use Rattle.grasp_model_script_kept.specs.ScriptRuns.{BeginsToKeep, KeepsReporting, KeepsTooMuch, StopsKeeping}
+use Rattle.grasp_script_kept.specs.Scripts.{IsBadKeptLine, IsNoKeptScript}
 use Rattle.grasp_text.specs.Reading.{number_of}
 use Rattle.grasp_replay_main.specs.Gen.{Summarizes, Overruns}
 use Rattle.grasp_replay_main.specs.Pack.{Packs}
@@ -18,14 +20,15 @@ use Rattle.grasp_replay_main.specs.declared.exit.Status.{Status}
 use Rattle.grasp_replay_main.specs.declared.exit.Status.TheVariants as status
 use Rattle.grasp_replay_main.specs.Limits.{input_limit, line_limit}
 use Rattle.grasp_replay_main.specs.declared.task.Task.{Task}
-use Rattle.grasp_replay_main.specs.declared.task.Task.TheVariants.{Show, Pack, Replay, Gen, Draw}
+use Rattle.grasp_replay_main.specs.declared.task.Task.TheVariants.{Show, Pack, Replay, Keep, Gen, Draw}
 use Rattle.grasp_replay_main.specs.declared.unfinished.Unfinished.{Unfinished}
 use Rattle.grasp_replay_main.specs.declared.unfinished.Unfinished.TheVariants as unfinished
 
 -- what one word asks for
 abbrev pub task_named : List ℕ → Option Task
 task_named word =
-    if bytes_eq word (codes "show") then Some Show else if bytes_eq word (codes "pack") then Some Pack else if bytes_eq word (codes "replay") then Some Replay else None
+    if bytes_eq word (codes "show") then Some Show else if bytes_eq word (codes "pack") then Some Pack else if bytes_eq word (codes "replay") then Some Replay
+    else if bytes_eq word (codes "keep") then Some Keep else None
 
 -- what a word and a number ask for; the number is decimal, below 2 ^ 64
 abbrev pub task_numbered : List ℕ → List ℕ → Option Task
@@ -45,6 +48,7 @@ abbrev pub ReadsInput : Task → Type 0
 ReadsInput Show = ⊤
 ReadsInput Pack = ⊤
 ReadsInput Replay = ⊤
+ReadsInput Keep = ⊤
 ReadsInput (Gen number) = ⊥
 ReadsInput (Draw number) = ⊥
 
@@ -53,6 +57,7 @@ abbrev pub input_of : Task → Option (List ℕ) → Option (List ℕ)
 input_of Show left = left
 input_of Pack left = left
 input_of Replay left = left
+input_of Keep left = left
 input_of (Gen number) left = Some []
 input_of (Draw number) left = Some []
 
@@ -90,6 +95,10 @@ PackMakes limit input output ended = IsUpToFinding (Packs limit input output) en
 abbrev pub ReplayMakes : List ℕ → List ℕ → Status → Type 0
 ReplayMakes input output ended = IsUpToStop (Replays input output) (Stops input output) ended
 
+-- what `keep` makes of an input: the text of the whole run of its network, whose nodes may crash, or of the run up to the line that sends too much
+abbrev pub KeepMakes : List ℕ → List ℕ → Status → Type 0
+KeepMakes input output ended = IsUpToStop (KeepsReporting input output) (StopsKeeping input output) ended
+
 -- what `gen` makes of a number: the summary of the whole run, or nothing where the run sends too much
 abbrev pub GenMakes : ℕ → List ℕ → Status → Type 0
 GenMakes number output ended = IsUpToStop (Summarizes number output) ((output ≡ []) × Overruns number) ended
@@ -103,6 +112,7 @@ abbrev pub Makes : Task → ℕ → List ℕ → List ℕ → Status → Type 0
 Makes Show limit input output ended = ShowMakes limit input output ended
 Makes Pack limit input output ended = PackMakes limit input output ended
 Makes Replay limit input output ended = ReplayMakes input output ended
+Makes Keep limit input output ended = KeepMakes input output ended
 Makes (Gen number) limit input output ended = GenMakes number output ended
 Makes (Draw number) limit input output ended = DrawMakes number output ended
 
@@ -112,6 +122,7 @@ abbrev pub MayBegin : Task → ℕ → List ℕ → List ℕ → Type 0
 MayBegin Show limit input output = (ended : Status) × ShowMakes limit input output ended
 MayBegin Pack limit input output = (ended : Status) × PackMakes limit input output ended
 MayBegin Replay limit input output = BeginsToReplay input output
+MayBegin Keep limit input output = BeginsToKeep input output
 MayBegin (Gen number) limit input output = Summarizes number output
 MayBegin (Draw number) limit input output = output ≡ script_of number
 
@@ -120,6 +131,7 @@ abbrev pub HasTooManyLines : Task → List ℕ → Type 0
 HasTooManyLines Show input = ⊥
 HasTooManyLines Pack input = ⊥
 HasTooManyLines Replay input = line_limit < length (text_lines input)
+HasTooManyLines Keep input = line_limit < length (text_lines input)
 HasTooManyLines (Gen number) input = ⊥
 HasTooManyLines (Draw number) input = ⊥
 
@@ -128,6 +140,7 @@ abbrev pub HasTooManyBytes : Task → List ℕ → Type 0
 HasTooManyBytes Show input = input_limit < length input
 HasTooManyBytes Pack input = input_limit < length input
 HasTooManyBytes Replay input = input_limit < length input
+HasTooManyBytes Keep input = input_limit < length input
 HasTooManyBytes (Gen number) input = ⊥
 HasTooManyBytes (Draw number) input = ⊥
 
@@ -140,6 +153,7 @@ abbrev pub RunsTooFar : Task → List ℕ → Type 0
 RunsTooFar Show input = ⊥
 RunsTooFar Pack input = ⊥
 RunsTooFar Replay input = TextSendsTooMuch input
+RunsTooFar Keep input = KeepsTooMuch input
 RunsTooFar (Gen number) input = Overruns number
 RunsTooFar (Draw number) input = ⊥
 
@@ -148,6 +162,7 @@ abbrev pub IsBadScript : Task → List ℕ → ℕ → Type 0
 IsBadScript Show input line = ⊥
 IsBadScript Pack input line = ⊥
 IsBadScript Replay input line = IsBadLine input line × IsNoScript input
+IsBadScript Keep input line = IsBadKeptLine input line × IsNoKeptScript input
 IsBadScript (Gen number) input line = ⊥
 IsBadScript (Draw number) input line = ⊥
 

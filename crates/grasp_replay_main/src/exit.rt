@@ -78,7 +78,10 @@ pub fn fault_line(alloc: Global, status: &Status) -> Result<Chars, OutOfMemory>
     match status {
         Status::Ok => Ok(Chars::new(alloc)),
         Status::Finding(finding) => finding_line(alloc, finding),
-        Status::Usage => Chars::of(alloc, "usage: grasp_replay show|pack|replay|gen N|draw N"),
+        Status::Usage => Chars::of(
+            alloc,
+            "usage: grasp_replay show|pack|replay|keep|gen N|draw N",
+        ),
         Status::BadScript { line } => numbered(alloc, "bad script in line", *line),
         Status::ReadFault => Chars::of(alloc, "read fault"),
         Status::WriteFault => Chars::of(alloc, "write fault"),

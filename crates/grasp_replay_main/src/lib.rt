@@ -1,11 +1,13 @@
 //! The tasks of the tool for GRASP (RFC 8990): `show` writes a line for each message of a stream, `pack` a message for
-//! each line, `replay` what each line of a script of a network comes to, and `gen` what the run of a script came to that is
-//! drawn from a number. One call, `replay_main`, does all of it over any source and sink.
+//! each line, `replay` what each line of a script of a network comes to, `keep` that of a network whose nodes crash, and
+//! `gen` what the run of a script came to that is drawn from a number. One call, `replay_main`, does all of it over any
+//! source and sink.
 #![tactic(auto)]
 
 mod drawn;
 mod ending;
 mod exit;
+mod keep;
 mod laws;
 mod lines;
 mod pack;

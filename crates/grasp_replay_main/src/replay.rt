@@ -62,7 +62,7 @@ fn read_script(alloc: Global, input: &[u8]) -> Result<Script, Unfinished>
 }
 
 /// Whether the input has more lines than a script may have.
-fn has_too_many_lines(input: &[u8]) -> bool
+pub(crate) fn has_too_many_lines(input: &[u8]) -> bool
     ensures { IsTrue result ↔ HasTooManyLines Replay input.now }
 {
     count_lines(input) > LINE_LIMIT

@@ -13,6 +13,8 @@ pub enum Task {
     Pack,
     /// Run a script, and write what each of its lines comes to.
     Replay,
+    /// Run a script in a network whose nodes keep their pools on disks, and may crash, and write what each of its lines comes to.
+    Keep,
     /// Run the script that is drawn from the number, and write what it came to.
     Gen { number: u64 },
     /// Write the script that is drawn from the number.
@@ -39,6 +41,8 @@ fn task_named(word: &str) -> Option<Task>
         Some(Task::Pack)
     } else if word == "replay" {
         Some(Task::Replay)
+    } else if word == "keep" {
+        Some(Task::Keep)
     } else {
         None
     }

@@ -6,12 +6,15 @@ const HELP: &str = "\
 Usage: grasp_replay show < STREAM
        grasp_replay pack < LINES
        grasp_replay replay < SCRIPT
+       grasp_replay keep < SCRIPT
        grasp_replay gen N
        grasp_replay draw N
 
   show       writes a line for each GRASP message (RFC 8990) of the stream
   pack       writes the message of each line, in its shortest encoding
   replay     runs a script of a network, and writes what each line comes to
+  keep       runs a script of a network whose nodes keep pools on disks and may
+             crash and begin anew, and writes what each line comes to
   gen N      runs the script of a network that is drawn from the number N,
              and writes one line that tells what it came to
   draw N     writes the script that is drawn from the number N

@@ -178,7 +178,7 @@ script_opener_is : (p : WorldPlan) (k near : ℕ) → (script_setting p).arrives
 unfolding script_setting
 script_opener_is p k near = refl
 
-arrives_as : (code : World) (s : Setting) (w : WorldState) (node k : ℕ) → WorldKeeps code s w → s.arrives_as node k ≡ 2 * k - 1
+pub arrives_as : (code : World) (s : Setting) (w : WorldState) (node k : ℕ) → WorldKeeps code s w → s.arrives_as node k ≡ 2 * k - 1
 arrives_as code s w node k keeps = ap (λ (q : Setting). q.arrives_as node k) keeps.setting ∙ script_number_is code.plan node k
 
 arrives_from : (code : World) (s : Setting) (w : WorldState) (k near : ℕ) → WorldKeeps code s w → s.arrives_from k (script_member code.plan near).plan.address ≡ script_address near

@@ -27,21 +27,21 @@ is_this : (o : Option Prefix) (p : Prefix) → o ≡ Some p → is_it o p ≡ tr
 is_this None p e = absurd (none-some p e)
 is_this (Some q) p e = prefix_itself p q (sym (same_Some q p e))
 
-act_offers : (a : AgentState) (o : Option Act) (p : Prefix) → a.act ≡ o → offered_by o ≡ Some p → IsToBeOffered a p
+pub act_offers : (a : AgentState) (o : Option Act) (p : Prefix) → a.act ≡ o → offered_by o ≡ Some p → IsToBeOffered a p
 act_offers a None p e f = absurd (none-some p f)
 act_offers a (Some (act.Offer place h q)) p e f = by_act place h (e ∙ ap (λ x. Some (act.Offer place h x)) (same_Some q p f))
 act_offers a (Some (act.Counter h n)) p e f = absurd (none-some p f)
 act_offers a (Some (act.Accept h q)) p e f = absurd (none-some p f)
 act_offers a (Some (act.Decline h reason)) p e f = absurd (none-some p f)
 
-back_offers : (a : AgentState) (o : Option Return) (p : Prefix) → a.back ≡ o → unsent_of o ≡ Some p → IsToBeOffered a p
+pub back_offers : (a : AgentState) (o : Option Return) (p : Prefix) → a.back ≡ o → unsent_of o ≡ Some p → IsToBeOffered a p
 back_offers a None p e f = absurd (none-some p f)
 back_offers a (Some r) p e f = by_session r.session refl f where
   by_session : (o : Option Handle) → r.session ≡ o → unsent_of (Some (record r { session = o })) ≡ Some p → IsToBeOffered a p
   by_session None none g = by_return r e none (same_Some r.prefix p g)
   by_session (Some h) some g = absurd (none-some p g)
 
-to_offer : (a : AgentState) (p : Prefix) → IsToBeOffered a p → (offered_by a.act ≡ Some p) ⊎ (unsent_of a.back ≡ Some p)
+pub to_offer : (a : AgentState) (p : Prefix) → IsToBeOffered a p → (offered_by a.act ≡ Some p) ⊎ (unsent_of a.back ≡ Some p)
 to_offer a p (by_act place h is) = inl (ap offered_by is)
 to_offer a p (by_return r is none same) = inr (ap unsent_of is ∙ (ap (λ (o : Option Handle). unsent_of (Some (record r { session = o }))) none ∙ ap (λ x. Some x) same))
 

@@ -1,5 +1,5 @@
 -- A node begins anew: the network that the code keeps then.
-use Rattle.std.proofs.Common.{◌≡◌, ◌≢◌, ◌⊎◌, inl, inr, ◌≤◌, ◌<◌, refl, sym, ap, ◌∙◌, subst, arith, ℕ, zero, suc, ◌+◌, ◌*◌, ◌-◌, ◌/◌, ◌%◌, ◌==◌, ◌&&◌, ◌||◌, Bool, true, false, cond, List, [], ◌∷◌, ◌++◌, length, map, Option, Some, None, slice_get, slice_set, slice_index_or, nat_lt, min, is_some, All}
+use Rattle.std.proofs.Common.{◌≡◌, ◌≢◌, ◌⊎◌, inl, inr, ◌≤◌, ◌<◌, refl, sym, ap, ◌∙◌, subst, arith, ℕ, zero, suc, ◌+◌, ◌*◌, ◌-◌, ◌/◌, ◌%◌, ◌==◌, ◌&&◌, ◌||◌, Bool, true, false, cond, List, [], ◌∷◌, ◌++◌, length, map, filter, Option, Some, None, slice_get, slice_set, slice_index_or, nat_lt, min, is_some, All}
 use Rattle.std.specs.List.{count_by, list_any}
 use Rattle.std.specs.Vec.{with_item}
 use Rattle.std.proofs.lemmas.Bool.{cases_eq, eqb-true, true≢false, ne_eqb, and_parts}
@@ -7,6 +7,10 @@ use Rattle.std.proofs.lemmas.List.{length-set, length-append}
 use Rattle.std.proofs.lemmas.List.Sums.{sum_by-cons}
 use Rattle.std.proofs.lemmas.List.Folds.{list_any-append}
 use Rattle.std.proofs.lemmas.Option.{none-some, same_Some}
+use Rattle.grasp_simulator.proofs.Remembered.{restart_remembers}
+use Rattle.grasp_laws_prefixes.specs.Grounds.{Grounds}
+use Rattle.grasp_agent.specs.States.{AgentState}
+use Rattle.grasp_agent.specs.Reopening.{retired}
 use Rattle.grasp_laws_delivery.proofs.Ends.{same_ends}
 use Rattle.grasp_laws_delivery.specs.Ready.{Every, HasGoodEnds, StreamsAreReady}
 use Rattle.grasp_laws_network.proofs.Lists.{numbered_there, slice_map}
@@ -32,7 +36,7 @@ use Rattle.grasp_types.specs.declared.address.Locator.{Locator}
 use Rattle.grasp_simulator.specs.Listening.{listener_from}
 use Rattle.grasp_simulator.specs.Marking.{begins_as, is_below, is_marked, matches, MarksStand, WasDialled}
 use Rattle.grasp_simulator.specs.PlacesStand.{PlacesStand}
-use Rattle.grasp_simulator.specs.Restarts.{AreMarked}
+use Rattle.grasp_simulator.specs.Restarts.{AreMarked, stays_noted}
 use Rattle.grasp_simulator.specs.Seats.{IsPresent, SeatStands, SeatsStand}
 use Rattle.grasp_simulator.specs.StreamParts.{ended_at}
 use Rattle.grasp_simulator.specs.StreamsStand.{HasSides, Queueing, StreamsStand, TableStands, TalkStands, first_arrival}
@@ -111,12 +115,16 @@ either : (a b : Bool) → (a || b) ≡ true → (a ≡ true) ⊎ (b ≡ true)
 either true b is = inl refl
 either false b is = inr is
 
+-- a node's seat is the same, wherever it is read
+pub seat_read : (code : World) (node i j : ℕ) (a b : SeatCode) → IsNode (length code.seats.items) node → i ≡ node - 1 → a ≡ slice_index_or code.seats.items i a → j ≡ node - 1 → b ≡ slice_index_or code.seats.items j b → a ≡ b
+seat_read code node i j a b is at_i got_a at_j got_b = same_Some a b (sym (got_own code node i a is at_i got_a) ∙ (ap (λ n. slice_get code.seats.items n) (at_i ∙ sym at_j) ∙ got_own code node j b is at_j got_b))
+
 -- ---- the code's network then
 
-module _ (law : StreamsAreReady) (old : World) (node i : ℕ) (own next : SeatCode) (image : PoolImage) (streams : Streams) (marks : List Mark) (notes : Notes) (taken : List ℕ) (is_node : IsNode (length old.seats.items) node)
+module _ (l : Grounds) (law : StreamsAreReady) (old : World) (node i : ℕ) (own next : SeatCode) (image : PoolImage) (streams : Streams) (marks : List Mark) (notes : Notes) (taken : List ℕ) (is_node : IsNode (length old.seats.items) node)
     (place : i ≡ node - 1) (got : own ≡ slice_index_or old.seats.items i own) (lives_are : taken ≡ old.lives ++ node ∷ []) (life_is : next.life ≡ length taken)
     (opened : SeatStands next (opened_seat (script_node old.plan node) (pool_of_image image))) (marked : AreMarked old.seats.items node old.marks marks)
-    (told : streams.list.items ≡ map (ended_at own.life node old.plan.nodes) old.streams.list.items) (index : streams.near ≡ old.streams.near) where
+    (told : streams.list.items ≡ map (ended_at own.life node old.plan.nodes) old.streams.list.items) (index : streams.near ≡ old.streams.near) (offers : notes.offers.items ≡ filter (stays_noted node (retired own.agent).pool) old.notes.offers.items) (accepted : notes.accepted ≡ old.notes.accepted) where
   abbrev new : World
   new = record old { seats = with_item old.seats i next; lives = taken; streams = streams; marks = marks; notes = notes }
 
@@ -342,4 +350,8 @@ module _ (law : StreamsAreReady) (old : World) (node i : ℕ) (own next : SeatCo
     }
 
     pub restarts : GoesOn new s x
-    restarts = record { goes = record { reached = restarted_reached s w node image h.goes.reached may; keeps = keeps_then } }
+    restarts = record {
+      goes = record { reached = restarted_reached s w node image h.goes.reached may; keeps = keeps_then };
+      remembers = restart_remembers l s w node image h.goes.reached may mine.seat mine.here old.notes notes
+          (offers ∙ ap (λ (a : AgentState). filter (stays_noted node (retired a).pool) old.notes.offers.items) mine.stands.agent) accepted h.remembers;
+    }

@@ -6,6 +6,7 @@ use Rattle.std.specs.Vec.{with_item}
 use Rattle.grasp_agent.specs.States.{AgentState}
 use Rattle.grasp_laws_network.proofs.Going.{settled_reached}
 use Rattle.grasp_laws_network.proofs.LivesKept.{dead_member}
+use Rattle.grasp_laws_prefixes.specs.Grounds.{Grounds}
 use Rattle.grasp_model_network.specs.Plans.{IsNode}
 use Rattle.grasp_model_network.specs.Setting.{Setting}
 use Rattle.grasp_model_network.specs.Settling.{IsDead, after_settle, is_other, offer_by}
@@ -22,6 +23,7 @@ use Rattle.grasp_simulator.specs.WorldSteps.{IsAskedFor, Turned}
 use Rattle.grasp_simulator.specs.declared.seat.Seat.{Seat as SeatCode}
 use Rattle.grasp_simulator.specs.declared.world.World.{World}
 use Rattle.grasp_simulator.proofs.Presence.{OwnSeat, own_seat, got_own, code_node}
+use Rattle.grasp_simulator.proofs.Remembered.{settle_remembers}
 use Rattle.grasp_simulator.proofs.Turns.{seat_keeps}
 
 -- ---- what is asked
@@ -70,7 +72,7 @@ settled_keeps code s w list keeps = record {
   goes = keeps.goes;
 }
 
-module _ (old : World) (node i : ℕ) (p : Prefix) (own changed : SeatCode) (still : changed.life ≡ own.life) (place : i ≡ node - 1) (got : own ≡ slice_index_or old.seats.items i own)
+module _ (l : Grounds) (old : World) (node i : ℕ) (p : Prefix) (own changed : SeatCode) (still : changed.life ≡ own.life) (place : i ≡ node - 1) (got : own ≡ slice_index_or old.seats.items i own)
     (turns : (s : Seat) → SeatStands own s → SeatStands changed (settled s p)) where
   abbrev new : World
   new = record old { seats = with_item old.seats i changed }
@@ -89,6 +91,7 @@ module _ (old : World) (node i : ℕ) (p : Prefix) (own changed : SeatCode) (sti
               (settled_keeps new s next (w.settled ++ dead.offer ∷ [])
               (seat_keeps old s w keeps life i own changed (got_own old node i own is_node place got) still (sym found.life) (settled found.seat p) (turns found.seat found.stands) (filter (is_other dead.offer) w.offers)));
         };
+        remembers = settle_remembers l s w node p h.goes.reached dead old.notes h.remembers;
       }
 
   by_standing : old.stopped ≡ None → (s : Setting) (at : Standing) → WorldStands old (record { setting = s; standing = at }) → MayAskFor s at (turn.Settle node p)

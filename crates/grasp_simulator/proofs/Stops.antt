@@ -2,6 +2,8 @@
 use Rattle.std.proofs.Common.{◌≡◌, ◌≤◌, ◌<◌, refl, sym, ◌∙◌, subst, arith, tests, ℕ, min, nat_lt, true, false, length, None, Some, Ok, Err, Result}
 use Rattle.std.proofs.lemmas.Option.{none-some, same_Some}
 use Rattle.grasp_laws_network.proofs.Going.{reached_more}
+use Rattle.grasp_laws_node_stories.specs.Acceptances.{AcceptancesAreCalls}
+use Rattle.grasp_laws_prefixes.specs.Grounds.{Grounds}
 use Rattle.grasp_model_network.specs.Events.{IsFit, Occurs, after_event}
 use Rattle.grasp_model_network.specs.Plans.{IsNode}
 use Rattle.grasp_model_network.specs.Setting.{Setting}
@@ -11,9 +13,11 @@ use Rattle.grasp_model_network.specs.declared.report.Report.{Report}
 use Rattle.grasp_model_network.specs.declared.report.WorldStop.{WorldStop}
 use Rattle.grasp_model_network.specs.declared.report.WorldStop.TheVariants as stop
 use Rattle.grasp_simulator.specs.Contract.{Standing, going, stopped, IsFitFor, Answers}
+use Rattle.grasp_simulator.specs.Remembering.{Remembers}
 use Rattle.grasp_simulator.specs.WorldStands.{WorldStands, most_count}
 use Rattle.grasp_simulator.specs.WorldSteps.{IsAsked, MayRun, HasRun, Runs, MayStarve, Ends, Stepped}
 use Rattle.grasp_simulator.specs.declared.world.World.{World}
+use Rattle.grasp_simulator.proofs.Remembered.{event_remembers}
 
 -- ---- what was stopped
 
@@ -46,9 +50,9 @@ much_sent : (sent count : ℕ) → sent ≡ min count most_count → most_bytes 
 much_sent sent count is much = grind (arith, tests)
 
 -- the event is reported
-goes_on : (old mid new : World) (e : Event) (report told : Report) → length mid.seats.items ≡ length old.seats.items → Runs old mid e report → told ≡ report → new ≡ mid → mid.sent ≤ most_bytes → (s : Setting) (w : WorldState)
-    → MayRun old s w e → length old.seats.items ≡ length s.members → Answers (WorldStands new) s (going w) e (Ok told)
-goes_on old mid new e report told count runs is same few s w may members =
+goes_on : (l : Grounds) (accepts : AcceptancesAreCalls) (old mid new : World) (e : Event) (report told : Report) → length mid.seats.items ≡ length old.seats.items → Runs old mid e report → told ≡ report → new ≡ mid → mid.sent ≤ most_bytes → (s : Setting) (w : WorldState)
+    → MayRun old s w e → Remembers old.notes w → length old.seats.items ≡ length s.members → Answers (WorldStands new) s (going w) e (Ok told)
+goes_on l accepts old mid new e report told count runs is same few s w may remembers members =
     let h : HasRun old mid s w e report = runs s w may in
     let occurs : Occurs s w e h.choice = record { fit = may.fit; comes = h.comes; enough = few_sent mid.sent (after_event s w e h.choice).byte_count h.keeps.sent few } in
     record {
@@ -56,7 +60,7 @@ goes_on old mid new e report told count runs is same few s w may members =
       occurs = occurs;
       report_is = is ∙ h.report_is;
       stands = subst (λ (code : World). WorldStands code (record { setting = s; standing = going (after_event s w e h.choice) })) (sym same)
-          (record { count = count ∙ members; stands = record { goes = record { reached = reached_more s w e h.choice may.goes.reached occurs; keeps = h.keeps } } });
+          (record { count = count ∙ members; stands = record { goes = record { reached = reached_more s w e h.choice may.goes.reached occurs; keeps = h.keeps }; remembers = event_remembers l accepts s w e h.choice may.goes.reached occurs old.notes mid.notes h.noted remembers } });
     }
 
 -- too much was sent
@@ -71,16 +75,16 @@ goes_over old mid new e report why count runs is same much s w may members =
       stands = record { count = count ∙ members; stands = refl };
     }))
 
-ended : (old mid new : World) (e : Event) (report : Report) (result : Result Report WorldStop) → old.stopped ≡ None → length mid.seats.items ≡ length old.seats.items → Runs old mid e report → Ends mid new report result → (s : Setting) (at : Standing)
+ended : (l : Grounds) (accepts : AcceptancesAreCalls) (old mid new : World) (e : Event) (report : Report) (result : Result Report WorldStop) → old.stopped ≡ None → length mid.seats.items ≡ length old.seats.items → Runs old mid e report → Ends mid new report result → (s : Setting) (at : Standing)
     → WorldStands old (record { setting = s; standing = at }) → IsFitFor s at e → Answers (WorldStands new) s at e result
-ended old mid new e report (Ok told) goes count runs done s (going w) h fit = goes_on old mid new e report told count runs done.0 done.1 done.2 s w (record { goes = h.stands.goes; fit = fit }) h.count
-ended old mid new e report (Err why) goes count runs done s (going w) h fit = goes_over old mid new e report why count runs done.0 done.1 done.2 s w (record { goes = h.stands.goes; fit = fit }) h.count
-ended old mid new e report (Ok told) goes count runs done s (stopped why) h fit = absurd (none-some why (sym goes ∙ h.stands))
-ended old mid new e report (Err x) goes count runs done s (stopped why) h fit = absurd (none-some why (sym goes ∙ h.stands))
+ended l accepts old mid new e report (Ok told) goes count runs done s (going w) h fit = goes_on l accepts old mid new e report told count runs done.0 done.1 done.2 s w (record { goes = h.stands.goes; fit = fit }) h.stands.remembers h.count
+ended l accepts old mid new e report (Err why) goes count runs done s (going w) h fit = goes_over old mid new e report why count runs done.0 done.1 done.2 s w (record { goes = h.stands.goes; fit = fit }) h.count
+ended l accepts old mid new e report (Ok told) goes count runs done s (stopped why) h fit = absurd (none-some why (sym goes ∙ h.stands))
+ended l accepts old mid new e report (Err x) goes count runs done s (stopped why) h fit = absurd (none-some why (sym goes ∙ h.stands))
 
 -- an event that was run is reported, unless too much was sent
-pub ends_so : (old mid new : World) (e : Event) (report : Report) (result : Result Report WorldStop) → old.stopped ≡ None → length mid.seats.items ≡ length old.seats.items → Runs old mid e report → Ends mid new report result → Stepped old new e result
-ends_so old mid new e report result goes count runs done = λ x met. ended old mid new e report result goes count runs done x.setting x.standing met.stands met.fit
+pub ends_so : (l : Grounds) (accepts : AcceptancesAreCalls) (old mid new : World) (e : Event) (report : Report) (result : Result Report WorldStop) → old.stopped ≡ None → length mid.seats.items ≡ length old.seats.items → Runs old mid e report → Ends mid new report result → Stepped old new e result
+ends_so l accepts old mid new e report result goes count runs done = λ x met. ended l accepts old mid new e report result goes count runs done x.setting x.standing met.stands met.fit
 
 -- ---- what is asked
 

@@ -1,6 +1,8 @@
 pub mod Arriving
+pub mod Asking
 pub mod Comings
 pub mod Contract
+pub mod Images
 pub mod Lending
 pub mod Listening
 pub mod Marking

@@ -9,6 +9,7 @@ use Rattle.grasp_simulator.specs.Marking.{begins_as, MarksStand}
 use Rattle.grasp_simulator.specs.PlacesStand.{PlacesStand}
 use Rattle.grasp_model_network.specs.Plans.{IsNode, IsGoodPlan}
 use Rattle.grasp_model_network.specs.Runs.{IsReached}
+use Rattle.grasp_simulator.specs.Remembering.{Remembers}
 use Rattle.grasp_simulator.specs.Seats.{SeatsStand}
 use Rattle.grasp_simulator.specs.StreamsStand.{StreamsStand}
 use Rattle.grasp_model_network.specs.Setting.{Setting, script_setting}
@@ -51,6 +52,7 @@ pub record WorldGoes (code : World) (s : Setting) (w : WorldState) : Type 0 wher
 -- and remembers what was offered and accepted in it
 pub record GoesOn (code : World) (s : Setting) (w : WorldState) : Type 0 where
   pub goes : WorldGoes code s w
+  pub remembers : Remembers code.notes w
 
 -- the code keeps a network that goes on, or why it was stopped
 abbrev pub StandsSo : World → Setting → Standing → Type 0

@@ -4,6 +4,7 @@
 #![tactic(auto)]
 
 mod coming_laws;
+mod images;
 mod marks;
 mod notes;
 mod opening;
@@ -16,6 +17,7 @@ mod ways;
 mod world;
 mod world_agents;
 mod world_arrivals;
+mod world_asks;
 mod world_cuts;
 mod world_datagrams;
 mod world_events;

@@ -1,9 +1,10 @@
 //! What is remembered of offers and acceptances.
 
-ghost use Rattle.std.specs.Prelude.{◌≡◌, ◌++◌, [], filter, option_map, option_to_list, map, OnOk};
+ghost use Rattle.std.specs.Prelude.{◌≡◌, ◌++◌, [], None, filter, option_map, option_to_list, map, OnOk};
 ghost use Rattle.grasp_agent.specs.Reopening.{retired};
 ghost use Rattle.grasp_model_network.specs.Offers.{is_listed};
-ghost use Rattle.grasp_simulator.specs.Remembering.{offering_of, begun_in, polled_in, started_by, note_with, end_in};
+ghost use Rattle.grasp_model_network.specs.World.{end_of};
+ghost use Rattle.grasp_simulator.specs.Remembering.{offering_of, begun_in, polled_in, started_by, note_with, end_in, is_among, is_note_of, last_note};
 ghost use Rattle.grasp_simulator.specs.Restarts.{is_it, stays_noted};
 
 use crate::seat::BegunOn;
@@ -106,6 +107,15 @@ fn started_by(reply: &Reply) -> Option<Handle>
     }
 }
 
+impl OfferNote {
+    /// Whether it is of this prefix of the node.
+    fn is_of(&self, node: u8, prefix: Prefix) -> bool
+        ensures { result ≡ is_note_of node prefix self.now }
+    {
+        self.node == node && prefix == self.prefix
+    }
+}
+
 impl Notes {
     /// Nothing was offered or accepted.
     pub(crate) fn new(alloc: Global) -> Notes
@@ -127,6 +137,29 @@ impl Notes {
             self.offers.push(note)?;
         }
         Ok(())
+    }
+
+    /// The last note of this prefix of the node.
+    pub(crate) fn last(&self, node: u8, prefix: Prefix) -> Option<OfferNote>
+        ensures { result ≡ last_note node prefix self.now.offers.items None }
+    {
+        let mut found = None;
+        for note in &self.offers {
+            if note.is_of(node, prefix) {
+                found = Some(*note);
+            }
+        }
+        found
+    }
+
+    /// Whether a call has accepted at this end of a stream.
+    pub(crate) fn has_accepted(&self, end: LifeEnd) -> bool
+        ensures { result ≡ is_among (end_of end.life end.number) self.now.accepted }
+    {
+        self.accepted
+            .slice()
+            .iter()
+            .any(|other| other.is_at(end.life, end.number))
     }
 
     /// The node has accepted on the stream of this number in this life, where there is one. After an `Err` nothing is said of the

@@ -1,6 +1,6 @@
 //! A stream between two nodes, as the network keeps it from the sending of its dial on.
 
-ghost use Rattle.std.specs.Prelude.{◌≡◌, not, OnOk, OnErr};
+ghost use Rattle.std.specs.Prelude.{◌≡◌, ◌==◌, ◌&&◌, not, OnOk, OnErr};
 ghost use Rattle.grasp_simulator.specs.StreamParts.{sent_from, more_sent, more_delivered, piece_of, stream_sent, stream_delivered, stream_told, stream_opened, far_number, side_end, ended_at, goes_to};
 
 use crate::opening::listener;
@@ -32,6 +32,15 @@ pub(crate) enum Standing {
 pub(crate) struct LifeEnd {
     pub(crate) life: u64,
     pub(crate) number: u64,
+}
+
+impl LifeEnd {
+    /// Whether it is that of the stream with this number in this life.
+    pub(crate) fn is_at(&self, life: u64, number: u64) -> bool
+        ensures { result ≡ (self.now.life == life && self.now.number == number) }
+    {
+        self.life == life && self.number == number
+    }
 }
 
 /// A stream whose dial is sent.

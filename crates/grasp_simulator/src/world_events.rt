@@ -13,6 +13,8 @@ use crate::world::World;
 use grasp_agent::{ReturnFault, WantFault};
 use grasp_cbor::OutOfMemory;
 use grasp_laws_delivery::streams_are_ready;
+use grasp_laws_node_stories::acceptances_are_calls;
+use grasp_laws_prefixes::grounds_hold;
 use grasp_model_network::{Event, Report, WorldStop};
 use grasp_types::{Call, Prefix};
 
@@ -29,6 +31,8 @@ impl World {
         if let Some(stop) = self.stopped {
             return Err(stop);
         }
+        grounds_hold();
+        acceptances_are_calls();
         match self.run(event) {
             Ok(report) => self.end(report),
             Err(OutOfMemory) => Err(self.stop(WorldStop::OutOfMemory)),

@@ -13,6 +13,7 @@ use crate::seat::Seat;
 use crate::world::World;
 use grasp_cbor::OutOfMemory;
 use grasp_laws_delivery::streams_are_ready;
+use grasp_laws_prefixes::grounds_hold;
 use grasp_model_network::{Report, Turn, WorldStop};
 use grasp_pool::PoolImage;
 use grasp_types::{List, Prefix};
@@ -40,6 +41,7 @@ impl World {
         if let Some(stop) = self.stopped {
             return Err(stop);
         }
+        grounds_hold();
         self.seats[usize::from(node - 1)].settle(prefix);
         Ok(Report::Nothing)
     }
@@ -68,6 +70,7 @@ impl World {
         ensures begins { OnOk result (BeginsAnew self.old self.new node image.now) }
         ensures count { length self.new.seats.items ≡ length self.old.seats.items }
     {
+        grounds_hold();
         streams_are_ready();
         let alloc = self.streams.allocator();
         self.lives.push(node)?;

@@ -5,7 +5,7 @@ use grasp_io::{Asked, Failed, LinkPlan, Links, MioLinks, Sent};
 use grasp_types::{Address, Input, LinkLists, List, Locator, Neighbour, Output, Proto};
 use std::alloc::Global;
 use std::io;
-use std::net::{Ipv4Addr, SocketAddr, TcpListener};
+use std::net::{Ipv4Addr, SocketAddr, TcpListener, TcpStream};
 use std::test::Fail;
 use std::time::{CpuClock, Duration, Instant};
 
@@ -157,5 +157,40 @@ fn an_idle_ask_takes_no_work(rt: HostRuntime) -> Result<(), Fail> {
     assert!(rt; start.elapsed(&rt)? >= Duration::from_millis(200));
     let worked = rt.process_cpu_time()?.saturating_sub(worked);
     assert!(rt; worked < Duration::from_millis(50), "{worked:?}");
+    Ok(())
+}
+
+/// The next input within two seconds.
+fn comes<L: Links>(links: &mut L) -> Option<Input> {
+    for _ in 0..100 {
+        match links.ask(20) {
+            Asked::Got(input) => return Some(input),
+            Asked::Nothing => {}
+            Asked::OutOfMemory => return None,
+        }
+    }
+    None
+}
+
+/// A peer that goes without reading what was sent to it resets the stream, which is told as its end.
+#[test]
+fn a_reset_ends_a_stream(rt: HostRuntime) -> Result<(), Fail> {
+    let (port, other) = free_ports(&rt)?;
+    let mut links = MioLinks::new(rt, rt.alloc());
+    let plan = LinkPlan {
+        listen: at(port),
+        links: link_to(rt.alloc(), other)?,
+    };
+    assert_eq!(rt; links.open(&plan), Ok(()));
+    let peer = TcpStream::connect(&rt, SocketAddr::from((Ipv4Addr::LOCALHOST, port)))?;
+    assert!(rt; matches!(comes(&mut links), Some(Input::Opened { stream: 1, .. })));
+    let bytes = Octets::of(rt.alloc(), b"unread")?;
+    let sent = links.send(&Output::Send { stream: 1, bytes });
+    assert_eq!(rt; sent, Sent::Sent);
+    // The bytes are written at the next ask, at the latest.
+    assert!(rt; matches!(links.ask(20), Asked::Nothing));
+    drop(peer);
+    assert!(rt; matches!(comes(&mut links), Some(Input::Closed { stream: 1 })));
+    assert_eq!(rt; links.faults(), 0);
     Ok(())
 }

@@ -1,5 +1,5 @@
-//! Nodes to which nothing, a flood or a stream comes, one that announces, one that wants, one whose links can't be opened, and
-//! configurations that are none.
+//! Nodes to which nothing, a flood or a stream comes, one that announces, one that may not announce, one that wants, one whose
+//! links can't be opened, and configurations that are none.
 
 use crate::row::{Fault, Incoming, Row, differs};
 use grasp_config::ConfigKey;
@@ -48,6 +48,15 @@ turns = 5
 link = [{ neighbour = [{ address = \"fd000000000000000000000000000001\", at = \"7f000001:7018\" }] }]
 beacon = [{ name = \"b\", value = \"x08\", ttl = 1000, loops = 6 }]
 reader = [{ name = \"a\" }]
+";
+
+/// Node 2 with a beacon that would register the objective of the agent that manages prefixes.
+const BEACON_COMES_SECOND: &str = "\
+address = \"fd000000000000000000000000000002\"
+listen = \"7f000001:7017\"
+turns = 5
+link = [{ neighbour = [{ address = \"fd000000000000000000000000000001\", at = \"7f000001:7018\" }] }]
+beacon = [{ name = \"PrefixManager\", value = \"x08\", ttl = 1000, loops = 6 }]
 ";
 
 /// A node that wants a prefix of a peer that never answers.
@@ -113,7 +122,7 @@ pub(crate) const READER_HEARS: Row<'static> = Row {
     ..IDLE_NODE
 };
 
-const ROWS: [Row<'static>; 11] = [
+const ROWS: [Row<'static>; 12] = [
     IDLE_NODE,
     READER_HEARS,
     Row {
@@ -166,6 +175,13 @@ const ROWS: [Row<'static>; 11] = [
         name: "beacon_alone",
         config: BEACON_ALONE,
         asks: 1000,
+        ..IDLE_NODE
+    },
+    Row {
+        name: "beacon_comes_second",
+        config: BEACON_COMES_SECOND,
+        texts: &["prefixes held reserved doubt\n"],
+        asks: 5,
         ..IDLE_NODE
     },
     Row {

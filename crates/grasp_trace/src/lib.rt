@@ -8,6 +8,3 @@ mod watched;
 mod writer;
 
 pub use traced::Traced;
-
-#[cfg(test)]
-mod tests;

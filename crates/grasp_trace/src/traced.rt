@@ -20,7 +20,7 @@ use std::net::SocketAddr;
 #[derive(Drop)]
 pub struct Traced<L: Links + Drop, K: Sink + Drop> {
     links: L,
-    pub(crate) writer: Writer<K>,
+    writer: Writer<K>,
 }
 
 impl<L: Links + Drop, K: Sink + Drop> Traced<L, K> {
@@ -42,6 +42,13 @@ impl<L: Links + Drop, K: Sink + Drop> Traced<L, K> {
         ensures { result ≡ left_out_of self.now }
     {
         self.writer.page.left_out
+    }
+
+    /// The sink that the lines go to.
+    pub fn sink(&self) -> &K
+        ensures { result.now ≡ sink_of self.now }
+    {
+        &self.writer.page.sink
     }
 
     /// The links, which aren't watched any more.

@@ -7,7 +7,7 @@ loop-turn-init g c = looped_none c.args.shared.now c.args.wait c.args.root.now _
 
 pub loop-turn-preserved : goal.loop-turn-preserved
 loop-turn-preserved g c =
-    let tell : _ → _ → Told = λ clock links. told (g.C.Clock.readings clock) (links_told (g.L.Links.is_open links) (g.L.Links.plans links) (g.L.Links.waits links) (g.L.Links.given links) (g.L.Links.handed links) (g.L.Links.faults links)) in
+    let tell : _ → _ → Told = λ clock links. told (g.C.Clock.readings clock) (links_told g.L.Links links) in
     let e = c.exchange-now in
     looped_more c.args.shared.now c.args.wait c.loop-turn._turn c.loop-turn.now e.result c.args.root.now c.loop-turn.root e.new.root
     (tell c.args.clock.now c.args.links.now) (tell c.loop-turn.clock c.loop-turn.links) (tell e.new.clock e.new.links) c.loop-turn.invariant e.ensures

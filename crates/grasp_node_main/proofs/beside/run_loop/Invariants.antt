@@ -6,6 +6,6 @@ use Rattle.grasp_node_main.proofs.beside.run_loop.Given as goal
 abbrev pub invariant-loop-turn : goal.invariant-loop-turn
 invariant-loop-turn g l =
     Looped l.shared l.wait l._turn l.initial.root
-    (told (g.C.Clock.readings l.initial.clock) (links_told (g.L.Links.is_open l.initial.links) (g.L.Links.plans l.initial.links) (g.L.Links.waits l.initial.links) (g.L.Links.given l.initial.links) (g.L.Links.handed l.initial.links) (g.L.Links.faults l.initial.links)))
+    (told (g.C.Clock.readings l.initial.clock) (links_told g.L.Links l.initial.links))
     l.now l.root
-    (told (g.C.Clock.readings l.clock) (links_told (g.L.Links.is_open l.links) (g.L.Links.plans l.links) (g.L.Links.waits l.links) (g.L.Links.given l.links) (g.L.Links.handed l.links) (g.L.Links.faults l.links)))
+    (told (g.C.Clock.readings l.clock) (links_told g.L.Links l.links))

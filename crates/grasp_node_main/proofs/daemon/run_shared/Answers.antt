@@ -23,7 +23,7 @@ drain_last-requires-clause-alone g c =
 
 pub returns : goal.returns
 returns g c =
-    let tell : _ → LinksTold = λ links. links_told (g.L.Links.is_open links) (g.L.Links.plans links) (g.L.Links.waits links) (g.L.Links.given links) (g.L.Links.handed links) (g.L.Links.faults links) in
+    let tell : _ → LinksTold = λ links. links_told g.L.Links links in
     let r = c.run_beside-now in
     ran_shared c.args.shared.now c.args.wait c.args.turns r.result c.args.root.now c.split_all.new.root r.new.root c.join_all.new.root c.drain_last.new.root
     c.args.seats.now c.split_all.new.seats r.new.seats c.join_all.new.seats

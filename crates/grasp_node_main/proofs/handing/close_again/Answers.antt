@@ -7,7 +7,7 @@ use Rattle.grasp_node_main.proofs.handing.close_again.Goals as goal
 
 pub returns-in-Some : goal.returns-in-Some
 returns-in-Some g c =
-    let told : _ → LinksTold = λ links. links_told (g.L.Links.is_open links) (g.L.Links.plans links) (g.L.Links.waits links) (g.L.Links.given links) (g.L.Links.handed links) (g.L.Links.faults links) in
+    let told : _ → LinksTold = λ links. links_told g.L.Links links in
     let e = c.send-sent.ensures in
-    let one = one_sent (told c.args.links.now) (told c.send-sent.new.self) c.send-sent.result (output.Close c.in-Some.stream) e.stays_open e.told e.waited e.gave e.took e.answer e.never_falls in
+    let one = one_sent (told c.args.links.now) (told c.send-sent.new.self) c.send-sent.result (output.Close c.in-Some.stream) e.stays_open e.told e.not_asked e.waited e.gave e.took e.answer e.never_falls in
     subst (λ away. HandsOnly (told c.args.links.now) (closings away) (told c.send-sent.new.self)) (sym c.in-Some.is) one

@@ -1,5 +1,8 @@
 use Rattle.std.proofs.Common.{◌≡◌, ◌∙◌, refl, ap, inl, subst, ℕ, [], List}
-use Rattle.grasp_model_node.specs.Node.{first_node}
+use Rattle.grasp_core.specs.declared.node_core.NodeCore.{NodeCore}
+use Rattle.grasp_model_node.specs.Node.{NodeState, first_node}
+use Rattle.grasp_shared.specs.History.{History, Reaches}
+use Rattle.grasp_node_main.specs.Openings.{openings}
 use Rattle.grasp_node_main.specs.Crew.{crew_of, crew_with}
 use Rattle.grasp_node_main.specs.Seats.{SeatsStand}
 use Rattle.grasp_node_main.specs.Tells.{LinksTold, links_told, told}
@@ -22,6 +25,10 @@ of_plan plan held announced read seats roots beacons readers stand =
     ∙ ap (λ x. crew_with plan.roots plan.wants plan.beacons x) readers in
     subst (λ (ws : List Worker). SeatsStand ws [] 0 seats) crew stand
 
+-- nothing has happened since the node was opened
+since : (from : NodeState) (h : History) (core : NodeCore) → (r : Reaches from h core) → Reaches r.to [] core
+since from h core r = record { to = r.to; legal = refl; stands = r.stands; node = r.node; fed = r.fed; limit = r.limit }
+
 pub run-requires-after_bounds : goal.run-requires-after_bounds
 run-requires-after_bounds g c κs within =
     let plan = c.args.plan in
@@ -30,18 +37,20 @@ run-requires-after_bounds g c κs within =
 
 pub returns-in-Ok-run : goal.returns-in-Ok-run
 returns-in-Ok-run g c =
-    let tell : _ → LinksTold = λ links. links_told (g.L.Links.is_open links) (g.L.Links.plans links) (g.L.Links.waits links) (g.L.Links.given links) (g.L.Links.handed links) (g.L.Links.faults links) in
+    let tell : _ → LinksTold = λ links. links_told g.L.Links links in
     let plan = c.args.plan in
     let seats = of_plan plan c.slice-held.result.now c.slice-announced.result.now c.slice-read.result.now c.in-Ok.daemon.seats.items c.slice-held.ensures c.slice-announced.ensures c.slice-read.ensures c.in-Ok.ensures.seats in
-    let ran = c.in-Ok-run.ensures (first_node plan.node) (crew_of plan) c.in-Ok.ensures.core seats in
-    runs plan (told (g.C.Clock.readings c.args.clock.now) (tell c.args.links.now)) (told (g.C.Clock.readings c.run.new.clock) (tell c.run.new.links)) c.in-Ok-run.daemon c.unless_stopped.result
-    ran c.unless_stopped.ensures.same c.unless_stopped.ensures.going
+    let core = c.in-Ok.ensures.core in
+    let ran = c.in-Ok-run.ensures core.to (crew_of plan) (since (first_node plan.node) openings c.in-Ok.daemon.core core) seats in
+    runs plan core.to (told (g.C.Clock.readings c.args.clock.now) (tell c.args.links.now)) (told (g.C.Clock.readings c.run.new.clock) (tell c.run.new.links)) c.in-Ok-run.daemon c.unless_stopped.result
+    core.legal ran c.unless_stopped.ensures.same c.unless_stopped.ensures.going
 
 pub returns-in-Ok : goal.returns-in-Ok
 returns-in-Ok g c =
     let plan = c.args.plan in
     let seats = of_plan plan c.slice-held.result.now c.slice-announced.result.now c.slice-read.result.now c.in-Ok.daemon.seats.items c.slice-held.ensures c.slice-announced.ensures c.slice-read.ensures c.in-Ok.ensures.seats in
-    inl (c.in-Err-run.ensures (first_node plan.node) (crew_of plan) c.in-Ok.ensures.core seats)
+    let core = c.in-Ok.ensures.core in
+    inl (c.in-Err-run.ensures core.to (crew_of plan) (since (first_node plan.node) openings c.in-Ok.daemon.core core) seats)
 
 pub returns : goal.returns
 returns g c = inl refl

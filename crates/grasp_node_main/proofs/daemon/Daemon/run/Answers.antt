@@ -15,7 +15,7 @@ run_shared-requires-clause-fresh g c κs within = let e = c.in-Ok.ensures.ok in 
 
 pub returns-in-Ok : goal.returns-in-Ok
 returns-in-Ok g c = λ from crew reaches stand.
-    let tell : _ → _ → Told = λ clock links. told (g.C.Clock.readings clock) (links_told (g.L.Links.is_open links) (g.L.Links.plans links) (g.L.Links.waits links) (g.L.Links.given links) (g.L.Links.handed links) (g.L.Links.faults links)) in
+    let tell : _ → _ → Told = λ clock links. told (g.C.Clock.readings clock) (links_told g.L.Links links) in
     let items = c.args.self.seats.items in
     let slice = c.deref_mut.result.now in
     let here : slice ≡ items = c.deref_mut.ensures.value in

@@ -4,6 +4,7 @@ use Rattle.std.proofs.lemmas.List.Elements.{All-nil}
 use Rattle.grasp_model_network.specs.Runs.{first_world}
 use Rattle.grasp_model_network.specs.Setting.{script_setting, numbers_from}
 use Rattle.grasp_simulator.proofs.FirstWorlds.{first_count, first_reached, first_stand}
+use Rattle.grasp_simulator.proofs.Remembered.{nothing_remembered}
 use Rattle.grasp_simulator.proofs.Presence.{first_lives_are, script_members}
 use Rattle.grasp_simulator.specs.WorldStands.{GoesToNode}
 use Rattle.grasp_simulator.proofs.world.World.open.Goals as goal
@@ -32,5 +33,6 @@ returns c =
             goes = refl;
           };
         };
+        remembers = nothing_remembered c.args.plan c.new-3.result c.new-3.ensures.offers c.new-3.ensures.accepted;
       };
     }

@@ -19,4 +19,4 @@ settle-requires c = dead_doubt c.args.self.now c.args.node c.from.result c.args.
 
 pub returns : goal.returns
 returns c =
-    settles c.args.self.now c.args.node c.from.result c.args.prefix c.index_mut.result.now c.settle.new.self c.settle.ensures.life c.from.ensures c.index_mut.ensures.value c.settle.ensures.stands c.in_default.is
+    settles c.grounds_hold.ensures c.args.self.now c.args.node c.from.result c.args.prefix c.index_mut.result.now c.settle.new.self c.settle.ensures.life c.from.ensures c.index_mut.ensures.value c.settle.ensures.stands c.in_default.is

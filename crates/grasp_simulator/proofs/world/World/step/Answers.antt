@@ -11,7 +11,7 @@ returns-in-Some c = stays_stopped c.args.self.now c.in-Some.stop c.args.event c.
 
 -- the event was run
 pub returns-in-Ok : goal.returns-in-Ok
-returns-in-Ok c = ends_so c.args.self.now c.run.new.self c.end.new.self c.args.event c.in-Ok.report c.end.result c.in_default.is c.run.ensures.count c.in-Ok.ensures.runs c.end.ensures
+returns-in-Ok c = ends_so c.grounds_hold.ensures c.acceptances_are_calls.ensures c.args.self.now c.run.new.self c.end.new.self c.args.event c.in-Ok.report c.end.result c.in_default.is c.run.ensures.count c.in-Ok.ensures.runs c.end.ensures
 
 -- memory was wanted
 pub returns-in-Err : goal.returns-in-Err

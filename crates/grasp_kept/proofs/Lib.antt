@@ -1,0 +1,10 @@
+pub mod Keepers
+pub mod Failing
+pub mod Going
+pub mod Calls
+pub mod Cutting
+pub mod Begun
+pub mod Putting
+pub mod Worlds
+pub mod Openings
+pub mod Steps

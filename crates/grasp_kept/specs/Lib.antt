@@ -1,0 +1,9 @@
+pub mod Asking
+pub mod Beginning
+pub mod Contract
+pub mod Crashes
+pub mod Disks
+pub mod Keepers
+pub mod Nodes
+pub mod Opening
+pub mod Stands

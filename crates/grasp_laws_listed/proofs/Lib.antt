@@ -1,0 +1,4 @@
+mod Doubting
+mod Doubts
+mod OneEach
+pub mod Reserved

@@ -1,0 +1,4 @@
+pub mod Clock
+pub mod Giving
+pub mod Steps
+pub mod Courses

@@ -1,0 +1,4 @@
+pub mod Acts
+pub mod Courses
+pub mod Giving
+pub mod Laws

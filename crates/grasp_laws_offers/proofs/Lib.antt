@@ -1,0 +1,4 @@
+mod Attending
+mod Entries
+mod Pigeons
+pub mod Networks

@@ -1,0 +1,5 @@
+mod Acts
+mod Calls
+mod Found
+mod Least
+pub mod Refusals

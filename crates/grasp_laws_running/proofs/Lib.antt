@@ -1,0 +1,5 @@
+mod Acts
+mod Going
+mod Holding
+mod Networks
+mod Others

@@ -1,0 +1,4 @@
+pub mod Acts
+pub mod Going
+pub mod Laws
+pub mod Others

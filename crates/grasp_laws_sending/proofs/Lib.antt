@@ -1,0 +1,4 @@
+mod Closings
+pub mod Draining
+pub mod Fitting
+mod Short

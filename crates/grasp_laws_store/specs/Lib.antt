@@ -1,0 +1,5 @@
+pub mod Disks
+pub mod Images
+pub mod Ordering
+pub mod Saves
+pub mod Stopping

@@ -1,0 +1,4 @@
+pub mod Disks
+pub mod Crashing
+pub mod World
+pub mod Runs

@@ -1,0 +1,5 @@
+use Rattle.grasp_model_script_kept.proofs.OneRun as lemmas
+use Rattle.grasp_model_script_kept.proofs.laws.kept_texts_agree.Goals as goal
+
+pub returns : goal.returns
+returns c = lemmas.kept_texts_agree

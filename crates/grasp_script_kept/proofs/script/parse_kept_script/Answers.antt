@@ -1,0 +1,48 @@
+use Rattle.std.proofs.Common.{rules, ◌≡◌, ◌+◌, ◌≤◌, ◌∷◌, ◌++◌, [], List, ℕ, inl, length, sym, ap, subst, ◌∙◌}
+use Rattle.grasp_script.specs.Scripts.{text_lines}
+use Rattle.grasp_script_kept.specs.Lines.{IsKeptLine, IsNoKeptLine, kept_text}
+use Rattle.grasp_script_kept.specs.Scripts.{kept_texts}
+use Rattle.grasp_script_kept.specs.declared.line.KeptLine.{KeptLine}
+use Rattle.grasp_script_kept.proofs.Counting.{room_for_line}
+use Rattle.grasp_script_kept.proofs.LinesRead.{LinesRead, lines_more, lines_read, line_unfit}
+use Rattle.grasp_script_kept.proofs.ScriptLaws.{one_script, unfit_no_script}
+use Rattle.grasp_script_kept.proofs.script.parse_kept_script.Goals as goal
+
+pub overflow_add-result : goal.overflow_add-result
+overflow_add-result c =
+    let room : c.loop-line.number + 1 ≤ length c.args.text.now =
+    room_for_line c.args.text.now c.in-Some.line.now (c.loop-line.invariant.header ++ kept_texts c.loop-line.lines) (text_lines c.loop-line.rest.now) (text_lines c.in-Some.behind.now) c.loop-line.number
+    c.loop-line.invariant.parts c.in-Some.ensures.line c.loop-line.invariant.place in
+    search rules
+
+pub overflow_add-number : goal.overflow_add-number
+overflow_add-number c =
+    let room : c.loop-line.number + 1 ≤ length c.args.text.now =
+    room_for_line c.args.text.now c.in-Some.line.now (c.loop-line.invariant.header ++ kept_texts c.loop-line.lines) (text_lines c.loop-line.rest.now) (text_lines c.in-Some.behind.now) c.loop-line.number
+    c.loop-line.invariant.parts c.in-Some.ensures.line c.loop-line.invariant.place in
+    search rules
+
+pub returns-in-None-clause-none : goal.returns-in-None-clause-none
+returns-in-None-clause-none c =
+    let bad : IsNoKeptLine c.in-Ok.head.plan.nodes c.in-Some.line.now = rw c.in-None.is at c.in_ok-meant.ensures.none in
+    unfit_no_script c.args.text.now (c.loop-line.number + 1)
+    (line_unfit c.args.text.now (text_lines c.loop-line.rest.now) c.in-Ok.head.plan c.loop-line.lines c.loop-line.number c.in-Some.line.now (text_lines c.in-Some.behind.now) c.loop-line.invariant c.in-Some.ensures.line bad)
+
+pub returns-in-None-clause-place : goal.returns-in-None-clause-place
+returns-in-None-clause-place c =
+    let bad : IsNoKeptLine c.in-Ok.head.plan.nodes c.in-Some.line.now = rw c.in-None.is at c.in_ok-meant.ensures.none in
+    inl (line_unfit c.args.text.now (text_lines c.loop-line.rest.now) c.in-Ok.head.plan c.loop-line.lines c.loop-line.number c.in-Some.line.now (text_lines c.in-Some.behind.now) c.loop-line.invariant c.in-Some.ensures.line bad)
+
+pub loop-line-preserved : goal.loop-line-preserved
+loop-line-preserved c =
+    let meant : IsKeptLine c.in-Ok.head.plan.nodes c.in-Some-2.meant = rw c.in-Some-2.is at c.in_ok-meant.ensures.found in
+    let text : kept_text c.in-Some-2.meant ≡ c.in-Some.line.now = rw c.in-Some-2.is at c.in_ok-meant.ensures.text in
+    let first : text_lines c.loop-line.rest.now ≡ kept_text c.in-Some-2.meant ∷ text_lines c.in-Some.behind.now = c.in-Some.ensures.line ∙ ap (λ (t : List ℕ). t ∷ text_lines c.in-Some.behind.now) (sym text) in
+    let more = lines_more c.args.text.now (text_lines c.loop-line.rest.now) c.in-Ok.head.plan c.loop-line.lines c.loop-line.number c.in-Some-2.meant (text_lines c.in-Some.behind.now) c.loop-line.invariant first meant in
+    subst (λ (s : List KeptLine). LinesRead c.args.text.now (text_lines c.in-Some.behind.now) c.in-Ok.head.plan s (c.loop-line.number + 1)) (sym c.in_ok-push.ensures.ok) more
+
+pub returns-clause-only : goal.returns-clause-only
+returns-clause-only c =
+    let over : text_lines c.loop-line.rest.now ≡ [] = search rules in
+    λ plan lines is. one_script c.args.text.now c.in-Ok.head.plan plan c.loop-line.lines lines
+    (lines_read c.args.text.now (text_lines c.loop-line.rest.now) c.in-Ok.head.plan c.loop-line.lines c.loop-line.number c.loop-line.invariant over) is

@@ -1,0 +1,210 @@
+//! The program's one call.
+
+ghost use Rattle.std.specs.Prelude.{◌≡◌, ◌≢◌, ◌<◌, true, false, length, map, string_bytes, is_some, IfSome};
+ghost use Rattle.grasp_config.specs.Laws.{IsInRange};
+ghost use Rattle.grasp_config.specs.Serve.{IsBadServe};
+ghost use Rattle.grasp_config.specs.declared.serve_fault.ServeKey.{ServeKey};
+ghost use Rattle.grasp_io.specs.Faults.{Rose};
+ghost use Rattle.grasp_node_main.specs.Program.{config_limit};
+ghost use Rattle.grasp_node_main.specs.Tells.{links_told, told};
+ghost use Rattle.grasp_serve_main.specs.Program.{is_serve, IsBeforeLinks, IsOfConfig, IsOfService, ServesConfig, ServesInput, ShortConfig, ShortInput, NamesStore};
+ghost use Rattle.grasp_service.specs.Rounds.{outside};
+ghost use Rattle.grasp_service.specs.Served.{Serves, ServesShort};
+ghost use Rattle.grasp_service_visits.specs.Desks.{desk_told};
+
+use crate::planning::{desk_plan, service_plan};
+use crate::status::Status;
+use grasp_config::{ServeConfig, ServeFault, read_serve, serves_are_in_range};
+use grasp_desk::{Desk, DeskPlan};
+use grasp_io::{Clock, Counted, LinkPlan, Links, LogSwitch, ReadError, Sink, Source, read_all};
+use grasp_node_main::link_plan;
+use grasp_service::{ServiceEnd, ServicePlan, serve_plan};
+use std::alloc::Global;
+use std::sync::Wait;
+
+/// The most bytes that a configuration may have.
+const CONFIG_LIMIT: u64 = 65_536;
+
+/// Serves as the source configures, until a visitor stops the node, and says how it ended.
+///
+/// The words are to be `serve` and one more, which names what the source reads. The source is read to its end. Then the node is
+/// opened and its agents make their opening calls; then the links are opened, and the desk; and then the node makes its rounds.
+/// A configuration that names a store isn't served. The lines of events go to the log, of which nothing is claimed, and the switch
+/// is set to the level of the log.
+pub fn node_serve<R: Wait, S: Source, K: Sink, L: Links + Counted, D: Desk, C: Clock>(
+    rt: &R,
+    alloc: Global,
+    words: &[String],
+    source: &mut S,
+    log: &mut K,
+    switch: &LogSwitch,
+    links: &mut L,
+    desk: &mut D,
+    clock: &mut C,
+    seed: [u8; 32],
+) -> Status
+    // The words come first: where they are no call, nothing is touched.
+    ensures usage { is_serve (map string_bytes words.now) ≡ false → result ≡ Status.Usage }
+    ensures no_usage { is_serve (map string_bytes words.now) ≡ true → result ≢ Status.Usage }
+    ensures unread { result ≡ Status.Usage → source.new ≡ source.old }
+
+    // Then the configuration is read to its end, at most 65,536 bytes.
+    ensures read_fault { result ≡ Status.ReadFault → Rose (S.faults source.old) (S.faults source.new) }
+    ensures too_large { result ≡ Status.TooLarge → IfSome (S.left source.old) (λ input. config_limit < length input) }
+    ensures bad_config { (key : ServeKey) → result ≡ Status.BadServe key → IfSome (S.left source.old) (λ input. IsBadServe input key) }
+    ensures no_store { result ≡ Status.NoStore → IfSome (S.left source.old) (λ input. NamesStore input) }
+    ensures links_untouched { IsBeforeLinks result → links.new ≡ links.old }
+    ensures desk_untouched { IsBeforeLinks result → desk.new ≡ desk.old }
+    ensures clock_untouched { IsBeforeLinks result → clock.new ≡ clock.old }
+
+    // Then links and desk are opened.
+    ensures link_fault { result ≡ Status.LinkFault → Rose (L.faults links.old) (L.faults links.new) }
+    ensures desk_fault { result ≡ Status.DeskFault → Rose (D.faults desk.old) (D.faults desk.new) }
+
+    // Then the node serves, until a visitor stops it, or memory is wanted.
+    ensures served { result ≡ Status.Stopped → ServesInput (S.left source.old) seed
+        (outside (told (C.readings clock.old) (links_told L.Links links.old)) (desk_told D.Desk desk.old))
+        (outside (told (C.readings clock.new) (links_told L.Links links.new)) (desk_told D.Desk desk.new)) }
+    ensures short { result ≡ Status.OutOfMemory → ShortInput (S.left source.old) seed
+        (outside (told (C.readings clock.old) (links_told L.Links links.old)) (desk_told D.Desk desk.old))
+        (outside (told (C.readings clock.new) (links_told L.Links links.new)) (desk_told D.Desk desk.new)) }
+{
+    if !is_serve(words) {
+        return Status::Usage;
+    }
+    serve_input(rt, alloc, source, log, switch, links, desk, clock, seed)
+}
+
+/// Whether the words are `serve` and one more.
+fn is_serve(words: &[String]) -> bool
+    ensures { result ≡ is_serve (map string_bytes words.now) }
+{
+    match words {
+        [word, _file] => word.as_str() == "serve",
+        _ => false,
+    }
+}
+
+/// Serves as the source configures.
+#[tactic(auto, using(crate::proofs::Serving::reading))]
+fn serve_input<R: Wait, S: Source, K: Sink, L: Links + Counted, D: Desk, C: Clock>(
+    rt: &R,
+    alloc: Global,
+    source: &mut S,
+    log: &mut K,
+    switch: &LogSwitch,
+    links: &mut L,
+    desk: &mut D,
+    clock: &mut C,
+    seed: [u8; 32],
+) -> Status
+    ensures no_usage { result ≢ Status.Usage }
+    ensures read_fault { result ≡ Status.ReadFault → Rose (S.faults source.old) (S.faults source.new) }
+    ensures too_large { result ≡ Status.TooLarge → IfSome (S.left source.old) (λ input. config_limit < length input) }
+    ensures bad_config { (key : ServeKey) → result ≡ Status.BadServe key → IfSome (S.left source.old) (λ input. IsBadServe input key) }
+    ensures no_store { result ≡ Status.NoStore → IfSome (S.left source.old) (λ input. NamesStore input) }
+    ensures links_untouched { IsBeforeLinks result → links.new ≡ links.old }
+    ensures desk_untouched { IsBeforeLinks result → desk.new ≡ desk.old }
+    ensures clock_untouched { IsBeforeLinks result → clock.new ≡ clock.old }
+    ensures link_fault { result ≡ Status.LinkFault → Rose (L.faults links.old) (L.faults links.new) }
+    ensures desk_fault { result ≡ Status.DeskFault → Rose (D.faults desk.old) (D.faults desk.new) }
+    ensures served { result ≡ Status.Stopped → ServesInput (S.left source.old) seed
+        (outside (told (C.readings clock.old) (links_told L.Links links.old)) (desk_told D.Desk desk.old))
+        (outside (told (C.readings clock.new) (links_told L.Links links.new)) (desk_told D.Desk desk.new)) }
+    ensures short { result ≡ Status.OutOfMemory → ShortInput (S.left source.old) seed
+        (outside (told (C.readings clock.old) (links_told L.Links links.old)) (desk_told D.Desk desk.old))
+        (outside (told (C.readings clock.new) (links_told L.Links links.new)) (desk_told D.Desk desk.new)) }
+{
+    let input = match read_all(alloc, source, CONFIG_LIMIT) {
+        Ok(input) => input,
+        Err(ReadError::Fault) => return Status::ReadFault,
+        Err(ReadError::TooLarge) => return Status::TooLarge,
+        Err(ReadError::OutOfMemory) => return Status::OutOfMemory,
+    };
+    serves_are_in_range();
+    match read_serve(alloc, &input) {
+        Ok(config) => serve_config(rt, alloc, config, log, switch, links, desk, clock, seed),
+        Err(ServeFault::BadServe { key }) => Status::BadServe { key },
+        Err(ServeFault::OutOfMemory) => Status::OutOfMemory,
+    }
+}
+
+/// Serves as this configuration says.
+#[tactic(auto, using(crate::proofs::Serving::configuring, crate::proofs::Planned::few_heralds, crate::proofs::Planned::few_listeners))]
+fn serve_config<R: Wait, K: Sink, L: Links + Counted, D: Desk, C: Clock>(
+    rt: &R,
+    alloc: Global,
+    config: ServeConfig,
+    log: &mut K,
+    switch: &LogSwitch,
+    links: &mut L,
+    desk: &mut D,
+    clock: &mut C,
+    seed: [u8; 32],
+) -> Status
+    requires { IsInRange config.node }
+    ensures ends { IsOfConfig result }
+    ensures no_store { result ≡ Status.NoStore → is_some config.serve.store ≡ true }
+    ensures links_untouched { IsBeforeLinks result → links.new ≡ links.old }
+    ensures desk_untouched { IsBeforeLinks result → desk.new ≡ desk.old }
+    ensures clock_untouched { IsBeforeLinks result → clock.new ≡ clock.old }
+    ensures link_fault { result ≡ Status.LinkFault → Rose (L.faults links.old) (L.faults links.new) }
+    ensures desk_fault { result ≡ Status.DeskFault → Rose (D.faults desk.old) (D.faults desk.new) }
+    ensures served { result ≡ Status.Stopped → ServesConfig config seed
+        (outside (told (C.readings clock.old) (links_told L.Links links.old)) (desk_told D.Desk desk.old))
+        (outside (told (C.readings clock.new) (links_told L.Links links.new)) (desk_told D.Desk desk.new)) }
+    ensures short { result ≡ Status.OutOfMemory → ShortConfig config seed
+        (outside (told (C.readings clock.old) (links_told L.Links links.old)) (desk_told D.Desk desk.old))
+        (outside (told (C.readings clock.new) (links_told L.Links links.new)) (desk_told D.Desk desk.new)) }
+{
+    if config.serve.store.is_some() {
+        return Status::NoStore;
+    }
+    let Ok(joining) = link_plan(&config.node) else {
+        return Status::OutOfMemory;
+    };
+    let Ok(doors) = desk_plan(&config.serve) else {
+        return Status::OutOfMemory;
+    };
+    let Ok(plan) = service_plan(alloc, config, seed) else {
+        return Status::OutOfMemory;
+    };
+    serve_planned(
+        rt, alloc, plan, &joining, &doors, log, switch, links, desk, clock,
+    )
+}
+
+/// Serves as this plan says.
+fn serve_planned<R: Wait, K: Sink, L: Links + Counted, D: Desk, C: Clock>(
+    rt: &R,
+    alloc: Global,
+    plan: ServicePlan,
+    joining: &LinkPlan,
+    doors: &DeskPlan,
+    log: &mut K,
+    switch: &LogSwitch,
+    links: &mut L,
+    desk: &mut D,
+    clock: &mut C,
+) -> Status
+    requires heralds { length plan.heralds < 255 }
+    requires readers { length plan.readers < 255 }
+    ensures ends { IsOfService result }
+    ensures link_fault { result ≡ Status.LinkFault → Rose (L.faults links.old) (L.faults links.new) }
+    ensures desk_fault { result ≡ Status.DeskFault → Rose (D.faults desk.old) (D.faults desk.new) }
+    ensures served { result ≡ Status.Stopped → Serves plan joining.now doors.now
+        (outside (told (C.readings clock.old) (links_told L.Links links.old)) (desk_told D.Desk desk.old))
+        (outside (told (C.readings clock.new) (links_told L.Links links.new)) (desk_told D.Desk desk.new)) }
+    ensures short { result ≡ Status.OutOfMemory → ServesShort plan joining.now doors.now
+        (outside (told (C.readings clock.old) (links_told L.Links links.old)) (desk_told D.Desk desk.old))
+        (outside (told (C.readings clock.new) (links_told L.Links links.new)) (desk_told D.Desk desk.new)) }
+{
+    match serve_plan(
+        rt, alloc, plan, joining, doors, log, switch, links, desk, clock,
+    ) {
+        ServiceEnd::Stopped => Status::Stopped,
+        ServiceEnd::OutOfMemory => Status::OutOfMemory,
+        ServiceEnd::LinkFault => Status::LinkFault,
+        ServiceEnd::DeskFault => Status::DeskFault,
+    }
+}

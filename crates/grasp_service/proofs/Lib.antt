@@ -1,0 +1,9 @@
+pub mod Crews
+pub mod Deeds
+pub mod Events
+pub mod Exchanging
+pub mod Following
+pub mod Making
+pub mod Openings
+pub mod Rounds
+pub mod Served

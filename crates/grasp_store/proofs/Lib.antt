@@ -1,0 +1,16 @@
+pub mod Asking
+pub mod Codec
+pub mod Crashes
+pub mod Cutting
+pub mod Entries
+pub mod Images
+pub mod Keepers
+pub mod Keeping
+pub mod Newest
+pub mod Openings
+pub mod Pieces
+pub mod Puts
+pub mod Saves
+pub mod SlotParts
+pub mod Taking
+pub mod TwoSlots

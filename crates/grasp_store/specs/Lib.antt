@@ -1,0 +1,9 @@
+pub mod Asking
+pub mod Current
+pub mod Images
+pub mod Keeping
+pub mod Looking
+pub mod Opening
+pub mod Reading
+pub mod Saving
+pub mod Slots
