@@ -2,5 +2,5 @@ pub mod Ends
 pub mod InTurn
 mod Less
 mod Listed
-mod OtherRecords
+pub mod OtherRecords
 mod Turns

@@ -49,14 +49,14 @@ counted_report new s w e report before after counts d = record {
 
 count_event : (code new : World) (e : Event) (report : Report) (before after : Tally) → RunsEvent code new e (Ok report) → ((rs : List Report) → IsTally before rs → IsTally after (rs ++ report ∷ []))
     → CountsAct code new (act.Event e) before (Ok after)
-count_event code new e report before after runs counts = λ s w met. counted_report new s w e report before after counts (runs s w met)
+count_event code new e report before after runs counts = λ s w met. counted_report new s w e report before after counts (runs.goes s w met)
 
 pub event_counts : (code new : World) (a : LineAct) (e : Event) (report : Report) (before after : Tally) → a ≡ act.Event e → RunsEvent code new e (Ok report) → ((rs : List Report) → IsTally before rs → IsTally after (rs ++ report ∷ []))
     → CountsAct code new a before (Ok after)
 event_counts code new a e report before after is runs counts = subst (λ (x : LineAct). CountsAct code new x before (Ok after)) (sym is) (count_event code new e report before after runs counts)
 
 stop_counts : (code new : World) (e : Event) (before : Tally) (why : WorldStop) → RunsEvent code new e (Err why) → CountsAct code new (act.Event e) before (Err (fault_of why))
-stop_counts code new e before stop.TooMuch runs = λ s w met. runs s w met
+stop_counts code new e before stop.TooMuch runs = λ s w met. (runs.goes s w met).overflows
 stop_counts code new e before stop.OutOfMemory runs = λ s w met. tt
 
 -- the event stopped the network

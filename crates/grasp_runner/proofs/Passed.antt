@@ -19,10 +19,10 @@ use Rattle.grasp_script.specs.declared.script.Script.{Script}
 use Rattle.grasp_model_script.proofs.MoreLines.{lines_more, may_run_more, network_more, told_more}
 use Rattle.grasp_model_script.specs.LineRuns.{LineRun, MayComeOut, after_act}
 use Rattle.grasp_model_script.specs.ScriptRuns.{MayRunAll, lines_of, network_after, told_from, told_of}
-use Rattle.grasp_simulator.specs.Contract.{network_of}
+use Rattle.grasp_simulator.specs.Contract.{going, network_of}
 use Rattle.grasp_simulator.specs.WorldStands.{WorldStands}
 use Rattle.grasp_simulator.specs.declared.world.World.{World}
-use Rattle.grasp_runner.specs.Lines.{CanRun, LineReported, MeetsLine, RunsLine, network_at}
+use Rattle.grasp_runner.specs.Lines.{CanRunLine, LineReported, MeetsLine, RunsLine, network_at}
 use Rattle.grasp_runner.specs.Passing.{AllWritten, HasRun, HasWritten, IsReady, LinePassed, LineBegun, LinePasses, PassesLine, WritesLines, ended_told}
 use Rattle.grasp_runner.specs.Scripts.{IsRead, fault_of}
 use Rattle.grasp_runner.specs.declared.fault.RunFault.{RunFault}
@@ -47,7 +47,7 @@ line_front a b c old held line spelled e p q = subst (AppendsFront a c) (two_pie
 -- the report was put into the buffer
 pub line_put : (code new : World) (line : Line) (told : List ℕ) (a b : Option (List ℕ)) (held left : List ℕ) → RunsLine code new line (Ok told) → Passes a b left (held ++ (told ++ 10 ∷ []))
     → (done : Unit {0}) → PassesLine code new line a held b left (Ok done)
-line_put code new line told a b held left runs p done = λ s w met. put (runs s w met) where
+line_put code new line told a b held left runs p done = λ s w met. put (runs.answers s w met) where
   put : {s : Setting} {w : WorldState} → LineReported new s w line.text line.act told → LinePassed new s w line a held b left
   put d = record { choice = d.choice; comes = d.comes; stands = d.stands; passes = subst (λ (t : List ℕ). Passes a b left (held ++ (t ++ 10 ∷ []))) d.told_is p }
 
@@ -55,7 +55,7 @@ line_put code new line told a b held left runs p done = λ s w met. put (runs s 
 pub line_cut : (code new : World) (line : Line) (told : List ℕ) (a b : Option (List ℕ)) (held left : List ℕ) (f : RunFault) → RunsLine code new line (Ok told) → f ≡ fault.WriteFault
     → AppendsFront a b (held ++ (told ++ 10 ∷ [])) → PassesLine code new line a held b left (Err f)
 line_cut code new line told a b held left f runs is p =
-    subst (λ (x : RunFault). PassesLine code new line a held b left (Err x)) (sym is) (λ s w met. cut (runs s w met)) where
+    subst (λ (x : RunFault). PassesLine code new line a held b left (Err x)) (sym is) (λ s w met. cut (runs.answers s w met)) where
       cut : {s : Setting} {w : WorldState} → LineReported new s w line.text line.act told → LineBegun s w line a held b
       cut d = record { choice = d.choice; comes = d.comes; front = subst (λ (t : List ℕ). AppendsFront a b (held ++ (t ++ 10 ∷ []))) d.told_is p }
 
@@ -67,7 +67,7 @@ line_tried code new line told a b held left (Err f) runs passed front stop = lin
 
 -- the line stopped the network
 line_stops : (code new : World) (line : Line) (a : Option (List ℕ)) (held : List ℕ) (why : WorldStop) → RunsLine code new line (Err why) → PassesLine code new line a held a held (Err (fault_of why))
-line_stops code new line a held stop.TooMuch runs = λ s w met. record { overflows = runs s w met; written = refl; left_is = refl }
+line_stops code new line a held stop.TooMuch runs = λ s w met. record { overflows = (runs.answers s w met).overflows; written = refl; left_is = refl }
 line_stops code new line a held stop.OutOfMemory runs = λ s w met. refl
 
 pub line_stopped : (code new : World) (line : Line) (a : Option (List ℕ)) (held : List ℕ) (why : WorldStop) (f : RunFault) → RunsLine code new line (Err why) → f ≡ fault_of why → PassesLine code new line a held a held (Err f)
@@ -98,12 +98,15 @@ meets_next script code run i line read h e =
     record { stands = h.stands; fit = subst (λ (n : ℕ). IsAct n line.act) (sym (plan_members script.plan)) own.ranges }
 
 pub can_run_next : (script : Script) (code : World) (run : List LineRun) (i : ℕ) (line : Line) → IsRead script → HasRun script.plan (take i script.lines) code run → slice_get script.lines i ≡ Some line
-    → CanRun code line.act
-can_run_next script code run i line read h e = record {
-  setting = script_setting script.plan;
-  network = network_after (script_setting script.plan) (world_of script.plan) run;
-  meets = meets_next script code run i line read h e;
-}
+    → CanRunLine code line.act
+can_run_next script code run i line read h e =
+    let met = meets_next script code run i line read h e in
+    record {
+      setting = script_setting script.plan;
+      standing = going (network_after (script_setting script.plan) (world_of script.plan) run);
+      stands = met.stands;
+      fit = met.fit;
+    }
 
 -- one line more was run
 pub run_next : (plan : WorldPlan) (lines : List Line) (code new : World) (run : List LineRun) (line : Line) (c : Choice) → HasRun plan lines code run

@@ -1,10 +1,10 @@
 -- What a network that goes on has, and the events of lines in it.
-use Rattle.std.proofs.Common.{◌≡◌, sym, ap, ◌∙◌, subst, ℕ, Bool, length, Some, Result, Ok, Err}
+use Rattle.std.proofs.Common.{◌≡◌, refl, sym, ap, ◌∙◌, subst, inl, inr, ℕ, Bool, length, Some, Result, Ok, Err}
 use Rattle.grasp_types.specs.declared.call.Call.{Call}
 use Rattle.grasp_laws_network.proofs.GoodPlans.{member_count}
 use Rattle.grasp_laws_network.proofs.Lists.{numbered_there}
 use Rattle.grasp_laws_network.proofs.LivesKept.{lives_are_kept}
-use Rattle.grasp_model_network.specs.Events.{IsFit, MayStop, Overflows}
+use Rattle.grasp_model_network.specs.Events.{IsFit, Overflows}
 use Rattle.grasp_model_network.specs.Plans.{IsNode}
 use Rattle.grasp_model_network.specs.Setting.{Setting, script_setting}
 use Rattle.grasp_model_network.specs.World.{Seat, WorldState, present_life, seat_at}
@@ -14,14 +14,15 @@ use Rattle.grasp_model_network.specs.declared.plan.WorldPlan.{WorldPlan}
 use Rattle.grasp_model_network.specs.declared.report.Report.{Report}
 use Rattle.grasp_model_network.specs.declared.report.WorldStop.{WorldStop}
 use Rattle.grasp_model_network.specs.declared.report.WorldStop.TheVariants as stop
+use Rattle.grasp_script.specs.Acts.{IsAct}
 use Rattle.grasp_script.specs.declared.line.LineAct.TheVariants as act
 use Rattle.grasp_model_script.specs.LineRuns.{placed_call, placed_event}
 use Rattle.grasp_simulator.proofs.SeatLists.{peers_count}
-use Rattle.grasp_simulator.specs.Contract.{going, Answers, MeetsEvent}
+use Rattle.grasp_simulator.specs.Contract.{Standing, going, stopped, Answers, Halted, MeetsEvent}
 use Rattle.grasp_simulator.specs.WorldStands.{WorldStands, HasNode, IsSeat}
 use Rattle.grasp_simulator.specs.WorldSteps.{IsAsked, Stepped}
 use Rattle.grasp_simulator.specs.declared.world.World.{World}
-use Rattle.grasp_runner.specs.Lines.{CanRun, EventAnswers, LineMayStop, MeetsLine, RunsEvent, network_at}
+use Rattle.grasp_runner.specs.Lines.{CanRunLine, EventAnswers, EventFails, MeetsLine, RunsEvent, StoppedEventAnswers, network_at, stopped_at}
 use Rattle.grasp_runner.proofs.Fitting.{event_fits}
 
 -- ---- how many nodes there are
@@ -60,22 +61,40 @@ IsPlaced code e placed = (s : Setting) (w : WorldState) → MeetsLine code s w (
 meets_placed : (code : World) (s : Setting) (w : WorldState) (e placed : Event) → placed ≡ placed_event w e → MeetsLine code s w (act.Event e) → MeetsEvent (WorldStands code) (network_at s w) placed
 meets_placed code s w e placed is h = record { stands = h.stands; fit = subst (λ (x : Event). IsFit s w x) (sym is) (fit_here code s w e h) }
 
-pub asked_placed : (code : World) (e placed : Event) → CanRun code (act.Event e) → IsPlaced code e placed → IsAsked code placed
-asked_placed code e placed can is =
-    record { network = network_at can.setting can.network; meets = meets_placed code can.setting can.network e placed (is can.setting can.network can.meets) can.meets }
+meets_stopped : (code : World) (s : Setting) (why : WorldStop) (placed : Event) → WorldStands code (stopped_at s why) → MeetsEvent (WorldStands code) (stopped_at s why) placed
+meets_stopped code s why placed h = record { stands = h; fit = tt }
 
--- what may stop the network at the placed event may stop it at the line
-line_may_stop : (s : Setting) (w : WorldState) (e placed : Event) (why : WorldStop) → placed ≡ placed_event w e → MayStop s w placed why → LineMayStop s w (act.Event e) why
-line_may_stop s w e placed stop.TooMuch is may = subst (Overflows s w) is may
-line_may_stop s w e placed stop.OutOfMemory is may = tt
+asked_at : (code : World) (e placed : Event) (s : Setting) (x : Standing) → WorldStands code (record { setting = s; standing = x }) → IsAct (length s.members) (act.Event e) → IsPlaced code e placed → IsAsked code placed
+asked_at code e placed s (going w) stands fit is =
+    let met : MeetsLine code s w (act.Event e) = record { stands = stands; fit = fit } in
+    record { network = network_at s w; meets = meets_placed code s w e placed (is s w met) met }
+asked_at code e placed s (stopped why) stands fit is = record { network = stopped_at s why; meets = meets_stopped code s why placed stands }
+
+pub asked_placed : (code : World) (e placed : Event) → CanRunLine code (act.Event e) → IsPlaced code e placed → IsAsked code placed
+asked_placed code e placed can is = asked_at code e placed can.setting can.standing can.stands can.fit is
+
+-- what stopped the network at the placed event stopped it at the line
+halted : (new : World) (s : Setting) (w : WorldState) (e placed : Event) (why : WorldStop) → placed ≡ placed_event w e → Halted (WorldStands new) s w placed why → EventFails new s w e why
+halted new s w e placed stop.TooMuch is h = record { overflows = subst (Overflows s w) is h.may_stop; stands = h.stands }
+halted new s w e placed stop.OutOfMemory is h = inr h.stands
 
 answered : (new : World) (s : Setting) (w : WorldState) (e placed : Event) (r : Result Report WorldStop) → placed ≡ placed_event w e → Answers (WorldStands new) s (going w) placed r → EventAnswers new s w e r
 answered new s w e placed (Ok report) is h = subst (λ (x : Event). Answers (WorldStands new) s (going w) x (Ok report)) is h
-answered new s w e placed (Err why) is h = line_may_stop s w e placed why is h.may_stop
+answered new s w e placed (Err why) is h = halted new s w e placed why is h
+
+stays_stopped : (new : World) (s : Setting) (why : WorldStop) (placed : Event) (r : Result Report WorldStop) → Answers (WorldStands new) s (stopped why) placed r → StoppedEventAnswers new s why r
+stays_stopped new s why placed (Ok report) h = h
+stays_stopped new s why placed (Err again) h = record { why_is = inl h.same; stands = h.stands }
 
 pub runs_placed : (code new : World) (e placed : Event) (r : Result Report WorldStop) → IsPlaced code e placed → Stepped code new placed r → RunsEvent code new e r
-runs_placed code new e placed r is stepped =
-    λ s w h. answered new s w e placed r (is s w h) (stepped (network_at s w) (meets_placed code s w e placed (is s w h) h))
+runs_placed code new e placed r is stepped = record {
+  goes = λ s w h. answered new s w e placed r (is s w h) (stepped (network_at s w) (meets_placed code s w e placed (is s w h) h));
+  stays = λ s why h. stays_stopped new s why placed r (stepped (stopped_at s why) (meets_stopped code s why placed h));
+}
+
+-- there was no memory for the places
+pub runs_nothing : (code : World) (e : Event) → RunsEvent code code e (Err stop.OutOfMemory)
+runs_nothing code e = record { goes = λ s w h. inl h.stands; stays = λ s why h. record { why_is = inr refl; stands = h } }
 
 -- a call with the place of its session
 pub placed_api : (code : World) (e : Event) (node asa : ℕ) (call placed : Call) (hold : Bool) → e ≡ event.Api node asa call hold

@@ -1,5 +1,5 @@
 -- Lines that are run, and their reports.
-use Rattle.std.proofs.Common.{◌≡◌, sym, ap, ◌∙◌, subst, ℕ, List, Some, Result, Ok, Err}
+use Rattle.std.proofs.Common.{◌≡◌, sym, ap, ◌∙◌, subst, inl, inr, ℕ, List, Some, Result, Ok, Err, IfErr}
 use Rattle.grasp_agent.specs.States.{AgentState}
 use Rattle.grasp_model_network.specs.Setting.{Setting}
 use Rattle.grasp_model_network.specs.Visits.{no_choice}
@@ -14,27 +14,38 @@ use Rattle.grasp_script.specs.declared.line.LineAct.TheVariants as act
 use Rattle.grasp_model_script.specs.LineRuns.{event_told, seat_told}
 use Rattle.grasp_simulator.specs.WorldStands.{LendsAgent}
 use Rattle.grasp_simulator.specs.declared.world.World.{World}
-use Rattle.grasp_runner.specs.Lines.{LineMayStop, MeetsLine, RunsAct, RunsEvent, RunsLook, TellsEvent}
+use Rattle.grasp_runner.specs.Lines.{EventFails, IsPast, IsStarved, LineFails, MeetsLine, RunsAct, RunsEvent, RunsLook, TellsEvent}
 use Rattle.grasp_runner.proofs.Placing.{IsThere, node_there}
 
 -- ---- events
 
-stops_so : (s : Setting) (w : WorldState) (a : LineAct) (why : WorldStop) → why ≡ stop.OutOfMemory → LineMayStop s w a why
-stops_so s w a why is = subst (LineMayStop s w a) (sym is) tt
+-- there was no memory
+starves : (new : World) (s : Setting) (w : WorldState) (a : LineAct) (why : WorldStop) → why ≡ stop.OutOfMemory → IsStarved new s w a → LineFails new s w a why
+starves new s w a why is h = subst (λ (x : WorldStop). LineFails new s w a x) (sym is) h
+
+event_fails : (new : World) (s : Setting) (w : WorldState) (e : Event) (why : WorldStop) → EventFails new s w e why → LineFails new s w (act.Event e) why
+event_fails new s w e stop.TooMuch h = h
+event_fails new s w e stop.OutOfMemory (inl before) = inl before
+event_fails new s w e stop.OutOfMemory (inr halted) = inr (inl halted)
 
 event_stop : (code new : World) (text : List ℕ) (e : Event) (why : WorldStop) → RunsEvent code new e (Err why) → RunsAct code new text (act.Event e) (Err why)
-event_stop code new text e stop.TooMuch runs = λ s w h. runs s w h
-event_stop code new text e stop.OutOfMemory runs = λ s w h. tt
+event_stop code new text e why runs = record { answers = λ s w h. event_fails new s w e why (runs.goes s w h); still = λ s was h. runs.stays s was h }
 
--- the event stopped the network
+-- the event failed
 pub event_stops : (code new : World) (text : List ℕ) (a : LineAct) (e : Event) (why : WorldStop) → a ≡ act.Event e → RunsEvent code new e (Err why) → RunsAct code new text a (Err why)
 event_stops code new text a e why is runs = subst (λ (x : LineAct). RunsAct code new text x (Err why)) (sym is) (event_stop code new text e why runs)
 
 event_runs : (code new : World) (text : List ℕ) (e : Event) (report : Report) (r : Result (List ℕ) WorldStop) → RunsEvent code new e (Ok report) → TellsEvent text report r → RunsAct code new text (act.Event e) r
-event_runs code new text e report (Ok told) runs tells = λ s w h.
-    let d = runs s w h in
-    record { choice = d.choice; comes = d.occurs; told_is = tells ∙ ap (event_told text) d.report_is; stands = d.stands }
-event_runs code new text e report (Err why) runs tells = λ s w h. stops_so s w (act.Event e) why tells
+event_runs code new text e report (Ok told) runs tells = record {
+  answers = λ s w h. let d = runs.goes s w h in record { choice = d.choice; comes = d.occurs; told_is = tells ∙ ap (event_told text) d.report_is; stands = d.stands };
+  still = λ s was h. runs.stays s was h;
+}
+event_runs code new text e report (Err why) runs tells = record {
+  answers = λ s w h. starves new s w (act.Event e) why tells (inr (inr (past s w h)));
+  still = λ s was h. absurd (runs.stays s was h);
+} where
+  past : (s : Setting) (w : WorldState) → MeetsLine code s w (act.Event e) → IsPast new s w (act.Event e)
+  past s w h = let d = runs.goes s w h in record { choice = d.choice; comes = d.occurs; stands = d.stands }
 
 -- the event of a line came out, and the text reports it, or there was no memory for that
 pub event_tells : (code new : World) (text : List ℕ) (a : LineAct) (e : Event) (report : Report) (r : Result (List ℕ) WorldStop) → a ≡ act.Event e → RunsEvent code new e (Ok report) → TellsEvent text report r → RunsAct code new text a r
@@ -58,10 +69,16 @@ looks code text told node agent lends e = λ s w h.
     let there : IsThere w node = look_node code s w node h in
     seat_is text told w (present_life w node) there.seat agent there.here (lends s w there.seat (record { stands = h.stands; here = there.here })) e
 
-look_runs : (code : World) (text : List ℕ) (node : ℕ) (r : Result (List ℕ) WorldStop) → RunsLook code text node r → RunsAct code code text (act.State node) r
-look_runs code text node (Ok told) runs = λ s w h. record { choice = no_choice; comes = h.fit; told_is = runs s w h; stands = h.stands }
-look_runs code text node (Err why) runs = λ s w h. stops_so s w (act.State node) why (runs s w h)
+look_runs : (code : World) (text : List ℕ) (node : ℕ) (r : Result (List ℕ) WorldStop) → RunsLook code text node r → IfErr r (λ why. why ≡ stop.OutOfMemory) → RunsAct code code text (act.State node) r
+look_runs code text node (Ok told) runs memory = record {
+  answers = λ s w h. record { choice = no_choice; comes = h.fit; told_is = runs s w h; stands = h.stands };
+  still = λ s was h. h;
+}
+look_runs code text node (Err why) runs memory = record {
+  answers = λ s w h. starves code s w (act.State node) why memory (inl h.stands);
+  still = λ s was h. record { why_is = inr memory; stands = h };
+}
 
 -- a node is shown
-pub look_tells : (code : World) (text : List ℕ) (a : LineAct) (node : ℕ) (r : Result (List ℕ) WorldStop) → a ≡ act.State node → RunsLook code text node r → RunsAct code code text a r
-look_tells code text a node r is runs = subst (λ (x : LineAct). RunsAct code code text x r) (sym is) (look_runs code text node r runs)
+pub look_tells : (code : World) (text : List ℕ) (a : LineAct) (node : ℕ) (r : Result (List ℕ) WorldStop) → a ≡ act.State node → RunsLook code text node r → IfErr r (λ why. why ≡ stop.OutOfMemory) → RunsAct code code text a r
+look_tells code text a node r is runs memory = subst (λ (x : LineAct). RunsAct code code text x r) (sym is) (look_runs code text node r runs memory)

@@ -1,5 +1,5 @@
 -- What the code promises of one line of a script.
-use Rattle.std.specs.Prelude.{◌≡◌, ℕ, List, length, Result, Ok, Err}
+use Rattle.std.specs.Prelude.{◌≡◌, ◌⊎◌, ℕ, List, length, Result, Ok, Err}
 use Rattle.grasp_model_network.specs.Setting.{Setting}
 use Rattle.grasp_model_network.specs.Visits.{Choice}
 use Rattle.grasp_model_network.specs.World.{WorldState, present_life, seat_at}
@@ -13,13 +13,17 @@ use Rattle.grasp_script.specs.declared.line.LineAct.{LineAct}
 use Rattle.grasp_script.specs.declared.line.LineAct.TheVariants as act
 use Rattle.grasp_model_script.specs.LineRuns.{MayComeOut, act_told, after_act, event_told, placed_event, seat_told}
 use Rattle.grasp_model_script.specs.Stops.{LineOverflows}
-use Rattle.grasp_simulator.specs.Contract.{Network, going, Reported}
+use Rattle.grasp_simulator.specs.Contract.{Network, Standing, going, stopped, Reported}
 use Rattle.grasp_simulator.specs.WorldStands.{WorldStands}
 use Rattle.grasp_simulator.specs.declared.world.World.{World}
 
 -- a network that goes on
 abbrev pub network_at : Setting → WorldState → Network
 network_at s w = record { setting = s; standing = going w }
+
+-- one that was stopped, and why
+abbrev pub stopped_at : Setting → WorldStop → Network
+stopped_at s why = record { setting = s; standing = stopped why }
 
 -- the code goes on for this network, and a script of so many nodes as it has can have this line
 pub record MeetsLine (code : World) (s : Setting) (w : WorldState) (a : LineAct) : Type 0 where
@@ -32,22 +36,61 @@ pub record CanRun (code : World) (a : LineAct) : Type 0 where
   pub network : WorldState
   pub meets : MeetsLine code setting network a
 
--- why the line may stop the network: its event sends too much, or, at any time, for want of memory
-abbrev pub LineMayStop : Setting → WorldState → LineAct → WorldStop → Type 0
-LineMayStop s w a stop.TooMuch = LineOverflows s w a
-LineMayStop s w a stop.OutOfMemory = Unit {0}
+-- the code stands for a network, which goes on or was stopped, and a script of so many nodes as it has can have this line
+pub record CanRunLine (code : World) (a : LineAct) : Type 0 where
+  pub setting : Setting
+  pub standing : Standing
+  pub stands : WorldStands code (record { setting = setting; standing = standing })
+  pub fit : IsAct (length setting.members) a
+
+-- ---- where a line isn't reported
+
+-- the line's event sends too much, and the code stands for a network that was stopped for this
+pub record IsOverflown (code : World) (s : Setting) (w : WorldState) (a : LineAct) : Type 0 where
+  pub overflows : LineOverflows s w a
+  pub stands : WorldStands code (stopped_at s stop.TooMuch)
+
+-- the line came out so, and the code stands for the network after it
+pub record IsPast (code : World) (s : Setting) (w : WorldState) (a : LineAct) : Type 0 where
+  pub choice : Choice
+  pub comes : MayComeOut s w a choice
+  pub stands : WorldStands code (network_at s (after_act s w a choice))
+
+-- there was no memory: the code stands for the network as it was before the line, for one that was stopped for this, or for that after the line
+abbrev pub IsStarved : World → Setting → WorldState → LineAct → Type 0
+IsStarved code s w a = WorldStands code (network_at s w) ⊎ (WorldStands code (stopped_at s stop.OutOfMemory) ⊎ IsPast code s w a)
+
+-- why the line isn't reported, and for what the code stands then
+abbrev pub LineFails : World → Setting → WorldState → LineAct → WorldStop → Type 0
+LineFails code s w a stop.TooMuch = IsOverflown code s w a
+LineFails code s w a stop.OutOfMemory = IsStarved code s w a
+
+-- a network that was stopped stays so, and tells this again, or that there was no memory
+pub record StaysStopped (code : World) (s : Setting) (why again : WorldStop) : Type 0 where
+  pub why_is : (again ≡ why) ⊎ (again ≡ stop.OutOfMemory)
+  pub stands : WorldStands code (stopped_at s why)
 
 -- ---- an event
 
--- Inside: the event came out so, with the places of its sessions, and the code stands for the network after it; or its line may
--- stop the network for this
+-- Inside: there was no memory for the places of its sessions, or for the event
+abbrev pub EventFails : World → Setting → WorldState → Event → WorldStop → Type 0
+EventFails code s w e stop.TooMuch = IsOverflown code s w (act.Event e)
+EventFails code s w e stop.OutOfMemory = WorldStands code (network_at s w) ⊎ WorldStands code (stopped_at s stop.OutOfMemory)
+
+-- Inside: the event came out so, with the places of its sessions, and the code stands for the network after it; or it failed so
 abbrev pub EventAnswers : World → Setting → WorldState → Event → Result Report WorldStop → Type 0
 EventAnswers code s w e (Ok report) = Reported (WorldStands code) s w (placed_event w e) report
-EventAnswers code s w e (Err why) = LineMayStop s w (act.Event e) why
+EventAnswers code s w e (Err why) = EventFails code s w e why
 
--- Inside: for each network for which the code went on
-abbrev pub RunsEvent : World → World → Event → Result Report WorldStop → Type 0
-RunsEvent before after e result = (s : Setting) (w : WorldState) → MeetsLine before s w (act.Event e) → EventAnswers after s w e result
+-- Inside: in a network that was stopped no event comes out
+abbrev pub StoppedEventAnswers : World → Setting → WorldStop → Result Report WorldStop → Type 0
+StoppedEventAnswers code s why (Ok report) = ⊥
+StoppedEventAnswers code s why (Err again) = StaysStopped code s why again
+
+-- Inside: for each network for which the code went on, and for each that was stopped
+pub record RunsEvent (before after : World) (e : Event) (result : Result Report WorldStop) : Type 0 where
+  pub goes : (s : Setting) (w : WorldState) → MeetsLine before s w (act.Event e) → EventAnswers after s w e result
+  pub stays : (s : Setting) (why : WorldStop) → WorldStands before (stopped_at s why) → StoppedEventAnswers after s why result
 
 -- ---- a line
 
@@ -60,11 +103,21 @@ pub record LineReported (code : World) (s : Setting) (w : WorldState) (text : Li
 
 abbrev pub LineAnswers : World → Setting → WorldState → List ℕ → LineAct → Result (List ℕ) WorldStop → Type 0
 LineAnswers code s w text a (Ok told) = LineReported code s w text a told
-LineAnswers code s w text a (Err why) = LineMayStop s w a why
+LineAnswers code s w text a (Err why) = LineFails code s w a why
 
--- for each network for which the code went on
-abbrev pub RunsAct : World → World → List ℕ → LineAct → Result (List ℕ) WorldStop → Type 0
-RunsAct before after text a result = (s : Setting) (w : WorldState) → MeetsLine before s w a → LineAnswers after s w text a result
+-- in a network that was stopped no event comes out; a look shows something, and leaves it stopped
+abbrev pub StoppedShows : World → Setting → WorldStop → LineAct → Type 0
+StoppedShows code s why (act.Event e) = ⊥
+StoppedShows code s why (act.State node) = WorldStands code (stopped_at s why)
+
+abbrev pub StoppedAnswers : World → Setting → WorldStop → LineAct → Result (List ℕ) WorldStop → Type 0
+StoppedAnswers code s why a (Ok told) = StoppedShows code s why a
+StoppedAnswers code s why a (Err again) = StaysStopped code s why again
+
+-- for each network for which the code went on, and for each that was stopped
+pub record RunsAct (before after : World) (text : List ℕ) (a : LineAct) (result : Result (List ℕ) WorldStop) : Type 0 where
+  pub answers : (s : Setting) (w : WorldState) → MeetsLine before s w a → LineAnswers after s w text a result
+  pub still : (s : Setting) (why : WorldStop) → WorldStands before (stopped_at s why) → StoppedAnswers after s why a result
 
 abbrev pub RunsLine : World → World → Line → Result (List ℕ) WorldStop → Type 0
 RunsLine before after line result = RunsAct before after line.text line.act result

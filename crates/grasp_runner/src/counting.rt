@@ -1,7 +1,7 @@
 //! Running the lines of a script without writing their reports.
 
 ghost use Rattle.std.specs.Prelude.{◌≡◌};
-ghost use Rattle.grasp_runner.specs.Lines.{CanRun};
+ghost use Rattle.grasp_runner.specs.Lines.{CanRunLine};
 ghost use Rattle.grasp_runner.specs.Passing.{IsReady};
 ghost use Rattle.grasp_runner.specs.Tallies.{CanCount, CountsAct, CountsLines};
 
@@ -31,7 +31,7 @@ pub(crate) fn count_lines(world: &mut World, script: &Script) -> Result<Tally, R
 
 /// Runs a line, and counts what is reported of its event.
 fn count_line(world: &mut World, line: &Line, tally: Tally) -> Result<Tally, RunFault>
-    requires run { CanRun world.old line.now.act }
+    requires run { CanRunLine world.old line.now.act }
     requires count { CanCount tally }
     ensures { CountsAct world.old world.new line.now.act tally result }
 {

@@ -6,7 +6,7 @@ ghost use Rattle.grasp_model_network.specs.World.{Seat, WorldState, present_life
 ghost use Rattle.grasp_script.specs.declared.line.LineAct.TheVariants as act;
 ghost use Rattle.grasp_model_script.specs.LineRuns.{placed_handle, placed_call, placed_event};
 ghost use Rattle.grasp_simulator.specs.WorldStands.{HasNode, IsSeat};
-ghost use Rattle.grasp_runner.specs.Lines.{MeetsLine, CanRun, RunsEvent};
+ghost use Rattle.grasp_runner.specs.Lines.{MeetsLine, CanRunLine, RunsEvent};
 
 use grasp_cbor::OutOfMemory;
 use grasp_model_network::{Event, Report, WorldStop};
@@ -56,7 +56,7 @@ fn placed_call(world: &World, node: u8, call: &Call) -> Result<Call, OutOfMemory
 
 /// The event with the place of the session that its call names.
 fn placed_event(world: &World, event: &Event) -> Result<Event, OutOfMemory>
-    requires { CanRun world.now (act.Event event.now) }
+    requires { CanRunLine world.now (act.Event event.now) }
     ensures { IfOk result (λ placed. (s : Setting) (w : WorldState) → MeetsLine world.now s w (act.Event event.now)
         → placed ≡ placed_event w event.now) }
 {
@@ -76,9 +76,9 @@ fn placed_event(world: &World, event: &Event) -> Result<Event, OutOfMemory>
     }
 }
 
-/// An event of a line happens. After an `Err` nothing is said of the network.
+/// An event of a line happens. After `OutOfMemory` the network is as it was, or it is stopped.
 pub(crate) fn run_event(world: &mut World, event: &Event) -> Result<Report, WorldStop>
-    requires { CanRun world.old (act.Event event.now) }
+    requires { CanRunLine world.old (act.Event event.now) }
     ensures { RunsEvent world.old world.new event.now result }
 {
     match placed_event(world, event) {

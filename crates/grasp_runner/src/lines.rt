@@ -1,7 +1,8 @@
 //! Lines of scripts that are run.
 
+ghost use Rattle.std.specs.Prelude.{◌≡◌, IfErr};
 ghost use Rattle.grasp_script.specs.declared.line.LineAct.TheVariants as act;
-ghost use Rattle.grasp_runner.specs.Lines.{CanRun, RunsLine, RunsLook, TellsEvent};
+ghost use Rattle.grasp_runner.specs.Lines.{CanRunLine, RunsLine, RunsLook, TellsEvent};
 
 use crate::events::run_event;
 use grasp_cbor::{Chars, OutOfMemory};
@@ -10,9 +11,12 @@ use grasp_script::{Line, LineAct, told_report, told_state};
 use grasp_simulator::World;
 use std::alloc::Global;
 
-/// Runs a line in a network, and answers its report, without a line end. After an `Err` nothing is said of the network.
+/// Runs a line in a network, and answers its report, without a line end.
+///
+/// With `TooMuch` the network is stopped. With `OutOfMemory` it is as it was before the line, it is stopped, or the line was run
+/// and only its report is missing. A stopped network stays so.
 pub fn run_line(alloc: Global, world: &mut World, line: &Line) -> Result<Chars, WorldStop>
-    requires { CanRun world.old line.now.act }
+    requires { CanRunLine world.old line.now.act }
     ensures { RunsLine world.old world.new line.now result }
 {
     match &line.act {
@@ -36,8 +40,9 @@ fn event_told(alloc: Global, text: &Chars, report: &Report) -> Result<Chars, Wor
 
 /// What is told of a node.
 fn look(alloc: Global, world: &World, text: &Chars, node: u8) -> Result<Chars, WorldStop>
-    requires { CanRun world.now (act.State node) }
-    ensures { RunsLook world.now text.now node result }
+    requires { CanRunLine world.now (act.State node) }
+    ensures shows { RunsLook world.now text.now node result }
+    ensures memory { IfErr result (λ why. why ≡ WorldStop.OutOfMemory) }
 {
     match told_state(alloc, text, world.agent(node)) {
         Ok(told) => Ok(told),

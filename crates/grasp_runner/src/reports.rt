@@ -5,7 +5,7 @@ ghost use Rattle.grasp_io.specs.Faults.{Rose};
 ghost use Rattle.grasp_io.specs.Known.{AppendsFront, Passes};
 ghost use Rattle.grasp_model_script.specs.ScriptRuns.{IsRunText};
 ghost use Rattle.grasp_model_script.specs.Stops.{SendsTooMuch, IsStoppedText};
-ghost use Rattle.grasp_runner.specs.Lines.{CanRun};
+ghost use Rattle.grasp_runner.specs.Lines.{CanRunLine};
 ghost use Rattle.grasp_runner.specs.Passing.{PassesLine, IsReady, WritesLines};
 ghost use Rattle.grasp_runner.specs.Scripts.{IsRead, IsBegun};
 ghost use Rattle.grasp_runner.specs.Written.{Writes, Begins};
@@ -105,7 +105,7 @@ fn write_line<K: Sink>(
     buffer: &mut WriteBuffer,
     sink: &mut K,
 ) -> Result<(), RunFault>
-    requires { CanRun world.old line.now.act }
+    requires { CanRunLine world.old line.now.act }
     ensures written { PassesLine world.old world.new line.now (K.written sink.old) buffer.old (K.written sink.new) buffer.new result }
     ensures fault { IsErrOf result RunFault.WriteFault → Rose (K.faults sink.old) (K.faults sink.new) }
     ensures never_falls { K.faults sink.old ≤ K.faults sink.new }

@@ -1,4 +1,4 @@
-use Rattle.grasp_runner.proofs.Placing.{asked_placed, runs_placed}
+use Rattle.grasp_runner.proofs.Placing.{asked_placed, runs_nothing, runs_placed}
 use Rattle.grasp_runner.proofs.events.run_event.Goals as goal
 
 pub step-requires : goal.step-requires
@@ -6,3 +6,6 @@ step-requires c = asked_placed c.args.world.now c.args.event.now c.in-Ok.placed 
 
 pub returns-in-Ok : goal.returns-in-Ok
 returns-in-Ok c = runs_placed c.args.world.now c.step.new.self c.args.event.now c.in-Ok.placed c.step.result c.in-Ok.ensures c.step.ensures
+
+pub returns-in-Err : goal.returns-in-Err
+returns-in-Err c = runs_nothing c.args.world.now c.args.event.now

@@ -1,0 +1,2 @@
+mod Expiring
+mod Reading

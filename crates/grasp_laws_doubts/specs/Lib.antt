@@ -1,0 +1,6 @@
+pub mod Grounds
+pub mod Laws
+pub mod Opening
+pub mod Remembering
+pub mod Sending
+pub mod Standing

@@ -1,0 +1,3 @@
+pub mod Networks
+mod Records
+mod Steps

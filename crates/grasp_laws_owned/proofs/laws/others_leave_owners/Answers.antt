@@ -1,0 +1,5 @@
+use Rattle.grasp_laws_owned.proofs.Steps as lemmas
+use Rattle.grasp_laws_owned.proofs.laws.others_leave_owners.Goals as goal
+
+pub returns : goal.returns
+returns c = lemmas.others_leave_owners

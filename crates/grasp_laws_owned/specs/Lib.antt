@@ -1,0 +1,3 @@
+pub mod Laws
+pub mod Owned
+pub mod Serving

@@ -1,0 +1,14 @@
+mod Agents
+mod Beginning
+mod Courses
+mod Going
+mod Happenings
+mod Holding
+mod Lives
+mod Members
+mod Networks
+mod Numbers
+mod Openings
+mod Orders
+mod Rounds
+mod Seats

@@ -1,0 +1,4 @@
+pub mod MoreLines
+pub mod OneEvent
+pub mod OneRun
+pub mod Safely

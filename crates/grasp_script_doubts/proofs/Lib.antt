@@ -1,0 +1,4 @@
+mod Counting
+pub mod DoubtLines
+pub mod LinesRead
+pub mod ScriptLaws

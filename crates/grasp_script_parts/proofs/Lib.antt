@@ -1,0 +1,4 @@
+mod Blanks
+pub mod Heads
+mod Looking
+pub mod Starting
