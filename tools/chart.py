@@ -2,6 +2,7 @@
 """Draws what `grasp_replay replay` wrote as a message sequence chart: SVG on standard output.
 
 usage: chart.py [--script SCRIPT] [--title TITLE] [--lines A-B] [--nodes A,B..] [--all] [REPORTS]
+       chart.py [--title TITLE] [--lines A-B] [--nodes A,B..] [TRACE..]
 
 REPORTS is a file of report lines, `LINE = ANSWER`; without it, or with -, standard input is read. The lines of a script up
 to `start` may stand in front of the reports, or --script names the script that was run; without it a file NAME.script beside
@@ -22,6 +23,18 @@ which datagrams a discovery or a flood makes and where they are sent on, and wha
 number is reckoned with five bytes, and a request isn't taken to be declined as `busy`; only the nodes know better. A
 datagram or a stream whose sender can't be told so is written at the left and gets no arrow.
 
+Where the first line begins with a time, it is a TRACE: the lines that `grasp_node run` writes with GRASP_TRACE, or the log of
+`grasp_node serve` at the level `traffic`. It may have the lines of several nodes, and several files may be named, whose lines are
+counted as if they were one file. Lines without the name of a node are taken to be of one that is named as their file. Each node
+has a lifeline, and behind these each peer that is only named. At the left are the numbers of the lines and their times; the
+distances aren't to scale. A dial that is an opening at the other node, a message, a closing and a datagram are arrows, from the
+line of the node that sent it to that of the node that it came to. What only one node tells is an arrow to or from the lifeline of
+its peer, dotted where that peer wrote a trace as well. A cross is at the end of what was lost or failed, and a box is an event of the
+log. Which streams of two nodes are one, and which neighbour is which node, is told by the messages that both have, and for streams
+without such by addresses and times. Neighbours that were sent the same datagrams, and sent none of their own, may be taken for one
+another. --nodes has the names of nodes, as in their lines or as at the heads of the lifelines, and --lines draws an arrow where it
+has one of the arrow's two lines.
+
 The exit status is 0 where a chart was written. It is 1 where the input is wrong: a line on standard error says how and in
 which line, counted from 1, and nothing is drawn. It is 2 for words that are none of these.
 """
@@ -35,6 +48,7 @@ from xml.sax.saxutils import escape, quoteattr
 sys.dont_write_bytecode = True
 sys.path.insert(0, str(pathlib.Path(__file__).resolve().parent))
 from reports import NODE_ADDRESS, Network, Refused, Report, other, read_all  # noqa: E402
+from traces import Story, is_trace, read_traces, readable_address, shown_locator, shown_words  # noqa: E402
 
 VERSION = "chart.py 0.1.0"
 
@@ -241,6 +255,7 @@ def left_over(network):
 # ---- The picture.
 
 CHARACTER = 6.7     # the width of a character of the font, in pixels
+HEAD = 8.0          # the width of a character of a head
 LINE = 14           # the height of a line of text
 SIDE = 44           # where readings, and what has no lifeline, stand at the left
 STYLE = """text{font:11px monospace;fill:#1a1a1a;paint-order:stroke;stroke:#fff;stroke-width:2px}
@@ -261,9 +276,9 @@ def on_side(mark):
     return mark.kind == "clock" or not mark.at
 
 
-def places_of(nodes, marks):
-    """The place of each lifeline from the left, with room for notes and for the words at arrows."""
-    half = {node: 60.0 for node in nodes}
+def places_of(nodes, marks, heads=None):
+    """The place of each lifeline from the left, with room for heads, for notes and for the words at arrows."""
+    half = {node: 60.0 if heads is None else max(60.0, len(heads[node]) * HEAD / 2 + 12) for node in nodes}
     order = {node: at for at, node in enumerate(nodes)}
     for mark in marks:
         if mark.at and not mark.start and not on_side(mark):
@@ -437,6 +452,168 @@ def chart(octets, script=None, title=None, choice=None):
     return draw(title or f"Replay of {count} node{'s' * (count > 1)}", nodes, marks if choice.all else folded(marks), over)
 
 
+# ---- A trace of running nodes.
+
+TIME = 12 * CHARACTER + 16      # the width of the times
+TRACE_STYLE = STYLE + """
+.opening .shaft{stroke-dasharray:6 4}.message .shaft,.message .tip{stroke:#0b4f9c}.message .tip{fill:#0b4f9c}
+.closing .shaft{stroke-dasharray:2 3;stroke:#b00020}.closing .tip{fill:#b00020}.event .box{fill:#eef4ea}.peer .box{stroke-dasharray:3 3}"""
+
+
+def shortened_words(words):
+    return " ".join(short(word) if word[0] in "x'" else word for word in shown_words(words))
+
+
+def trace_label(line):
+    """The words at an arrow, or in the box of an event."""
+    there = f" (there {line.pair.stream})" if line.pair and line.stream is not None else ""
+    if line.kind == "dial":
+        came = f", opening {line.pair.stream} from {readable_address(line.pair.words)}" if line.pair else ""
+        words = f"dial {line.stream} {shown_locator(line.words)}{came}"
+    elif line.kind == "opening":
+        words = f"opening {line.stream} from {readable_address(line.words)}"
+    elif line.kind == "closing":
+        words = f"closing {line.stream}{there}"
+    elif line.kind == "message":
+        words = f"stream {line.stream}{there}: {shortened_words(line.words)}"
+    else:
+        words = shortened_words(line.words)
+    return wrapped(words if line.word not in ("lost", "failed") else f"{line.word}: {words}", 52)
+
+
+def trace_mark(story, line):
+    """What is drawn for a line. A line that came from another one has none: the arrow of that one ends at it."""
+    if line.kind == "event":
+        return Mark(line, "event", line.node, "", trace_label(line))
+    if line.comes and line.pair:
+        return None
+    kind = "opening" if line.kind == "dial" else line.kind
+    far = line.pair.node if line.pair else story.other_end(line)
+    start, end = (far, line.node) if line.comes else (line.node, far)
+    bad = line.word in ("lost", "failed")
+    return Mark(line, kind, end, start, trace_label(line), faint=bad or not line.pair and far in story.nodes, crossed=bad)
+
+
+def named_lifelines(story, names):
+    """The lifelines that these words name: as in the lines, or as at their heads."""
+    out = set()
+    for name in names:
+        found = [key for key, head in story.names.items() if name in (key, head)]
+        if not found:
+            raise Refused(f"there is no node {name}")
+        out.update(found)
+    return out
+
+
+def trace_rows(lines, marks):
+    """The rows of these marks in order: a line, and its mark where it has one."""
+    of_line = {mark.report: mark for mark in marks}
+    used = set(of_line) | {mark.report.pair for mark in marks}
+    return [(line, of_line.get(line)) for line in lines if line in used]
+
+
+def trace_placed(rows):
+    """The height of each line from the top, the days that begin, the heights of heads between them, and where the lifelines end."""
+    heights, days, repeated, y, last, day = {}, [], [], 84.0, 44.0, ""
+    for line, mark in rows:
+        if y - last > HEADS:
+            repeated.append(y + 4)
+            last, y = y, y + 36
+        if line.stamp[:10] != day:
+            day = line.stamp[:10]
+            days.append((day, y))
+            y += LINE + 4
+        heights[line] = y
+        y += height_of(mark) if mark else LINE + 6
+    return heights, days, repeated, y + 8
+
+
+def sloping_arrow(mark, x1, y1, x2, y2):
+    """The shaft and the tip of an arrow, and a cross where it didn't arrive."""
+    if x1 == x2:
+        return [f'<path class="shaft" d="M{number(x1)} {number(y1)} h30 V{number(y2 + 10)} h-24"/>', tip(x1, y2 + 10, -1)]
+    far = ((x2 - x1) ** 2 + (y2 - y1) ** 2) ** 0.5
+    dx, dy = (x2 - x1) / far, (y2 - y1) / far
+    corners = [(x2, y2), (x2 - 9 * dx + 4 * dy, y2 - 9 * dy - 4 * dx), (x2 - 9 * dx - 4 * dy, y2 - 9 * dy + 4 * dx)]
+    path = " L".join(f"{number(x)} {number(y)}" for x, y in corners)
+    out = [line(x1, y1, x2 - 2 * dx, y2 - 2 * dy, "shaft"), f'<path class="tip" d="M{path} Z"/>']
+    return out + (cross(x2, y2) if mark.crossed else [])
+
+
+def draw_traced(mark, heights, at):
+    """A mark of a trace. Its line stands in data-line, and that of the other node in data-end."""
+    told, y = mark.report, heights[mark.report]
+    if mark.start:
+        low = y + LINE * len(mark.lines) + 6
+        end = heights[told.pair] + 12 if told.pair else low
+        inner = sloping_arrow(mark, at[mark.start], low, at[mark.at], end)
+        loop = mark.start == mark.at
+        inner += texts(at[mark.at] + 36 if loop else (at[mark.start] + at[mark.at]) / 2, y + 11, mark.lines, "start" if loop else "middle")
+        ends = f" data-from={quoteattr(mark.start)} data-to={quoteattr(mark.at)}"
+        ends += f' data-end="{told.pair.line}"' if told.pair else ""
+    else:
+        inner, ends = draw_note(mark, y, at), f" data-node={quoteattr(mark.at)}"
+    words = quoteattr(" | ".join(part.strip() for part in mark.lines))
+    title = told.text + (f"\n{told.pair.text}" if told.pair else "")
+    return [f'<g class="{mark.kind}{" faint" if mark.faint else ""}" data-line="{told.line}"{ends} data-words={words}>',
+            f"<title>{escape(title)}</title>"] + inner + ["</g>"]
+
+
+def trace_heads(story, at, y):
+    out = []
+    for key, x in at.items():
+        head = story.names[key]
+        width = max(80.0, len(head) * HEAD + 16)
+        out += ["<g>" if key in story.nodes else '<g class="peer">',
+                f'<rect class="box" x="{number(x - width / 2)}" y="{number(y)}" width="{number(width)}" height="24" rx="3"/>',
+                text(x, y + 17, head, "middle", "head"), "</g>"]
+    return out
+
+
+def draw_trace(title, story, lifelines, rows):
+    """The whole picture of a trace."""
+    marks = [mark for _, mark in rows if mark]
+    digits = max((len(str(row.line)) for row, _ in rows), default=1) * CHARACTER + 12
+    at, right = places_of(lifelines, marks, story.names)
+    at = {key: x + TIME + digits - SIDE for key, x in at.items()}
+    heights, days, repeated, foot = trace_placed(rows)
+    width = max(right + TIME + digits - SIDE + 20, 40 + len(title) * 10)
+    height = foot + 40
+    out = [f'<svg xmlns="http://www.w3.org/2000/svg" role="img" width="{number(width)}" height="{number(height)}"'
+           f' viewBox="0 0 {number(width)} {number(height)}">',
+           f"<title>{escape(title)}</title>",
+           f"<desc>{len(lifelines)} lifelines, {len(rows)} lines. Time goes downwards.</desc>",
+           f"<style>{TRACE_STYLE}</style>", '<rect width="100%" height="100%" fill="#fff"/>',
+           text(20, 28, title, "start", "title")]
+    out += [line(x, 68, x, foot, "life") for x in at.values()]
+    for y in [44, *repeated, foot]:
+        out += trace_heads(story, at, y)
+    out += [text(digits, y + 12, day, "start", "number") for day, y in days]
+    for row, mark in rows:
+        low = heights[row] + 14
+        out += [text(digits - 8, low, str(row.line), "end", "number"), text(digits, low, row.stamp[11:-1], "start", "number")]
+    for mark in marks:
+        out += draw_traced(mark, heights, at)
+    return "\n".join(out + ["</svg>"]) + "\n"
+
+
+def trace_chart(files, title=None, lines=None, names=None):
+    """The chart of these traces, as SVG: of each its name and its content."""
+    story = Story(read_traces(files))
+    ordered = story.ordered()
+    marks = [mark for mark in (trace_mark(story, told) for told in ordered) if mark]
+    nodes = len(story.nodes)
+    if lines is not None:
+        marks = [mark for mark in marks if any(lines[0] <= told.line <= lines[1] for told in (mark.report, mark.report.pair) if told)]
+    lifelines = list(story.names)
+    if names is not None:
+        chosen = named_lifelines(story, names)
+        marks = [mark for mark in marks if mark.at in chosen or mark.start in chosen]
+        ends = chosen | {end for mark in marks for end in (mark.at, mark.start) if end}
+        lifelines = [key for key in lifelines if key in ends]
+    return draw_trace(title or f"Trace of {nodes} node{'s' * (nodes > 1)}", story, lifelines, trace_rows(ordered, marks))
+
+
 # ---- Words of the command line.
 
 
@@ -445,7 +622,8 @@ class Words:
     script: str = None
     title: str = None
     choice: Choice = field(default_factory=Choice)
-    file: str = "-"
+    files: list = field(default_factory=list)
+    names: list = None      # the words of --nodes
 
 
 def lines_chosen(word):
@@ -456,6 +634,10 @@ def lines_chosen(word):
 def nodes_chosen(word):
     found = re.fullmatch("[1-9][0-9]?(,[1-9][0-9]?)*", word)
     return sorted({int(part) for part in word.split(",")}) if found else None
+
+
+def names_chosen(word):
+    return word.split(",") if all(word.split(",")) else None
 
 
 def words_of(words):
@@ -477,15 +659,14 @@ def words_of(words):
             elif word == "--lines":
                 out.choice.lines = lines_chosen(value)
             else:
-                out.choice.nodes = nodes_chosen(value)
-            if word == "--lines" and out.choice.lines is None or word == "--nodes" and out.choice.nodes is None:
+                out.choice.nodes, out.names = nodes_chosen(value), names_chosen(value)
+            if word == "--lines" and out.choice.lines is None or word == "--nodes" and out.names is None:
                 return None
         elif word == "--all":
             seen.add(word)
             out.choice.all = True
-        elif (word == "-" or not word.startswith("-")) and "file" not in seen:
-            seen.add("file")
-            out.file = word
+        elif (word == "-" or not word.startswith("-")) and word not in out.files:
+            out.files.append(word)
         else:
             return None
     return out
@@ -498,11 +679,22 @@ def script_beside(file):
     return str(beside) if path.suffix == ".reports" and beside.is_file() else None
 
 
+def content_of(file):
+    return sys.stdin.buffer.read() if file == "-" else pathlib.Path(file).read_bytes()
+
+
 def picture_of(words):
     """The chart that the words ask for."""
-    script = words.script or script_beside(words.file)
+    files = [(file, content_of(file)) for file in words.files or ["-"]]
+    name, octets = files[0]
+    if is_trace(octets) or len(files) > 1:
+        if words.script:
+            raise Refused("a trace has no script")
+        return trace_chart(files, words.title, words.choice.lines, words.names)
+    if words.names and not words.choice.nodes:
+        raise Refused(f"there is no node {','.join(words.names)}")
+    script = words.script or script_beside(name)
     head = pathlib.Path(script).read_bytes() if script else None
-    octets = sys.stdin.buffer.read() if words.file == "-" else pathlib.Path(words.file).read_bytes()
     return chart(octets, head, words.title, words.choice)
 
 
@@ -515,7 +707,7 @@ def main(words):
         return 0
     chosen = words_of(words)
     if chosen is None:
-        print("usage: chart.py [--script SCRIPT] [--title TITLE] [--lines A-B] [--nodes A,B..] [--all] [REPORTS]; try --help", file=sys.stderr)
+        print("usage: chart.py [--script SCRIPT] [--title TITLE] [--lines A-B] [--nodes A,B..] [--all] [REPORTS | TRACE..]; try --help", file=sys.stderr)
         return 2
     try:
         picture = picture_of(chosen)

@@ -98,7 +98,7 @@ put() {
 for tool in chart.py readable.py; do
     put tools/$tool usr/share/refthongi/tools 755
 done
-for part in cbor_notation.py reports.py script_check.py; do
+for part in cbor_notation.py reports.py script_check.py traces.py; do
     put tools/$part usr/share/refthongi/tools
 done
 put contrib/wireshark/grasp.lua usr/share/refthongi/wireshark

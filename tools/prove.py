@@ -159,8 +159,16 @@ class Gate:
                 file.write_text(self.kept.rlibs[crate.name])
 
 
+LENDING = threading.Lock()
+
+
 def lend(crate):
-    """Puts a kept library where rt looks for it. Answers the crates below, and it, that aren't kept."""
+    """Puts kept libraries where rt looks for them, one caller at a time. Answers the crates below that aren't kept."""
+    with LENDING:
+        return lend_all(crate)
+
+
+def lend_all(crate):
     lacking, gate = [], Gate(crate.below())
     for each in crate.below():
         room = Path(each.folder) / "out" / "rlib"
@@ -271,6 +279,23 @@ def prove_more(crate, first, tests):
     return all([RT.run(crate, tests, end) for end, name in zip(ends, names) if (goal / name).exists()])
 
 
+def tries_of(crate, edits):
+    """Tries edits, each over what a check of the crate as it stands proved. Answers of each whether it was refused, and what is to be said."""
+    flags = ["--jobs", "1"]
+    if hasattr(RT, "must_fail_all"):
+        return RT.must_fail_all(crate, edits, flags)
+    tried = []
+    with RT.ending():
+        room = RT.seeded(crate, flags)
+        for number, edit in enumerate(edits):
+            own = f"{room}/{number}" if room else None
+            if room:
+                RT.linked(f"{room}/seed", own)
+            kind, text = RT.must_fail(crate, edit, flags, own)
+            tried.append((kind in (RT.REFUSED, RT.AT_LIMIT), text))
+    return tried
+
+
 def try_edits(crate, first):
     """Tries a crate's edits as the gate does, those that the gate doesn't try too."""
     good, bad = RT.edits_of(crate)
@@ -284,7 +309,7 @@ def try_edits(crate, first):
     if lend(crate):
         return say(f"{crate.name}: edits: not kept below it: {' '.join(lend(crate))}")
     with Place(first, 1):
-        tried = RT.must_fail_all(crate, good, ["--jobs", "1"])
+        tried = tries_of(crate, good)
     for _, line in tried:
         say(line)
     is_well = all(well for well, _ in tried)

@@ -1,5 +1,5 @@
 #!/usr/bin/env python3
-"""Checks tools/chart.py: the arrows of runs whose reports are known, the refusals, the examples and the picture in docs.
+"""Checks tools/chart.py: the arrows of runs whose reports or traces are known, the refusals, the examples and the picture in docs.
 
 usage: python3 tools/test_chart.py
 
@@ -10,6 +10,7 @@ import pathlib
 import re
 import subprocess
 import sys
+import tempfile
 import unittest
 import xml.etree.ElementTree as tree
 
@@ -204,6 +205,56 @@ api 2 2 poll 1 = ended agreed mine obj 'x 2 3 x05
 """
 
 
+# The lines that the two nodes of examples/two_nodes wrote, @K being their addresses, as they came.
+PAIR = """2026-11-30T14:50:10.592Z @1 received opening 1 7f000002
+2026-11-30T14:50:10.592Z @2 sent dial 0 v4 7f000001 tcp 7017
+2026-11-30T14:50:10.592Z @1 received message 1 request-neg 982143829 obj PM 3 6 x811838
+2026-11-30T14:50:10.592Z @2 sent message 0 request-neg 982143829 obj PM 3 6 x811838
+2026-11-30T14:50:10.623Z @1 sent message 1 negotiate 982143829 obj PM 3 5 x82183850{0000}
+2026-11-30T14:50:10.623Z @2 received message 0 negotiate 982143829 obj PM 3 5 x82183850{0000}
+2026-11-30T14:50:10.658Z @2 sent message 0 end 982143829 accept
+2026-11-30T14:50:10.658Z @2 sent closing 0
+2026-11-30T14:50:10.658Z @1 received message 1 end 982143829 accept
+2026-11-30T14:50:10.658Z @1 sent closing 1
+"""
+# The logs of two nodes that serve, of which the first has one more neighbour.
+GIVER = """2026-11-30T14:55:24.709Z giver received opening 1 7f000002
+2026-11-30T14:55:24.709Z giver sent datagram 0 0 flood 4160700578 @1 60000 obj 'x 5 3 x05 none
+2026-11-30T14:55:24.709Z giver sent datagram 0 1 flood 4160700578 @1 60000 obj 'x 5 3 x05 none
+2026-11-30T14:55:24.709Z giver received message 1 request-neg 2370777740 obj PM 3 6 x811838
+2026-11-30T14:55:24.709Z giver event 367 offered {0000}/56
+2026-11-30T14:55:24.709Z giver sent message 1 negotiate 2370777740 obj PM 3 5 x82183850{0000}
+2026-11-30T14:55:24.709Z giver received message 1 end 2370777740 accept
+2026-11-30T14:55:24.709Z giver sent closing 1
+"""
+TAKER = """2026-11-30T14:55:24.708Z taker two sent dial 0 v4 7f000001 tcp 7117
+2026-11-30T14:55:24.708Z taker two sent message 0 request-neg 2370777740 obj PM 3 6 x811838
+2026-11-30T14:55:24.709Z taker two received datagram 0 0 flood 4160700578 @1 60000 obj 'x 5 3 x05 none
+2026-11-30T14:55:24.709Z taker two received message 0 negotiate 2370777740 obj PM 3 5 x82183850{0000}
+2026-11-30T14:55:24.709Z taker two event 2 gained {0000}/56
+2026-11-30T14:55:24.709Z taker two sent message 0 end 2370777740 accept
+2026-11-30T14:55:24.710Z taker two received closing 0
+"""
+# Each line that a node writes: those of crates/grasp_tests_formats/src/traced.rt.
+EACH = """received datagram 1 2 wait 1 5000
+received datagram 1 2 no message in 1 bytes
+received opening 1 7f000001
+received message 1 noop
+received message 1 wait 1 5000
+received stream 1 no message at 8
+received closing 1
+sent datagram 3 4 noop
+sent dial 0 v4 7f000001 tcp 7017
+sent message 0 noop
+sent closing 0
+lost datagram 3 4 noop
+failed dial 0 v4 7f000001 tcp 7017
+failed message 0 noop
+failed closing 0
+"""
+EACH = "".join(f"2026-11-29T07:10:29.828Z 7f000009 {line}\n" for line in EACH.splitlines())
+
+
 def written_out(reports):
     """The reports with their addresses, prefixes and names."""
     text = re.sub(r"@([0-9])", lambda found: "fd" + "0" * 28 + f"0{found.group(1)}", reports)
@@ -358,6 +409,7 @@ class Pictures(unittest.TestCase):
     def test_examples(self):
         """Each example is drawn with its script's header, line by line, and no arrow or delivery is left untold."""
         scripts = sorted((HERE.parent / "examples").glob("*.script"))
+        scripts.remove(HERE.parent / "examples" / "doubt_resolved.script")     # its lines of doubters aren't drawn
         self.assertEqual(len(scripts), 8)
         for script in scripts:
             head, lines = script.read_text().split("start\n")
@@ -375,6 +427,156 @@ class Pictures(unittest.TestCase):
         numbers = [group.get("data-line") for group in groups_of("arrive 1 = nothing\narrive 2 = nothing\n", head)]
         self.assertEqual(numbers, ["4", "5"])
         self.assertEqual([group.get("data-line") for group in groups_of(head.decode() + "arrive 1 = nothing\n")], ["4"])
+
+
+def stamped(*lines):
+    """Lines of a trace, each one a millisecond after the one before."""
+    return "".join(f"2026-11-30T12:00:00.{at:03}Z {line}\n" for at, line in enumerate(lines))
+
+
+class Traces(unittest.TestCase):
+    def marks(self, *traces, **choice):
+        files = [(f"{at}.log", written_out(trace)) for at, trace in enumerate(traces)]
+        return [group for group in tree.fromstring(chart.trace_chart(files, **choice)).iter(GROUP) if group.get("data-line")]
+
+    def arrows(self, *traces, **choice):
+        """Each arrow: its kind, its lines, and the lifelines from and to, with @K for addresses."""
+        return [(group.get("class"), group.get("data-line"), group.get("data-end"), *(re.sub("fd0{28}0([0-9])", r"@\1", group.get(end)) for end in ("data-from", "data-to")))
+                for group in self.marks(*traces, **choice) if group.get("data-from")]
+
+    def test_two_nodes(self):
+        """What both traces have is one arrow, from the line of the sender to that of the other node."""
+        self.assertEqual(self.arrows(PAIR), [
+            ("opening", "2", "1", "@2", "@1"), ("message", "4", "3", "@2", "@1"), ("message", "5", "6", "@1", "@2"),
+            ("message", "7", "9", "@2", "@1"), ("closing faint", "8", None, "@2", "@1"), ("closing faint", "10", None, "@1", "@2")])
+        words = [group.get("data-words") for group in self.marks(PAIR)]
+        self.assertEqual(words[0], "dial 0 127.0.0.1:7017, opening 1 from 127.0.0.2")
+        self.assertEqual(words[2], "stream 1 (there 0): negotiate 982143829 obj | 'PrefixManager 3 5 x8218385020010db8..")
+
+    def test_one_node(self):
+        """What one trace has alone goes to and comes from the lifeline of the peer."""
+        taker = "".join(line + "\n" for line in PAIR.splitlines() if " @2 " in line)
+        peer = "v4 7f000001 tcp 7017"
+        self.assertEqual(self.arrows(taker), [
+            ("opening", "1", None, "@2", peer), ("message", "2", None, "@2", peer), ("message", "3", None, peer, "@2"),
+            ("message", "4", None, "@2", peer), ("closing", "5", None, "@2", peer)])
+        self.assertIn(">127.0.0.1:7017</text>", chart.trace_chart([("a", written_out(taker))]))
+
+    def test_logs(self):
+        """Several files, names with blanks, events, datagrams and a neighbour that wrote no trace."""
+        third = "link 0 neighbour 1 of giver"
+        wanted = [("opening", "taker two", "giver"), ("message", "taker two", "giver"), ("datagram", "giver", "taker two"), ("datagram", "giver", third),
+                  ("message", "giver", "taker two"), ("message", "taker two", "giver"), ("closing", "giver", "taker two")]
+        for traces in ((GIVER, TAKER), (TAKER, GIVER), (GIVER + TAKER,)):
+            found = self.arrows(*traces)
+            self.assertEqual([(arrow[0], *arrow[3:]) for arrow in found], wanted)
+            self.assertEqual([arrow[4] for arrow in found if arrow[2] is None], [third])
+        events = [(group.get("data-node"), group.get("data-words")) for group in self.marks(GIVER, TAKER) if group.get("class") == "event"]
+        self.assertEqual(events, [("giver", "offered 2001:db8::/56"), ("taker two", "gained 2001:db8::/56")])
+
+    def test_each_line(self):
+        """Each line that a node writes has its mark, and its title is the line."""
+        marks = self.marks(EACH)
+        self.assertEqual([group.find("{http://www.w3.org/2000/svg}title").text for group in marks], EACH.splitlines())
+        self.assertEqual([group.get("class") for group in marks][-4:], ["datagram faint", "opening faint", "message faint", "closing faint"])
+        self.assertEqual(marks[-1].get("data-words"), "failed: closing 0")
+        self.assertEqual([len([line for line in group if line.get("class") == "cross"]) for group in marks], [0] * 11 + [2] * 4)
+        nameless = EACH.replace(" 7f000009", "")
+        self.assertEqual({group.get("data-from") for group in self.marks(nameless)[7:]}, {"0.log"})
+
+    def test_order_and_heights(self):
+        """Times and numbers stand at the left, and an arrow ends at the height of the line that it ends with."""
+        rows = re.findall('y="([0-9.]+)" text-anchor="start" class="number" xml:space="preserve">([0-9:.]{12})<', chart.trace_chart([("a", written_out(PAIR))]))
+        self.assertEqual([time for _, time in rows], sorted(line[11:23] for line in PAIR.splitlines()))
+        heights = [float(height) for height, _ in rows]
+        self.assertEqual(heights, sorted(heights))
+        shaft = next(part for part in self.marks(PAIR)[0] if part.get("class") == "shaft")
+        self.assertLess(float(shaft.get("y1")), float(shaft.get("y2")))
+        self.assertAlmostEqual(float(shaft.get("y2")), heights[1] - 2, delta=1)
+        late = PAIR.replace("10.592Z @2", "11.592Z @2").replace("10.623Z @2", "11.623Z @2").replace("10.658Z @2", "11.658Z @2")
+        self.assertEqual({arrow[1:] for arrow in self.arrows(late)}, {arrow[1:] for arrow in self.arrows(PAIR)})
+
+    def test_line_left_out(self):
+        """Where the other node's line is missing, its lifeline still is the end, and what follows is joined."""
+        cut = "".join(line + "\n" for line in PAIR.splitlines() if "@2 received message" not in line)
+        self.assertEqual(self.arrows(cut)[2:4], [("message faint", "5", None, "@1", "@2"), ("message", "6", "8", "@2", "@1")])
+
+    def test_silent_stream(self):
+        """A stream without a message is told by addresses that are known from another one, and by the time."""
+        more = "2026-11-30T14:50:12.000Z @2 sent dial 1 v4 7f000001 tcp 7017\n2026-11-30T14:50:12.001Z @1 received opening 2 7f000002\n"
+        more += "2026-11-30T14:50:13.000Z @1 sent closing 2\n2026-11-30T14:50:13.001Z @2 received closing 1\n"
+        more += "2026-11-30T14:50:23.000Z @2 sent dial 2 v4 7f000001 tcp 7017\n"
+        found = self.arrows(PAIR + more)
+        self.assertIn(("opening", "11", "12", "@2", "@1"), found)
+        self.assertIn(("closing", "13", "14", "@1", "@2"), found)
+        self.assertIn(("opening faint", "15", None, "@2", "@1"), found)
+
+    def test_relay(self):
+        """A response that is sent on has the same words on two streams: the times tell them apart."""
+        words = "response 77 @1 60000 locators v6 @3 tcp 7017"
+        lines = stamped("@3 sent dial 0 v4 7f000002 tcp 7017", f"@3 sent message 0 {words}", "@2 received opening 1 7f000003", f"@2 received message 1 {words}",
+                        "@2 sent dial 0 v4 7f000001 tcp 7017", f"@2 sent message 0 {words}", "@1 received opening 1 7f000002", f"@1 received message 1 {words}")
+        self.assertEqual(self.arrows(lines), [("opening", "1", "3", "@3", "@2"), ("message", "2", "4", "@3", "@2"),
+                                              ("opening", "5", "7", "@2", "@1"), ("message", "6", "8", "@2", "@1")])
+
+    def test_neighbours(self):
+        """Which neighbour is which node is told by all their datagrams, whatever the numbers."""
+        lines = stamped("@1 sent datagram 0 0 noop", "@1 sent datagram 0 0 discovery 5 @1 obj 'x 3 3 -", "@1 sent datagram 0 1 discovery 5 @1 obj 'x 3 3 -",
+                        "@2 received datagram 4 2 discovery 5 @1 obj 'x 3 3 -", "@3 received datagram 0 0 discovery 5 @1 obj 'x 3 3 -",
+                        "@2 sent datagram 4 2 flood 9 @2 0 obj 'y 5 2 x05 none", "@1 received datagram 0 1 flood 9 @2 0 obj 'y 5 2 x05 none")
+        self.assertEqual(self.arrows(lines), [
+            ("datagram faint", "1", None, "@1", "@3"), ("datagram", "2", "5", "@1", "@3"), ("datagram", "3", "4", "@1", "@2"), ("datagram", "6", "7", "@2", "@1")])
+
+    def test_choices(self):
+        """--lines and --nodes, whose nodes are named as in the lines or as at the heads."""
+        self.assertEqual([arrow[1] for arrow in self.arrows(PAIR, lines=(6, 8))], ["5", "7", "8"])
+        for name in ("giver", "link 0 neighbour 1 of giver"):
+            self.assertEqual({name} & {arrow[end] for arrow in self.arrows(GIVER, TAKER, names=[name]) for end in (3, 4)}, {name})
+        self.assertEqual(len(self.arrows(GIVER, TAKER, names=["link 0 neighbour 1 of giver"])), 1)
+        self.assertEqual(self.arrows(PAIR, names=["fd00::2"]), self.arrows(PAIR))
+        with self.assertRaises(chart.Refused) as raised:
+            self.arrows(PAIR, names=["fd00::3"])
+        self.assertEqual(str(raised.exception), "there is no node fd00::3")
+
+    def test_days_and_heads(self):
+        """A new day is told, and the heads stand again."""
+        lines = PAIR + PAIR.replace("2026-11-30", "2026-12-01")
+        picture = chart.trace_chart([("a", written_out(lines))])
+        self.assertEqual(re.findall(">([0-9]{4}-[0-9]{2}-[0-9]{2})</text>", picture), ["2026-11-30", "2026-12-01"])
+        many = stamped(*["@1 sent datagram 0 0 noop"] * 300)
+        self.assertGreater(chart.trace_chart([("a", written_out(many))]).count('class="head"'), 10)
+
+    def test_refusals(self):
+        """A line that is none is named, with its file where there are several."""
+        for line in ("", "2026-11-30T12:00:00.000Z a", "2026-11-30T12:00:00.000Z a sent dial 0", "2026-11-30T12:00:00.000Z a sent opening 1 7f000001",
+                     "2026-11-30T12:00:00.000Z a received message 1 noop ", "2026-11-30 12:00:00 a sent closing 1", "arrive 1 = taken"):
+            with self.assertRaises(chart.Refused) as raised:
+                self.marks(PAIR + line + "\n")
+            self.assertEqual(str(raised.exception), "no line of a trace in line 11")
+        with self.assertRaises(chart.Refused) as raised:
+            self.marks(PAIR, GIVER + "x\n")
+        self.assertEqual(str(raised.exception), "1.log: no line of a trace in line 9")
+
+    def run_tool(self, *words, given=b""):
+        done = subprocess.run([sys.executable, str(HERE / "chart.py"), *words], input=given, capture_output=True)
+        return done.returncode, done.stdout.decode(), done.stderr.decode()
+
+    def test_command_line(self):
+        """A trace is known by its first line."""
+        octets = written_out(PAIR)
+        self.assertEqual(self.run_tool(given=octets), (0, chart.trace_chart([("-", octets)]), ""))
+        self.assertEqual(self.run_tool("--nodes", "fd00::2", "--lines", "3-5", "--title", "T", given=octets),
+                         (0, chart.trace_chart([("-", octets)], "T", (3, 5), ["fd00::2"]), ""))
+        self.assertEqual(self.run_tool(given=octets + b"x\n"), (1, "", "chart.py: no line of a trace in line 11\n"))
+        self.assertEqual(self.run_tool("--script", "x", given=octets), (1, "", "chart.py: a trace has no script\n"))
+        self.assertEqual(self.run_tool("--nodes", "giver", given=LAST_LOOP.encode()), (1, "", "chart.py: there is no node giver\n"))
+        with tempfile.TemporaryDirectory() as place:
+            files = [pathlib.Path(place) / name for name in ("giver.log", "taker.log")]
+            for file, trace in zip(files, (GIVER, TAKER)):
+                file.write_bytes(written_out(trace))
+            names = [str(file) for file in files]
+            wanted = chart.trace_chart([(name, file.read_bytes()) for name, file in zip(names, files)])
+            self.assertEqual(self.run_tool(*names), (0, wanted, ""))
 
 
 class Choices(unittest.TestCase):
@@ -474,7 +676,7 @@ class Refusals(unittest.TestCase):
         self.assertEqual((status, errors), (0, ""))
         self.assertIn("usage: chart.py", text)
         self.assertEqual(self.run_tool("--scale", "3")[:2], (2, ""))
-        self.assertEqual(self.run_tool("a", "b")[:2], (2, ""))
+        self.assertEqual(self.run_tool("a", "a")[:2], (2, ""))
         self.assertEqual(self.run_tool(given=b"arrive 1 = token\n"), (1, "", "chart.py: bad answer in line 1\n"))
         self.assertEqual(self.run_tool("/no/such/file")[:2], (1, ""))
         status, text, errors = self.run_tool("--title", "T", "-", given=written_out(WAITS))

@@ -1,10 +1,12 @@
 #!/bin/sh
-# Builds the program of this folder without a proof where it isn't there yet, and runs it: a node with an agent of its own.
+# Builds the program of this folder without a proof, where it isn't there yet or is older than one of the .rt.in files here, and runs it:
+# a node with an agent of its own.
 #
 #   examples/own_agent/run.sh PROGRAM [FILE]      FILE by default node.toml beside it, a node on 127.0.0.1 that makes 3,000 turns
 #
 # To build PROGRAM it needs the Rattle kit that README.md names, and takes some minutes. It is made in a copy of the crates: the
-# files here end in .rt.in, since a .rt file may stand in a crate alone.
+# files here end in .rt.in, since a .rt file may stand in a crate alone. Each of them becomes a file of the program's crate. A copy of
+# this folder works too, where it stands in examples/.
 set -eu
 here=$(cd "$(dirname "$0")" && pwd)
 if [ $# -eq 0 ]; then
@@ -13,23 +15,33 @@ if [ $# -eq 0 ]; then
 fi
 program=$(readlink -m "$1")
 file=$(readlink -m "${2:-$here/node.toml}")
-if [ ! -x "$program" ]; then
+# The libraries that the files here use: a line as those of crates.txt.
+crate='own_agent: grasp_cbor grasp_config grasp_core grasp_io grasp_node_main grasp_types'
+
+stale=
+[ -x "$program" ] || stale=yes
+for part in "$here"/*.rt.in; do
+    [ ! "$part" -nt "$program" ] || stale=yes
+done
+if [ -n "$stale" ]; then
+    echo "run.sh: builds $program, which takes some minutes" >&2
     work=$(mktemp -d)
     trap 'rm -rf "$work"' EXIT
-    for crate in "$here"/../../crates/*/; do
-        name=$(basename "$crate")
+    for folder in "$here"/../../crates/*/; do
+        name=$(basename "$folder")
         mkdir -p "$work/crates/$name"
         for part in src specs proofs; do
-            [ ! -d "$crate/$part" ] || cp -a "$crate/$part" "$work/crates/$name/$part"
+            [ ! -d "$folder/$part" ] || cp -a "$folder/$part" "$work/crates/$name/$part"
         done
     done
     cp "$here/../../HANDLES" "$here/../../crates.txt" "$work"
-    echo 'own_agent: grasp_cbor grasp_config grasp_core grasp_io grasp_node_main grasp_types' >>"$work/crates.txt"
+    echo "$crate" >>"$work/crates.txt"
     mkdir -p "$work/crates/own_agent/src"
-    for part in main halver; do
-        cp "$here/$part.rt.in" "$work/crates/own_agent/src/$part.rt"
+    for part in "$here"/*.rt.in; do
+        cp "$part" "$work/crates/own_agent/src/$(basename "$part" .in)"
     done
     python3 "$here/../../bench/build_unproved.py" "$work/crates/own_agent" "$program"
+    touch -r "$work/crates/own_agent/src/main.rt" "$program" # a file that is changed during the build is newer than it
     rm -rf "$work"
 fi
 "$program" "$file"
