@@ -146,7 +146,7 @@ found law code s w k x goes waits =
     (talk_at code.streams.list.items code.streams.near.entries (begins_as w.lives code.marks code.plan.nodes) w.streams w.dials goes.keeps.streams k) waits
 
 -- who listens at a locator is one of the members
-listener_member : (s : Setting) (to : Locator) (node : ℕ) (d : Member) → member_at s to ≡ Some node → IsNode (length s.members) node
+pub listener_member : (s : Setting) (to : Locator) (node : ℕ) (d : Member) → member_at s to ≡ Some node → IsNode (length s.members) node
 listener_member s to node d e = by_place (position (is_at to) s.members) refl e where
   by_place : (o : Option ℕ) → position (is_at to) s.members ≡ o → counted_from_1 o ≡ Some node → IsNode (length s.members) node
   by_place None is e = absurd (none-some node e)

@@ -29,7 +29,7 @@ use Rattle.grasp_simulator.proofs.Presence.{Here, node_is}
 
 -- ---- datagrams by their numbers
 
-numbered_map : {A : Type 0} {B : Type 0} (f : A → B) (xs : List A) (n : ℕ) → numbered (map f xs) n ≡ option_map f (numbered xs n)
+pub numbered_map : {A : Type 0} {B : Type 0} (f : A → B) (xs : List A) (n : ℕ) → numbered (map f xs) n ≡ option_map f (numbered xs n)
 numbered_map f xs n = by_zero (n == 0) where
   by_zero : (b : Bool) → cond b None (slice_get (map f xs) (n - 1)) ≡ option_map f (cond b None (slice_get xs (n - 1)))
   by_zero true = refl

@@ -13,6 +13,9 @@ pub mod ImageFaults
 pub mod ImageParts
 pub mod InputsGo
 pub mod Left
+pub mod Lent
+pub mod LentOutputs
+pub mod LentStreams
 pub mod Listeners
 pub mod Nears
 pub mod NodeRoots

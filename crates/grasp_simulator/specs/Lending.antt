@@ -1,26 +1,30 @@
 -- What the code of a network tells and lends: for each network for which it goes on.
-use Rattle.std.specs.Prelude.{◌≡◌, ◌↔◌, ℕ, Bool, true, false, if◌then◌else◌, IsTrue, List, [], length, Option, None, Some, Result, Ok, Err, option_map, find}
+use Rattle.std.specs.Prelude.{◌≡◌, ◌↔◌, ◌==◌, ◌&&◌, bytes_eq, position, ℕ, Bool, true, false, if◌then◌else◌, IsTrue, List, [], length, Option, None, Some, Result, Ok, Err, option_map, find}
 use Rattle.grasp_model_node.specs.Begin.{begin}
 use Rattle.grasp_model_node.specs.Draining.{drained}
+use Rattle.grasp_model_node.specs.Queue.{encoding}
 use Rattle.grasp_pool.specs.declared.image.PoolImage.{PoolImage}
 use Rattle.grasp_session.specs.Messages.{Side, Near, Far, other}
 use Rattle.grasp_types.specs.Prefix.{AddressBlock as Prefix}
 use Rattle.grasp_types.specs.declared.traffic.Output.{Output}
 use Rattle.grasp_model_network.specs.Plans.{IsNode}
 use Rattle.grasp_model_network.specs.Restarting.{MayRestart}
-use Rattle.grasp_model_network.specs.Setting.{Setting, member_at, numbered}
+use Rattle.grasp_model_network.specs.Setting.{Setting, counted_from_1, member_at, numbered}
 use Rattle.grasp_model_network.specs.Settling.{IsDead}
-use Rattle.grasp_model_network.specs.StreamChanges.{side_named}
+use Rattle.grasp_model_network.specs.StreamChanges.{Reached, reached_side, side_named}
 use Rattle.grasp_model_network.specs.Streams.{StreamEnd, StreamState, has_end, is_waiting, next_bytes, side_of_end, stream_numbered}
-use Rattle.grasp_model_network.specs.World.{Seat, SentDatagram, WorldState, member_of, present_life}
+use Rattle.grasp_model_network.specs.World.{Seat, SentDatagram, WorldState, end_of, member_of, present_life}
 use Rattle.grasp_model_network.specs.declared.report.Report.{Report}
 use Rattle.grasp_model_network.specs.declared.report.Report.TheVariants as report
 use Rattle.grasp_model_network.specs.declared.report.WorldStop.{WorldStop}
 use Rattle.grasp_simulator.specs.Contract.{going}
 use Rattle.grasp_simulator.specs.WorldStands.{WorldStands, IsSeat, parcel_of}
+use Rattle.grasp_simulator.specs.StreamsStand.{Queueing, StreamsStand}
 use Rattle.grasp_simulator.specs.declared.parcel.Parcel.{Parcel}
+use Rattle.grasp_simulator.specs.declared.streams.Streams.{Streams}
 use Rattle.grasp_simulator.specs.declared.world.World.{World}
 use Rattle.grasp_simulator.specs.declared.world_arrivals.Waiting.{Waiting}
+use Rattle.grasp_simulator.specs.declared.world_lends.SideEnd.{SideEnd}
 
 -- ---- what may be done beside events
 
@@ -58,11 +62,31 @@ LendsOutputs code node max outputs = (s : Setting) (w : WorldState) (seat : Seat
 abbrev pub LendsParcel : World → ℕ → Option Parcel → Type 0
 LendsParcel code index found = (s : Setting) (w : WorldState) → StandsFor code s w → found ≡ option_map parcel_of (numbered w.datagrams index)
 
+-- Inside: the datagram that the code keeps comes to this node on this link, from this neighbour, with these bytes
+abbrev pub is_so : ℕ → ℕ → ℕ → List ℕ → Parcel → Bool
+is_so node link from bytes parcel = parcel.receiver == node && parcel.link == link && parcel.from == from && bytes_eq parcel.bytes bytes
+
+-- the datagram comes to this node on this link, from this neighbour, with these bytes
+abbrev pub comes_so : ℕ → ℕ → ℕ → List ℕ → SentDatagram → Bool
+comes_so node link from bytes d = d.route.receiver == node && d.route.link == link && d.route.from == from && bytes_eq (encoding d.message) bytes
+
+-- the number of the first datagram that comes so
+abbrev pub LendsFirst : World → ℕ → ℕ → ℕ → List ℕ → Option ℕ → Type 0
+LendsFirst code node link from bytes found = (s : Setting) (w : WorldState) → StandsFor code s w → found ≡ counted_from_1 (position (comes_so node link from bytes) w.datagrams)
+
 -- the datagram is this one, as the code keeps it
 abbrev pub IsParcel : Parcel → SentDatagram → Type 0
 IsParcel parcel d = parcel_of d ≡ parcel
 
 -- ---- streams
+
+abbrev pub side_lent : WorldState → Option Reached → Option SideEnd
+side_lent w None = None
+side_lent w (Some x) = Some (record { node = member_of w x.at.node; number = x.at.number })
+
+-- the node whose side of the stream of this number it is, and the number that the stream has there, where what comes is delivered to it
+abbrev pub LendsSide : World → ℕ → Bool → Option SideEnd → Type 0
+LendsSide code k far found = (s : Setting) (w : WorldState) → StandsFor code s w → found ≡ side_lent w (reached_side w k (side_named far))
 
 abbrev pub next_from : Option StreamState → Side → ℕ → List ℕ
 next_from None side count = []
@@ -96,6 +120,11 @@ numbered_side None side = None
 abbrev pub dialled_at : StreamEnd → Option StreamState → Option (ℕ × Bool)
 dialled_at e None = None
 dialled_at e (Some t) = numbered_side t.number (side_of_end e t)
+
+-- Inside: for each list of streams for which the table stands, the stream with this end, and whether it is the far end
+abbrev pub TellsNumber : Streams → ℕ → ℕ → Option (ℕ × Bool) → Type 0
+TellsNumber code life number found = (begins : Queueing) (ts : List StreamState) (dials : ℕ) → StreamsStand code begins ts dials
+    → found ≡ dialled_at (end_of life number) (find (has_end (end_of life number)) ts)
 
 -- the stream that has this number in the node's present life, among the dials that were sent, and whether the node is its far end
 abbrev pub TellsStream : World → ℕ → ℕ → Option (ℕ × Bool) → Type 0

@@ -21,9 +21,13 @@ mod world_asks;
 mod world_cuts;
 mod world_datagrams;
 mod world_events;
+mod world_lends;
 mod world_pieces;
 mod world_sends;
 mod world_turns;
 
 pub use coming_laws::something_comes_to_cores;
+pub use parcel::Parcel;
 pub use world::World;
+pub use world_arrivals::Waiting;
+pub use world_lends::SideEnd;

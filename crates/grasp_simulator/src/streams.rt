@@ -9,6 +9,7 @@ ghost use Rattle.grasp_model_network.specs.Setting.{numbered};
 ghost use Rattle.grasp_simulator.specs.StreamParts.{no_sent, first_standing, first_stream, side_of, piece_at, ended_at};
 ghost use Rattle.grasp_laws_delivery.specs.Ready.{AreSent, IsDialOf};
 ghost use Rattle.grasp_simulator.specs.Arriving.{Opens};
+ghost use Rattle.grasp_simulator.specs.Lending.{TellsNumber};
 ghost use Rattle.grasp_simulator.specs.StreamsStand.{StreamsStand, Queueing, most_streams, ChangesAt, IsTalk, dial_at, near_place, far_here, place_in};
 
 use crate::stream::{LifeEnd, Sent, Standing, Stream};
@@ -83,6 +84,14 @@ impl Streams {
         } else {
             self.far_place(life, (number / 2) as usize)
         }
+    }
+
+    /// The number of the stream with this end among the dials that were sent, and whether it is the far end.
+    pub(crate) fn number_of(&self, life: u64, number: u64) -> Option<(u64, bool)>
+        ensures { TellsNumber self.now life number result }
+    {
+        let (place, far) = self.place_of(life, number)?;
+        Some((place as u64 + 1, far))
     }
 
     /// Whether there is no room for another stream.

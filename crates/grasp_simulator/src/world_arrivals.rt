@@ -42,7 +42,7 @@ impl World {
         ensures count { length self.new.seats.items ≡ length self.old.seats.items }
     {
         streams_are_ready();
-        let Some(waiting) = self.waiting(stream) else {
+        let Some(waiting) = self.waiting_at(stream) else {
             return Ok(Report::Nothing);
         };
         let node = waiting.node;
@@ -65,7 +65,7 @@ impl World {
     }
 
     /// The stream of this number, where it isn't opened yet and a node listens where it was dialled to.
-    fn waiting(&self, k: u64) -> Option<Waiting>
+    pub(crate) fn waiting_at(&self, k: u64) -> Option<Waiting>
         ensures { result ≡ waiting_in self.now.lives self.now.plan.nodes (numbered self.now.streams.list.items k) }
     {
         let stream = self.streams.get(k)?;

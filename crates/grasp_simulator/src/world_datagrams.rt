@@ -23,7 +23,7 @@ impl World {
         ensures count { length self.new.seats.items ≡ length self.old.seats.items }
     {
         streams_are_ready();
-        let Some(parcel) = self.parcel(index) else {
+        let Some(parcel) = self.parcel_at(index) else {
             return Ok(Report::Nothing);
         };
         let (node, link, from) = (parcel.receiver, parcel.link, parcel.from);
@@ -41,7 +41,7 @@ impl World {
     }
 
     /// The datagram of this number.
-    fn parcel(&self, index: u64) -> Option<&Parcel>
+    pub(crate) fn parcel_at(&self, index: u64) -> Option<&Parcel>
         ensures { option_map (λ code. code.now) result ≡ numbered self.now.parcels index }
     {
         if index == 0 {

@@ -19,7 +19,7 @@ use grasp_model_network::{Event, Report, WorldStop};
 use grasp_types::{Call, Prefix};
 
 /// So many bytes of datagrams and streams may be sent.
-const MOST_BYTES: u64 = 268_435_456;
+pub(crate) const MOST_BYTES: u64 = 268_435_456;
 
 impl World {
     /// Something happens. Node and peer are to be there, the lengths of a want are to be lengths of prefixes, and no call is to

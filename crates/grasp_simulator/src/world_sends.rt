@@ -2,6 +2,7 @@
 
 ghost use Rattle.std.specs.Prelude.{◌≡◌, ◌+◌, length, min, OnOk, IfOk};
 ghost use Rattle.grasp_model_network.specs.Plans.{IsNode};
+ghost use Rattle.grasp_simulator.specs.Lending.{LendsOutputs};
 ghost use Rattle.grasp_simulator.specs.Sends.{Posts, Puts, HandsOver, Sends, SendsBehind};
 ghost use Rattle.grasp_simulator.specs.WorldStands.{most_count};
 
@@ -11,12 +12,28 @@ use crate::ways::way_to;
 use crate::world::World;
 use grasp_cbor::{Octets, OutOfMemory};
 use grasp_laws_delivery::streams_are_ready;
-use grasp_types::{Output, Plain};
+use grasp_types::{Output, Outputs, Plain};
 
 /// So many outputs are sent behind an event.
 const EVENT_DRAIN: u32 = 256;
 
 impl World {
+    /// At most so many outputs of a node are sent, which are given. After an `Err` nothing is said of the network but that it has as
+    /// many nodes.
+    pub(crate) fn give(&mut self, node: u8, max: u32) -> Result<Outputs, OutOfMemory>
+        requires { IsNode (length self.old.seats.items) node }
+        ensures sends { IfOk result (λ outputs. Sends self.old self.new node max (length outputs)) }
+        ensures gives { IfOk result (λ outputs. LendsOutputs self.old node max outputs) }
+        ensures count { length self.new.seats.items ≡ length self.old.seats.items }
+        ensures notes { self.new.notes ≡ self.old.notes }
+    {
+        streams_are_ready();
+        let life = self.seats[usize::from(node - 1)].life;
+        let outputs = self.seats[usize::from(node - 1)].drain(max)?;
+        self.hand_over(node, life, outputs.slice())?;
+        Ok(outputs)
+    }
+
     /// At most so many outputs of a node are sent. The answer is how many. After an `Err` nothing is said of the network but that
     /// it has as many nodes.
     pub(crate) fn send(&mut self, node: u8, max: u32) -> Result<u64, OutOfMemory>
@@ -25,11 +42,7 @@ impl World {
         ensures count { length self.new.seats.items ≡ length self.old.seats.items }
         ensures notes { self.new.notes ≡ self.old.notes }
     {
-        streams_are_ready();
-        let life = self.seats[usize::from(node - 1)].life;
-        let outputs = self.seats[usize::from(node - 1)].drain(max)?;
-        self.hand_over(node, life, outputs.slice())?;
-        Ok(outputs.len())
+        Ok(self.give(node, max)?.len())
     }
 
     /// Outputs of the node of an event are sent, unless it is held.

@@ -1,19 +1,6 @@
-use Rattle.grasp_simulator.specs.declared.world.World.{World}
-use Rattle.grasp_simulator.proofs.Presence.{life_read}
-use Rattle.std.proofs.Common.{subst, List, ◌≡◌, ℕ}
-use Rattle.std.specs.Vec.{with_item}
-use Rattle.grasp_types.specs.declared.traffic.Output.{Output}
-use Rattle.grasp_simulator.proofs.SendGoes.{send_goes}
-use Rattle.grasp_simulator.specs.Sends.{HandsOver}
+use Rattle.std.proofs.Common.{subst, sym, ℕ}
+use Rattle.grasp_simulator.specs.Sends.{Sends}
 use Rattle.grasp_simulator.proofs.world.World.send.Goals as goal
 
 pub returns-clause-sends : goal.returns-clause-sends
-returns-clause-sends c =
-    let self = c.args.self.now in
-    let own = c.index_mut.result.now in
-    let mid : World = record self { seats = with_item self.seats c.from-2.result c.drain.new.self } in
-    let read : c.index.result.now.life ≡ c.index_mut.result.now.life = life_read self c.args.node c.from.result c.from-2.result c.index.result.now c.index_mut.result.now c.requires c.from.ensures c.index.ensures c.from-2.ensures c.index_mut.ensures.value in
-    send_goes c.streams_are_ready.ensures self c.hand_over.new.self c.args.node c.args.max c.from-2.result c.len.result own c.drain.new.self c.in_ok-outputs.outputs c.requires
-    c.in_ok-outputs.ensures.life c.from-2.ensures c.index_mut.ensures.value c.in_ok-outputs.ensures.outputs c.in_ok-outputs.ensures.stands
-    (subst (λ (n : ℕ). HandsOver mid c.hand_over.new.self c.args.node n c.in_ok-outputs.outputs) read
-    (subst (λ (outputs : List Output). HandsOver mid c.hand_over.new.self c.args.node c.index.result.now.life outputs) c.slice.ensures c.in_ok-hand_over.ensures.hands)) c.len.ensures
+returns-clause-sends c = subst (λ (n : ℕ). Sends c.args.self.now c.give.new.self c.args.node c.args.max n) (sym c.len-2.ensures) c.in_ok-give.ensures.sends
