@@ -14,7 +14,7 @@ use Rattle.grasp_cbor.proofs.Facts.Numbers.{below_64}
 use Rattle.grasp_cbor.proofs.HeadBytes.{AllBytes-front, AllBytes-back, AllBytes-append}
 use Rattle.grasp_cbor.proofs.Starts.{Starts, encoding_starts}
 
-head_below : (major n : ℕ) (s : List ℕ) → IsHead major n s → n < 2 ^ 64
+pub head_below : (major n : ℕ) (s : List ℕ) → IsHead major n s → n < 2 ^ 64
 head_below major n s h = below_64 h.0 n h.1
 
 -- fewer than 2 ^ 64 bytes

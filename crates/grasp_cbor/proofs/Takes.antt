@@ -114,7 +114,7 @@ pub record IsArgument (i : ℕ) (s : List ℕ) (x : Argument × List ℕ) : Type
   pub low : i ≡ low_of x.0
   pub fits : value_of x.0 < argument_limit (size_in x.0)
 
-byte_takes : (s : List ℕ) (n : ℕ) (rest : List ℕ) → IsBytes s → byte_at s ≡ Some (n, rest) → Takes s (n ∷ []) rest × (n < 2 ^ 8)
+pub byte_takes : (s : List ℕ) (n : ℕ) (rest : List ℕ) → IsBytes s → byte_at s ≡ Some (n, rest) → Takes s (n ∷ []) rest × (n < 2 ^ 8)
 byte_takes [] n rest fits e = absurd cc
 byte_takes (b ∷ s) n rest fits e =
     subst (λ (x : ℕ × List ℕ). Takes (b ∷ s) (x.0 ∷ []) x.1 × (x.0 < 2 ^ 8)) (ok_is (b, s) (n, rest) e) (record { parts = refl; rest_fits = IsBytes-rest b s fits }, fits 0)

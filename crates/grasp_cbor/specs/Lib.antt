@@ -19,6 +19,7 @@ pub mod Laws
 pub mod Leading
 pub mod Length
 pub mod Major
+pub mod Minimal
 pub mod Passing
 pub mod ReadItem
 pub mod Room

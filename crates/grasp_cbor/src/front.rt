@@ -76,7 +76,7 @@ pub fn read_first_item(
 
 /// The argument of a head of this major type, and the bytes after it.
 #[tactic(auto, unfolding(crate::specs::Build::argument_in))]
-fn read_head_of(major: u8, bytes: &[u8]) -> Option<(u64, &[u8])>
+pub(crate) fn read_head_of(major: u8, bytes: &[u8]) -> Option<(u64, &[u8])>
     requires { major < 8 }
     ensures { option_map (λ x. (x.0, x.1.now)) result ≡ argument_in major bytes.now }
 {

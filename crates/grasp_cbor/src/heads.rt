@@ -205,7 +205,7 @@ pub(crate) fn read_argument(info: u8, bytes: &[u8]) -> Result<(Argument, &[u8]),
     }
 }
 
-fn read_byte(bytes: &[u8]) -> Result<(u8, &[u8]), BuildError>
+pub(crate) fn read_byte(bytes: &[u8]) -> Result<(u8, &[u8]), BuildError>
     ensures found { Gives (λ x. (x.0, x.1.now)) result (byte_at bytes.now) }
     ensures err { IfErr result (λ e. e ≡ NotItem) }
 {

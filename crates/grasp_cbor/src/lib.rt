@@ -16,6 +16,7 @@ mod parts;
 mod read;
 mod room;
 mod scalars;
+mod short;
 mod steps;
 mod strings;
 mod threads;
@@ -38,6 +39,7 @@ pub use parts::{
 pub use read::{ItemFault, ReadItem, build_whole, read_item};
 pub use room::{room_after, room_after_head, room_after_string};
 pub use scalars::{FloatBits, SimpleValue};
+pub use short::behind_shortest_item;
 pub use steps::Steps;
 pub use strings::{Chars, Octets};
 pub use threads::{items_may_cross, may_cross};
