@@ -26,7 +26,6 @@ use Rattle.grasp_model_network.specs.Reports.{report_of}
 use Rattle.grasp_model_network.specs.Routes.{Route, route_of}
 use Rattle.grasp_model_network.specs.Openings.{fresh_seat, answered_seat, opened_seat}
 use Rattle.grasp_model_network.specs.Sending as network
-use Rattle.grasp_model_network.specs.Sending.{event_drain}
 use Rattle.grasp_model_network.specs.Setting.{Setting, line_of, link_of, script_node, script_roots, script_setting}
 use Rattle.grasp_model_network.specs.Visits.{Visit, Choice}
 use Rattle.grasp_model_network.specs.World.{Seat, WorldState, seat_at}
@@ -37,7 +36,7 @@ use Rattle.grasp_model_network.specs.declared.report.Report.TheVariants.{Nothing
 
 -- the network after so many outputs of a node were sent, as a drain of 256 sends them
 abbrev pub after_drain_event : Setting → WorldState → ℕ → WorldState
-after_drain_event s w node = network.drained s w node event_drain
+after_drain_event s w node = network.drained s w node 256
 
 -- the step of the node that the agent's next call makes at reading 0 may be answered so
 abbrev pub IsAnswered : Seat → Coming → ApiAnswer → Type 0
