@@ -8,8 +8,12 @@ ghost use Rattle.grasp_agent.specs.Calls.{next_call, opening_call, asking_call, 
 ghost use Rattle.grasp_agent.specs.Changes.{change_of, duty_change};
 ghost use Rattle.grasp_agent.specs.Decisions.{giver_decision, after_deciding};
 ghost use Rattle.grasp_agent.specs.Kept.{IsKept, returned};
-ghost use Rattle.grasp_agent.specs.Replies.{want_reply, after_want, return_reply, after_return, after_settling, after_reply, after_opening, after_incoming, after_act, after_dropping, after_doing, after_asking, after_returning, after_unsent, after_duty, after_want_progress, after_back_progress, after_give_progress, after_giver_turn, after_giver_end, finished, giving_back, settled, settling, advanced, incoming_in, answer_in};
-ghost use Rattle.grasp_agent.specs.States.{first_agent, is_open, accepted_by, offered_by, duties, duty_of, giving_duty, back_duty, want_duty, want_session, back_session, unsent_of};
+ghost use Rattle.grasp_agent.specs.Replies.{want_reply, after_want, return_reply, after_return, after_settling, after_reply, after_opening};
+ghost use Rattle.grasp_agent.specs.Replies.{after_incoming, after_act, after_dropping, after_doing, after_asking, after_returning, after_unsent};
+ghost use Rattle.grasp_agent.specs.Replies.{after_duty, after_want_progress, after_back_progress, after_give_progress, after_giver_turn};
+ghost use Rattle.grasp_agent.specs.Replies.{after_giver_end, finished, giving_back, settled, settling, advanced, incoming_in, answer_in};
+ghost use Rattle.grasp_agent.specs.States.{first_agent, is_open, accepted_by, offered_by, duties, duty_of, giving_duty, back_duty, want_duty};
+ghost use Rattle.grasp_agent.specs.States.{want_session, back_session, unsent_of};
 
 use crate::act::{Act, accepted_by, offered_by};
 use crate::agent::Agent;

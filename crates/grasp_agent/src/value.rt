@@ -3,7 +3,8 @@
 ghost use Rattle.std.specs.Prelude.{◌≡◌, ◌≤◌, Some, IfOk, IfSome, option_map, slice_get};
 ghost use Rattle.grasp_cbor.specs.DataItem.{data_items, items_depth, array_of};
 ghost use Rattle.grasp_cbor.specs.Item.{items_of};
-ghost use Rattle.grasp_agent.specs.Values.{length_value, prefix_value, return_value, is_true_in, returned_in, length_at, address_at, address_in, prefix_in, parts_in, asked_in, offered_in};
+ghost use Rattle.grasp_agent.specs.Values.{length_value, prefix_value, return_value, is_true_in, returned_in, length_at, address_at, address_in};
+ghost use Rattle.grasp_agent.specs.Values.{prefix_in, parts_in, asked_in, offered_in};
 
 use grasp_cbor::{Item, Items, Octets, OutOfMemory, SimpleValue};
 use grasp_types::{Prefix, Value, ipv6_of_bytes};

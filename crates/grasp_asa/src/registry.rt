@@ -1,7 +1,10 @@
 //! The registry of a node's agents and objectives.
 
 ghost use Rattle.std.specs.Prelude.{◌≡◌, ◌<◌, true, IfOk, IfErr, OnErr, IsSome, Err, option_map, slice_get, find, position};
-ghost use Rattle.grasp_asa.specs.Answers.{nothing_registered, register_asa_answer, after_register_asa, deregister_asa_answer, after_deregister_asa, register_objective_answer, after_register_objective, deregister_objective_answer, after_deregister_objective, owned_answer, listen_answer, after_listen, offer_answer, after_offer, flags_registered, listener_of, value_offered, names_of};
+ghost use Rattle.grasp_asa.specs.Answers.{nothing_registered, register_asa_answer, after_register_asa, deregister_asa_answer, after_deregister_asa};
+ghost use Rattle.grasp_asa.specs.Answers.{register_objective_answer, after_register_objective, deregister_objective_answer};
+ghost use Rattle.grasp_asa.specs.Answers.{after_deregister_objective, owned_answer, listen_answer, after_listen, offer_answer, after_offer};
+ghost use Rattle.grasp_asa.specs.Answers.{flags_registered, listener_of, value_offered, names_of};
 ghost use Rattle.grasp_asa.specs.Place.{IsPlaceOf};
 ghost use Rattle.grasp_asa.specs.Registrations.{IsRegistry, is_registered, is_agent_name, is_taken, is_named, is_of, is_both_or_neither, is_dry_alone};
 

@@ -7,7 +7,8 @@ ghost use Rattle.grasp_cbor.specs.Encodes.{IsEncoding};
 ghost use Rattle.grasp_cbor.specs.Built.{IsBuilt};
 ghost use Rattle.grasp_cbor.specs.Laws.{EncodingsAreApart};
 ghost use Rattle.grasp_cbor.specs.declared.heads.StringKind.TheVariants as kinds;
-ghost use Rattle.grasp_cbor.specs.Build.{Gives, found_as, simple_at, plain_of, many_with, pair_with, open_with, alone, chunk_at, nested_with, content_with, opened_with, nested_in, item_at};
+ghost use Rattle.grasp_cbor.specs.Build.{Gives, found_as, simple_at, plain_of, many_with, pair_with, open_with, alone, chunk_at, nested_with};
+ghost use Rattle.grasp_cbor.specs.Build.{content_with, opened_with, nested_in, item_at};
 
 use crate::heads::{
     Argument, BuildError, Head, Major, Open, StringKind, read_break, read_byte_chunk, read_bytes,

@@ -1,6 +1,7 @@
 //! Laws on beginnings of items and on faults. They say nothing at run time.
 
-ghost use Rattle.grasp_cbor.specs.Laws.{FrontsCanGoOn, WhatCanGoOnIsFront, FrontsHaveOneSpot, BytesAreTakenOrFaulty, TakenBytesAreNotFaulty, FaultsAreAlone, FaultsAreFirst, SomeEnding, OneEnding};
+ghost use Rattle.grasp_cbor.specs.Laws.{FrontsCanGoOn, WhatCanGoOnIsFront, FrontsHaveOneSpot, BytesAreTakenOrFaulty, TakenBytesAreNotFaulty};
+ghost use Rattle.grasp_cbor.specs.Laws.{FaultsAreAlone, FaultsAreFirst, SomeEnding, OneEnding};
 
 /// A front can go on, what can go on is a front, and its next byte stands at one spot.
 pub fn fronts_can_go_on()

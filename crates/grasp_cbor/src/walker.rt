@@ -3,7 +3,8 @@
 ghost use Rattle.std.specs.Prelude.{◌≡◌, ℕ, ◌+◌, ◌<◌, ◌≤◌, ◌/◌, ◌%◌, ◌-◌, ◌*◌, List, [], ◌∷◌, ◌++◌, length, slice_index, take, None, Some, Option, Result};
 ghost use Rattle.grasp_cbor.specs.Front.{start_name, chunk_name, can_break, body_of, some_parts};
 ghost use Rattle.grasp_cbor.specs.Room.{levels_of, levels_at};
-ghost use Rattle.grasp_cbor.specs.Step.{after_head, broken, ended, level_after, finished, first_name, goes, heads, is_simple, levels_in, opened, step, whole, width_of};
+ghost use Rattle.grasp_cbor.specs.Step.{after_head, broken, ended, level_after, finished, first_name, goes, heads, is_simple, levels_in, opened};
+ghost use Rattle.grasp_cbor.specs.Step.{step, whole, width_of};
 ghost use Rattle.grasp_cbor.specs.declared.walker.Stage.TheVariants.{Beginning, Heading, InBytes, InText};
 
 use crate::heads::{Major, StringKind};

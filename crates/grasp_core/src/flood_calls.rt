@@ -3,7 +3,8 @@
 ghost use Rattle.std.specs.Prelude.{◌≡◌, ◌≤◌, ◌+◌, false, map, length, [], ◌∷◌, IfOk, OnOk, OnErr};
 ghost use Rattle.grasp_model_node.specs.Answered.{if_answered, Is};
 ghost use Rattle.grasp_model_node.specs.Draws.{next_session};
-ghost use Rattle.grasp_model_node.specs.FloodCalls.{MayDiscover, after_discovering, find_of, is_fresh, wanted_flags, discovery_message, begun, count_all, MayFlood, after_flooding, MayGet, MayExpire, after_expiring};
+ghost use Rattle.grasp_model_node.specs.FloodCalls.{MayDiscover, after_discovering, find_of, is_fresh, wanted_flags, discovery_message, begun};
+ghost use Rattle.grasp_model_node.specs.FloodCalls.{count_all, MayFlood, after_flooding, MayGet, MayExpire, after_expiring};
 ghost use Rattle.grasp_model_node.specs.Moves.{with_discoveries};
 ghost use Rattle.grasp_model_node.specs.Node.{NodeState};
 ghost use Rattle.grasp_core.specs.Outgoing.{IsReady, looked_up, search_tests, searched, IsSearching, sought_name, flood_of};

@@ -4,7 +4,10 @@ ghost use Rattle.std.specs.Prelude.{◌≡◌, Some, None, false};
 ghost use Rattle.grasp_session.specs.Sessions.{owner_reply};
 ghost use Rattle.grasp_model_node.specs.Node.{NodeState};
 ghost use Rattle.grasp_model_node.specs.Refusals.{early};
-ghost use Rattle.grasp_model_node.specs.RegistryCalls.{MayRegisterAsa, after_registering_asa, MayDeregisterAsa, after_deregistering_asa, without_agent, without_searches, without_session, without_sessions, MayRegisterObjective, after_registering_objective, MayDeregisterObjective, after_deregistering_objective, without_objective, MayStopListening, after_stopping, with_mark, MayOffer, after_offering};
+ghost use Rattle.grasp_model_node.specs.RegistryCalls.{MayRegisterAsa, after_registering_asa, MayDeregisterAsa, after_deregistering_asa};
+ghost use Rattle.grasp_model_node.specs.RegistryCalls.{without_agent, without_searches, without_session, without_sessions, MayRegisterObjective};
+ghost use Rattle.grasp_model_node.specs.RegistryCalls.{after_registering_objective, MayDeregisterObjective, after_deregistering_objective};
+ghost use Rattle.grasp_model_node.specs.RegistryCalls.{without_objective, MayStopListening, after_stopping, with_mark, MayOffer, after_offering};
 ghost use Rattle.grasp_core.specs.Stands.{NodeStands};
 ghost use Rattle.grasp_model_node.specs.Tests.{objective_tests};
 

@@ -10,7 +10,8 @@ ghost use Rattle.grasp_model_node.specs.Node.{NodeState};
 ghost use Rattle.grasp_model_node.specs.Queue.{send, encoding};
 ghost use Rattle.grasp_core.specs.Sayings.{IsSaid, IsTaken};
 ghost use Rattle.grasp_model_node.specs.RegistryCalls.{with_mark};
-ghost use Rattle.grasp_model_node.specs.SessionCalls.{MayStep, after_step, MayWait, after_wait, MayEnd, after_end, MayInvalid, after_invalid, MayPollNode, after_polling, MayListen, after_listening, opener_at, taken_in, with_adopted};
+ghost use Rattle.grasp_model_node.specs.SessionCalls.{MayStep, after_step, MayWait, after_wait, MayEnd, after_end, MayInvalid, after_invalid};
+ghost use Rattle.grasp_model_node.specs.SessionCalls.{MayPollNode, after_polling, MayListen, after_listening, opener_at, taken_in, with_adopted};
 ghost use Rattle.grasp_core.specs.Stands.{NodeStands};
 
 use crate::NodeCore;

@@ -3,7 +3,8 @@
 ghost use Rattle.std.specs.Prelude.{◌≡◌, ◌≤◌, ◌<◌, ◌^◌, ◌==◌, nat_le, Some, None, [], ◌∷◌, ◌++◌, false, length, position, IfOk, OnOk, OnErr};
 ghost use Rattle.std.specs.List.{fold, position_or_len};
 ghost use Rattle.grasp_wire.specs.Cutter.{no_past};
-ghost use Rattle.grasp_model_node.specs.Streams.{StreamsState, no_streams, has_record, past_of, opener_of, with_past, closing, without, with_opened, with_dialled, is_full, is_dialled_out, next_stream, closing_numbers, put_number};
+ghost use Rattle.grasp_model_node.specs.Streams.{StreamsState, no_streams, has_record, past_of, opener_of, with_past, closing, without, with_opened};
+ghost use Rattle.grasp_model_node.specs.Streams.{with_dialled, is_full, is_dialled_out, next_stream, closing_numbers, put_number};
 ghost use Rattle.grasp_core.specs.Stands.{StreamsStand, CutsAs, CutsOpen, Putting, after_take};
 
 use crate::limit::MessageLimit;

@@ -4,7 +4,10 @@ ghost use Rattle.std.specs.Prelude.{◌≡◌, ◌≤◌, true, false, find, opt
 ghost use Rattle.grasp_types.specs.Origin.{origin_of};
 ghost use Rattle.grasp_discovery.specs.declared.answers.Find.TheVariants.{Fresh};
 ghost use Rattle.grasp_discovery.specs.declared.answers.Heard.TheVariants.{New};
-ghost use Rattle.grasp_discovery.specs.Discoveries.{no_discoveries, is_search_of, is_numbered, is_searching, is_full, is_used, without_asa, search_from, with_search, has_topic, known_of, find_answer, after_find, heard_reply, memory_from, after_heard, remembers, own_search, asker_of, answered_reply, end_of, after_answered, after_expiry, IsDiscoveries};
+ghost use Rattle.grasp_discovery.specs.Discoveries.{no_discoveries, is_search_of, is_numbered, is_searching, is_full, is_used, without_asa};
+ghost use Rattle.grasp_discovery.specs.Discoveries.{search_from, with_search, has_topic, known_of, find_answer, after_find, heard_reply, memory_from};
+ghost use Rattle.grasp_discovery.specs.Discoveries.{after_heard, remembers, own_search, asker_of, answered_reply, end_of, after_answered};
+ghost use Rattle.grasp_discovery.specs.Discoveries.{after_expiry, IsDiscoveries};
 ghost use Rattle.grasp_discovery.specs.Topic.{topic_of};
 
 use crate::answers::{Answered, BeginRefused, Cause, Find, Heard};

@@ -1,6 +1,7 @@
 //! Laws of the definitions that the contracts cite.
 
-ghost use Rattle.grasp_discovery.specs.Laws.{ExpiryTwiceIsOnce, NothingEndedStays, KnownIsFound, DiscoveriesAreKept, OnlyTheEndedGo, LocatorsAreAnswers, ToldIsCached, RememberedStays};
+ghost use Rattle.grasp_discovery.specs.Laws.{ExpiryTwiceIsOnce, NothingEndedStays, KnownIsFound, DiscoveriesAreKept, OnlyTheEndedGo};
+ghost use Rattle.grasp_discovery.specs.Laws.{LocatorsAreAnswers, ToldIsCached, RememberedStays};
 
 /// What has expired at a reading leaves nothing more to expire at that reading.
 #[tactic(auto, using(crate::proofs::Expiry::expiry_twice))]

@@ -1,6 +1,7 @@
 //! Laws of the crash model.
 
-ghost use Rattle.grasp_disk.specs.Laws.{SyncedBytesStay, ReadBytesMayStand, WrittenBytesAreRead, WritesSpoilTheirPlace, UnsyncedBytesMayBeAny, MomentsAreAll, LeftsMayStand, SyncedDisksBeginAnew, FailedCallsLeaveNothing};
+ghost use Rattle.grasp_disk.specs.Laws.{SyncedBytesStay, ReadBytesMayStand, WrittenBytesAreRead, WritesSpoilTheirPlace, UnsyncedBytesMayBeAny};
+ghost use Rattle.grasp_disk.specs.Laws.{MomentsAreAll, LeftsMayStand, SyncedDisksBeginAnew, FailedCallsLeaveNothing};
 
 /// After a sync that succeeded a crash leaves what a read gives, and nothing else.
 pub fn synced_bytes_stay()

@@ -5,7 +5,8 @@ ghost use Rattle.grasp_agent.specs.Replies.{answer_in, progress_in};
 ghost use Rattle.grasp_types.specs.declared.session.Progress.TheVariants as progress;
 ghost use Rattle.grasp_doubter.specs.Asking.{after_ask, ask_reply};
 ghost use Rattle.grasp_doubter.specs.Calls.{asking_call, next_call};
-ghost use Rattle.grasp_doubter.specs.Replies.{advanced, after_answered, after_ask_progress, after_duty, after_hearing, after_question, after_request, after_take, decides, may_say_never};
+ghost use Rattle.grasp_doubter.specs.Replies.{advanced, after_answered, after_ask_progress, after_duty, after_hearing, after_question, after_request};
+ghost use Rattle.grasp_doubter.specs.Replies.{after_take, decides, may_say_never};
 ghost use Rattle.grasp_doubter.specs.Seeing.{accepting, after_answer, after_done, after_ending, after_outcome, after_progress, after_saw, after_step};
 ghost use Rattle.grasp_doubter.specs.States.{answering_duty, ask_session, asking_duty, duties, duty_of, first_doubter};
 

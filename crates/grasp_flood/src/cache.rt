@@ -5,7 +5,8 @@ ghost use Rattle.indexmap.specs.IndexMap.{spare};
 ghost use Rattle.grasp_types.specs.Origin.{origin_of};
 ghost use Rattle.grasp_flood.specs.Flood.{key_of};
 ghost use Rattle.grasp_flood.specs.declared.heard.Heard.TheVariants.{New};
-ghost use Rattle.grasp_flood.specs.Floods.{no_floods, has_key, entry_of, after_keep, after_renewal, heard_reply, after_heard, remembers, reads_of, after_drop, after_expiry, IsFloods};
+ghost use Rattle.grasp_flood.specs.Floods.{no_floods, has_key, entry_of, after_keep, after_renewal, heard_reply, after_heard, remembers, reads_of};
+ghost use Rattle.grasp_flood.specs.Floods.{after_drop, after_expiry, IsFloods};
 
 use crate::kept::{end_of, entry_of, read_of};
 use crate::{FloodKept, FloodKey, Heard};

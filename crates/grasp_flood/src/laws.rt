@@ -1,6 +1,7 @@
 //! Laws of the definitions that the cache's contracts cite.
 
-ghost use Rattle.grasp_flood.specs.Laws.{ExpiryTwiceIsOnce, NothingEndedStays, FloodsAreKept, OnlyTheEndedGo, LastPartIsKept, EntriesAreTold, ReadsAreEntries, RememberedStays};
+ghost use Rattle.grasp_flood.specs.Laws.{ExpiryTwiceIsOnce, NothingEndedStays, FloodsAreKept, OnlyTheEndedGo, LastPartIsKept, EntriesAreTold};
+ghost use Rattle.grasp_flood.specs.Laws.{ReadsAreEntries, RememberedStays};
 
 /// What has expired at a reading leaves nothing more to expire at that reading.
 #[tactic(auto, using(crate::proofs::Expiry::expiry_twice))]

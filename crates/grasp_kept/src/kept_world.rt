@@ -4,7 +4,8 @@ ghost use Rattle.std.specs.Prelude.{◌≡◌, ◌+◌, ◌<◌, ◌^◌, IfOk};
 ghost use Rattle.grasp_model_network.specs.Plans.{IsGoodPlan};
 ghost use Rattle.grasp_kept.specs.Contract.{KeptOpened};
 ghost use Rattle.grasp_kept.specs.Disks.{AreEmpty, AreOpened};
-ghost use Rattle.grasp_kept.specs.Stands.{Crashes, CanCrash, CanHappen, Happens, IsKeptAsked, KeptCanRun, KeptRuns, KeptWorldStands, KeptWorldStepped, network_in, steps_of};
+ghost use Rattle.grasp_kept.specs.Stands.{Crashes, CanCrash, CanHappen, Happens, IsKeptAsked, KeptCanRun, KeptRuns, KeptWorldStands};
+ghost use Rattle.grasp_kept.specs.Stands.{KeptWorldStepped, network_in, steps_of};
 
 use crate::around::{call, tell};
 use crate::beginning::begin_anew;

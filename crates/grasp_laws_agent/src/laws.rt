@@ -6,7 +6,8 @@ ghost use Rattle.grasp_laws_agent.specs.Moves.{MovesAreMade, NothingElseMoves, C
 ghost use Rattle.grasp_laws_agent.specs.Next.{NextCallsAre};
 ghost use Rattle.grasp_agent.specs.Announcing.{ReadersAgree};
 ghost use Rattle.grasp_laws_agent.specs.Sending.{LengthsAreSent, PrefixesAreSent, ReturnsAreSent, CallsAreShort};
-ghost use Rattle.grasp_agent.specs.Laws.{LengthsAreRead, PrefixesAreRead, GiversOffer, AgentsAreKept, ThereIsADuty, OffersStayListed, DoubtsStay, GainsAreAccepted};
+ghost use Rattle.grasp_agent.specs.Laws.{LengthsAreRead, PrefixesAreRead, GiversOffer, AgentsAreKept, ThereIsADuty, OffersStayListed, DoubtsStay};
+ghost use Rattle.grasp_agent.specs.Laws.{GainsAreAccepted};
 
 /// A length and a prefix are read exactly from the values that hold them.
 pub fn values_are_read()

@@ -1,6 +1,7 @@
 //! How an agent of PrefixManager gives prefixes back, and which of its calls it makes again.
 
-ghost use Rattle.grasp_laws_agent.specs.Returns.{ReturnsAreRead, ReturnsAreAnswered, WantsAreRequested, ReturnsAreRequested, DutiesAreInOrder, SettlingsSettle, RefusalsAreRepeated};
+ghost use Rattle.grasp_laws_agent.specs.Returns.{ReturnsAreRead, ReturnsAreAnswered, WantsAreRequested, ReturnsAreRequested, DutiesAreInOrder};
+ghost use Rattle.grasp_laws_agent.specs.Returns.{SettlingsSettle, RefusalsAreRepeated};
 
 /// A prefix that is given back is read exactly from the value that gives it back.
 #[tactic(auto, using(crate::proofs::LawReturns::returns_are_read))]

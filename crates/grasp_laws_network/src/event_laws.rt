@@ -1,6 +1,7 @@
 //! What every event leaves as it is, and what it only adds to. They say nothing at run time.
 
-ghost use Rattle.grasp_laws_network.specs.Keeping.{VisitsAreHere, SeatsStay, WantsChangeWants, ReturnsChangeReturns, QueuesGrow, OutcomesAgree, WhatWasSentStays, WhatWasSentStaysOverTurns, BytesAreCounted};
+ghost use Rattle.grasp_laws_network.specs.Keeping.{VisitsAreHere, SeatsStay, WantsChangeWants, ReturnsChangeReturns, QueuesGrow, OutcomesAgree};
+ghost use Rattle.grasp_laws_network.specs.Keeping.{WhatWasSentStays, WhatWasSentStaysOverTurns, BytesAreCounted};
 ghost use Rattle.grasp_laws_network.specs.Nodes.{NodesAreSound};
 
 /// An event makes its step in a life that is there, as it stands.

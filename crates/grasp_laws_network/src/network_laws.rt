@@ -1,6 +1,7 @@
 //! What holds of each event. It says nothing at run time.
 
-ghost use Rattle.grasp_laws_network.specs.Laws.{NothingComesOfNothing, DrainsAreSteps, HeldThenDrained, WorldsBegin, LinksAreFound, SendingKeepsNodes, ScriptNodesOpen, OthersStay};
+ghost use Rattle.grasp_laws_network.specs.Laws.{NothingComesOfNothing, DrainsAreSteps, HeldThenDrained, WorldsBegin, LinksAreFound};
+ghost use Rattle.grasp_laws_network.specs.Laws.{SendingKeepsNodes, ScriptNodesOpen, OthersStay};
 
 /// An event that names a datagram, a stream or a side of one that isn't there changes nothing and reports nothing.
 #[tactic(auto, unfolding(grasp_model_network::specs::Events::after_event, grasp_model_network::specs::Reports::report_of))]

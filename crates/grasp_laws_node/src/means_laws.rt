@@ -3,7 +3,8 @@
 ghost use Rattle.grasp_laws_node.specs.Means.{StepMeans, WaitMeans, EndMeans, InvalidMeans, PollMeans, ListenMeans};
 ghost use Rattle.grasp_laws_node.specs.MeansRequests.{RequestMeans, SynchronizeMeans};
 ghost use Rattle.grasp_laws_node.specs.MeansSearches.{DiscoverMeans, FloodMeans, GetMeans, ExpireMeans};
-ghost use Rattle.grasp_laws_node.specs.MeansRegistry.{RegisterAsaMeans, RegisterObjectiveMeans, OfferMeans, StopOfferMeans, StopMeans, DeregisterObjectiveMeans, DeregisterAsaMeans};
+ghost use Rattle.grasp_laws_node.specs.MeansRegistry.{RegisterAsaMeans, RegisterObjectiveMeans, OfferMeans, StopOfferMeans, StopMeans};
+ghost use Rattle.grasp_laws_node.specs.MeansRegistry.{DeregisterObjectiveMeans, DeregisterAsaMeans};
 
 /// A step was the agent's turn in a session of its own, and is queued with the last loop count less one.
 #[tactic(auto, using(crate::proofs::Meaning::Acts::step_means_lem))]

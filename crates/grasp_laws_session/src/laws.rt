@@ -6,9 +6,12 @@ ghost use Rattle.grasp_types.specs.declared.session.By.TheVariants.{Mine, Theirs
 ghost use Rattle.grasp_types.specs.declared.session.Outcome.TheVariants.{Agreed};
 ghost use Rattle.grasp_session.specs.Conversation.{steps};
 ghost use Rattle.grasp_laws_session.specs.Turns.{TurnsSay, TurnsHold, KnownHolds, OffersHold};
-ghost use Rattle.grasp_laws_session.specs.Moves.{QuietIsReached, MovesReach, RunsJoin, RequestStays, RequesterIsPresent, AbsentTookNothing, HeardNext, InboxIsNext};
+ghost use Rattle.grasp_laws_session.specs.Moves.{QuietIsReached, MovesReach, RunsJoin, RequestStays, RequesterIsPresent, AbsentTookNothing};
+ghost use Rattle.grasp_laws_session.specs.Moves.{HeardNext, InboxIsNext};
 ghost use Rattle.grasp_laws_session.specs.Sample.{sample, outcome_at};
-ghost use Rattle.grasp_session.specs.Laws.{LegalIsGrammar, ConversationIsGrammar, StepsBounded, RunsAreLegal, RunsAreBounded, ViewsTrail, SilentUnseen, TakenInOrder, NoneIsBad, BothAgree, OffersStand, OutcomesSay, OutcomesStay, AcceptsTheLast, PeerIsPresent, MovesFollow, FirstIsRequest};
+ghost use Rattle.grasp_session.specs.Laws.{LegalIsGrammar, ConversationIsGrammar, StepsBounded, RunsAreLegal, RunsAreBounded, ViewsTrail};
+ghost use Rattle.grasp_session.specs.Laws.{SilentUnseen, TakenInOrder, NoneIsBad, BothAgree, OffersStand, OutcomesSay, OutcomesStay, AcceptsTheLast};
+ghost use Rattle.grasp_session.specs.Laws.{PeerIsPresent, MovesFollow, FirstIsRequest};
 ghost use Rattle.grasp_session.specs.Runs.{CallsAreInOrder, CallsGoOn, NumbersAreNew};
 ghost use Rattle.grasp_laws_session.specs.Expiry.{ExpiryEnds, ExpiryGoesOn, ExpiryStops};
 ghost use Rattle.grasp_session.specs.Made.{NoneAreReached, CallsTouchOne, LiveComesFirst, ViewsAreBuilt, NoneAreFresh, FreshStay};

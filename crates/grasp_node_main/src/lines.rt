@@ -4,7 +4,8 @@ ghost use Rattle.std.specs.Prelude.{◌≡◌, ◌++◌, ◌∷◌, [], OnOk, If
 ghost use Rattle.grasp_text.specs.Words.{spaced};
 ghost use Rattle.grasp_node_main.specs.Runs.{workers_of};
 ghost use Rattle.grasp_node_main.specs.declared.worker.Worker.TheVariants as workers;
-ghost use Rattle.grasp_node_main.specs.Lines.{list_of, prefix_words, pool_words, end_words, end_at, want_words, flood_words, all_flood_words, read_words, line_text, wants_text, worker_text, crew_text};
+ghost use Rattle.grasp_node_main.specs.Lines.{list_of, prefix_words, pool_words, end_words, end_at, want_words, flood_words, all_flood_words};
+ghost use Rattle.grasp_node_main.specs.Lines.{read_words, line_text, wants_text, worker_text, crew_text};
 
 use crate::daemon::Daemon;
 use crate::manager::Manager;

@@ -9,7 +9,9 @@ ghost use Rattle.grasp_io.specs.Faults.{Rose};
 ghost use Rattle.grasp_io.specs.Known.{AppendsFront};
 ghost use Rattle.grasp_io.specs.Told.{Stays};
 ghost use Rattle.grasp_node_main.specs.Lines.{crew_text};
-ghost use Rattle.grasp_node_main.specs.Program.{config_limit, is_run, IsBeforeLinks, IsAfterConfig, IsAfterInput, IsOfConfig, IsOfTurns, IsOkOrMemory, NothingPassed, RunsPlan, RunsConfig, RunsInput, BeginsPlan, BeginsConfig, BeginsInput, NoTurn, TurnsOfConfig, NoneOrAllTurns, IsConfigured};
+ghost use Rattle.grasp_node_main.specs.Program.{config_limit, is_run, IsBeforeLinks, IsAfterConfig, IsAfterInput, IsOfConfig, IsOfTurns};
+ghost use Rattle.grasp_node_main.specs.Program.{IsOkOrMemory, NothingPassed, RunsPlan, RunsConfig, RunsInput, BeginsPlan, BeginsConfig, BeginsInput};
+ghost use Rattle.grasp_node_main.specs.Program.{NoTurn, TurnsOfConfig, NoneOrAllTurns, IsConfigured};
 ghost use Rattle.grasp_node_main.specs.Runs.{Ran, workers_of};
 ghost use Rattle.grasp_node_main.specs.Tells.{links_told, told};
 

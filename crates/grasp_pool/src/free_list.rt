@@ -5,7 +5,8 @@ ghost use Rattle.grasp_types.specs.Prefix.{AddressBlock};
 ghost use Rattle.grasp_pool.specs.Spans.{IsValid};
 ghost use Rattle.grasp_pool.specs.Canonical.{IsTidy};
 ghost use Rattle.grasp_pool.specs.Parts.{ApartFrom, HasRoom, IsFirstPlace};
-ghost use Rattle.grasp_pool.specs.Functions.{add, without, joins, parent_of, buddy_of, merge, half_at, half_off, split_at, lowest_free, carved_list, meeting, around, rest_at};
+ghost use Rattle.grasp_pool.specs.Functions.{add, without, joins, parent_of, buddy_of, merge, half_at, half_off, split_at, lowest_free, carved_list};
+ghost use Rattle.grasp_pool.specs.Functions.{meeting, around, rest_at};
 
 use crate::firsts::{note_added, note_removed};
 use crate::halves::{halves_of, parts_of, prefix_at};

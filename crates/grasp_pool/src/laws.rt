@@ -11,7 +11,8 @@ ghost use Rattle.grasp_pool.specs.Listings.{all_of, AreDisjoint};
 ghost use Rattle.grasp_pool.specs.declared.image.PoolImage.{PoolImage};
 ghost use Rattle.grasp_pool.specs.Roots.{AllValid, AllApart};
 ghost use Rattle.grasp_pool.specs.declared.roots.RootPrefix.{RootPrefix};
-ghost use Rattle.grasp_pool.specs.Functions.{lowest_free, pool_of, pool_of_image, can_gain, take_reply, after_take, around, take_at_reply, after_take_at, after_back, after_confirm, after_doubt, after_settle, after_gain};
+ghost use Rattle.grasp_pool.specs.Functions.{lowest_free, pool_of, pool_of_image, can_gain, take_reply, after_take, around, take_at_reply};
+ghost use Rattle.grasp_pool.specs.Functions.{after_take_at, after_back, after_confirm, after_doubt, after_settle, after_gain};
 
 /// A set of addresses has one list of maximal prefixes in rising order.
 #[tactic(auto, using(crate::proofs::Unique::one_canonical))]

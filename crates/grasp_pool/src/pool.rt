@@ -6,7 +6,8 @@ ghost use Rattle.grasp_pool.specs.Parts.{IsAnswer};
 ghost use Rattle.grasp_pool.specs.Pools.{IsPool, entries, room_of};
 ghost use Rattle.grasp_pool.specs.Answers.{IsOpened, IsReopened, IsRootFault, IsImageFault, IsRefused};
 ghost use Rattle.grasp_pool.specs.declared.fault.PoolFault.TheVariants.{OutOfMemory};
-ghost use Rattle.grasp_pool.specs.Functions.{pool_of, pool_of_image, can_gain, take_reply, after_take, around, take_at_reply, after_take_at, after_back, after_confirm, after_doubt, after_settle, after_gaining};
+ghost use Rattle.grasp_pool.specs.Functions.{pool_of, pool_of_image, can_gain, take_reply, after_take, around, take_at_reply, after_take_at};
+ghost use Rattle.grasp_pool.specs.Functions.{after_back, after_confirm, after_doubt, after_settle, after_gaining};
 
 use crate::fault::{GainFault, PoolFault};
 use crate::free_list::{FreeList, MOST_ENTRIES};

@@ -4,7 +4,8 @@ ghost use Rattle.std.specs.Prelude.{◌≡◌, IfOk, IfSome, IfNone, true};
 ghost use Rattle.std.specs.Str.{IsUtf8};
 ghost use Rattle.grasp_text.specs.Reading.{Reads, word_at};
 ghost use Rattle.grasp_script.specs.Acts.{IsLine, IsNoLine};
-ghost use Rattle.grasp_script.specs.Grammar.{are_lengths, first_of, act_at, named_at, hold_at, held_at, clock_at, want_at, return_at, agent_at, api_at, datagram_at, arrive_at, bytes_at, cut_at, drain_at, state_at};
+ghost use Rattle.grasp_script.specs.Grammar.{are_lengths, first_of, act_at, named_at, hold_at, held_at, clock_at, want_at, return_at, agent_at};
+ghost use Rattle.grasp_script.specs.Grammar.{api_at, datagram_at, arrive_at, bytes_at, cut_at, drain_at, state_at};
 
 use crate::called::{may_make, read_call};
 use crate::line::{Line, LineAct};

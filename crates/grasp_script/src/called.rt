@@ -4,7 +4,8 @@ ghost use Rattle.std.specs.Prelude.{◌≡◌};
 ghost use Rattle.grasp_text.specs.Grammar.{reason_at};
 ghost use Rattle.grasp_text.specs.Reading.{Reads, word_at};
 ghost use Rattle.grasp_script.specs.Calls.{may_call};
-ghost use Rattle.grasp_script.specs.Grammar.{call_of, call_at, called_at, name_at, session_at, objective_call_at, discover_at, request_at, step_at, wait_at, decline_at, invalid_at, synchronize_at, offer_at, flood_at, expire_at};
+ghost use Rattle.grasp_script.specs.Grammar.{call_of, call_at, called_at, name_at, session_at, objective_call_at, discover_at, request_at, step_at};
+ghost use Rattle.grasp_script.specs.Grammar.{wait_at, decline_at, invalid_at, synchronize_at, offer_at, flood_at, expire_at};
 
 use crate::names::{CallName, call_name};
 use crate::places::{read_dry, read_handle, read_initiator, read_kind, read_peer};

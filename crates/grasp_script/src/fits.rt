@@ -1,6 +1,7 @@
 //! Whether a plan stays good with one more line of its header.
 
-ghost use Rattle.std.specs.Prelude.{◌≡◌, ◌≤◌, ◌<◌, ◌↔◌, ◌∷◌, ◌++◌, [], ℕ, ◌+◌, ◌-◌, ◌^◌, List, All, map, length, true, IsTrue, IfOk, IfSome, IfNone, codes, decimal};
+ghost use Rattle.std.specs.Prelude.{◌≡◌, ◌≤◌, ◌<◌, ◌↔◌, ◌∷◌, ◌++◌, [], ℕ, ◌+◌, ◌-◌, ◌^◌, List, All, map, length, true, IsTrue, IfOk, IfSome, IfNone};
+ghost use Rattle.std.specs.Prelude.{codes, decimal};
 ghost use Rattle.grasp_pool.specs.Roots.{block_of};
 ghost use Rattle.grasp_pool.specs.Spans.{IsValid, Apart, size};
 ghost use Rattle.grasp_text.specs.Words.{words_of};

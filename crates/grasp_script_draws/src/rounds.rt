@@ -2,7 +2,8 @@
 
 ghost use Rattle.std.specs.Prelude.{◌≡◌, ◌++◌, ◌∷◌, ◌*◌, ◌≤◌, ◌<◌, ◌^◌, [], OnOk, map, decimal, string_bytes};
 ghost use Rattle.grasp_script_draws.specs.Drawing.{drawn_of};
-ghost use Rattle.grasp_script_draws.specs.Generator.{line, lines_text, agent_lines, bytes_line, last_line, cut_line, request_lines, bargain_lines, ending_lines, round_lines};
+ghost use Rattle.grasp_script_draws.specs.Generator.{line, lines_text, agent_lines, bytes_line, last_line, cut_line, request_lines, bargain_lines};
+ghost use Rattle.grasp_script_draws.specs.Generator.{ending_lines, round_lines};
 
 use crate::draws::RoundDraws;
 use crate::lines::push_line;

@@ -3,7 +3,8 @@
 ghost use Rattle.std.specs.Prelude.{◌≡◌, ℕ, true, bytes_eq, is_none, ◌==◌, ◌+◌, ◌-◌, ◌<◌, max, Some, None, IfOk, OnErr};
 ghost use Rattle.grasp_types.specs.declared.message.Message.TheVariants.{End};
 ghost use Rattle.grasp_types.specs.Reading.{reading_after};
-ghost use Rattle.grasp_session.specs.Transcript.{SayStep, SayWait, SayEnd, SayInvalid, receive, after_received, message_of, having_said, is_negotiation, with_mark};
+ghost use Rattle.grasp_session.specs.Transcript.{SayStep, SayWait, SayEnd, SayInvalid, receive, after_received, message_of, having_said};
+ghost use Rattle.grasp_session.specs.Transcript.{is_negotiation, with_mark};
 ghost use Rattle.grasp_session.specs.declared.answer.Received.TheVariants.{Bad};
 ghost use Rattle.grasp_session.specs.Sessions.{SessionState, with_transcript, begun_state, MayStarve};
 ghost use Rattle.grasp_session.specs.Keeps.{Keeps, refusal_in, offer_in, awaits_in, steps_in, mark_of, leaves_in, ending_of, ended_with, outcome_with};

@@ -1,9 +1,14 @@
 //! The sessions of a node (RFC 8990, section 2.5).
 
-ghost use Rattle.std.specs.Prelude.{◌≡◌, ℕ, ◌<◌, ◌==◌, true, false, not, Some, None, Ok, is_none, position, slice_index_or, slice_set, option_copied, IfOk, IfErr, IfSome, OnErr, IsSome};
+ghost use Rattle.std.specs.Prelude.{◌≡◌, ℕ, ◌<◌, ◌==◌, true, false, not, Some, None, Ok, is_none, position, slice_index_or, slice_set, option_copied};
+ghost use Rattle.std.specs.Prelude.{IfOk, IfErr, IfSome, OnErr, IsSome};
 ghost use Rattle.grasp_session.specs.Transcript.{SayStep, SayWait, SayEnd, SayInvalid, Closed, Starved, Faulty};
-ghost use Rattle.grasp_session.specs.Sessions.{Sessions, no_sessions, start_reply, after_start, check_reply, MayRefuse, say_reply, after_say, MayStarve, receive_reply, after_receive, MayPoll, after_poll, after_mark, expire_reply, after_expire, state_reply, stream_reply, session_reply, last_reply, is_full, live_count, is_used, untaken_reply, untaken_above_reply, owner_reply, adopt_reply, after_adopt, after_remove};
-ghost use Rattle.grasp_session.specs.Stands.{Stands, kept_at, kept_owned, check_answer, state_answer, oldest_in, older_in, fits_at, full_in, settled, IsLive, IsUntaken};
+ghost use Rattle.grasp_session.specs.Sessions.{Sessions, no_sessions, start_reply, after_start, check_reply, MayRefuse, say_reply, after_say};
+ghost use Rattle.grasp_session.specs.Sessions.{MayStarve, receive_reply, after_receive, MayPoll, after_poll, after_mark, expire_reply, after_expire};
+ghost use Rattle.grasp_session.specs.Sessions.{state_reply, stream_reply, session_reply, last_reply, is_full, live_count, is_used, untaken_reply};
+ghost use Rattle.grasp_session.specs.Sessions.{untaken_above_reply, owner_reply, adopt_reply, after_adopt, after_remove};
+ghost use Rattle.grasp_session.specs.Stands.{Stands, kept_at, kept_owned, check_answer, state_answer, oldest_in, older_in, fits_at, full_in, settled};
+ghost use Rattle.grasp_session.specs.Stands.{IsLive, IsUntaken};
 ghost use Rattle.grasp_session.specs.Keeps.{mark_of};
 
 use crate::answer::{Act, Received, SessionRefused};

@@ -13,7 +13,8 @@ ghost use Rattle.grasp_model_network.specs.Openings.{fresh_seat, opened_seat, fi
 ghost use Rattle.grasp_model_network.specs.Runs.{world_of};
 ghost use Rattle.grasp_simulator.specs.Listening.{listener_from};
 ghost use Rattle.grasp_simulator.specs.Seats.{SeatStands, AreFirst};
-ghost use Rattle.grasp_model_network.specs.Setting.{numbers_from, others_on, script_number, script_address, script_locator, script_seed, script_neighbour, script_links, script_node, script_roots, script_member, is_on};
+ghost use Rattle.grasp_model_network.specs.Setting.{numbers_from, others_on, script_number, script_address, script_locator, script_seed};
+ghost use Rattle.grasp_model_network.specs.Setting.{script_neighbour, script_links, script_node, script_roots, script_member, is_on};
 
 use crate::seat::Seat;
 use grasp_agent::PrefixAgent;

@@ -7,7 +7,8 @@ ghost use Rattle.grasp_laws_node_stories.specs.Acceptances.{accepts_on, was_done
 ghost use Rattle.grasp_model_node.specs.Begin.{begin};
 ghost use Rattle.grasp_model_node.specs.Draining.{drained};
 ghost use Rattle.grasp_session.specs.Sessions.{state_reply};
-ghost use Rattle.grasp_simulator.specs.Seats.{SeatStands, Sitting, SeatMeets, SeatStepped, AgentStepped, clocked, drained_seat, wanted, returning, settled, is_asked, OwnStepped, CallStepped, stream_begun, accepted_if};
+ghost use Rattle.grasp_simulator.specs.Seats.{SeatStands, Sitting, SeatMeets, SeatStepped, AgentStepped, clocked, drained_seat, wanted, returning};
+ghost use Rattle.grasp_simulator.specs.Seats.{settled, is_asked, OwnStepped, CallStepped, stream_begun, accepted_if};
 ghost use Rattle.grasp_types.specs.declared.traffic.Input.TheVariants as input;
 ghost use Rattle.grasp_model_network.specs.Visits.{is_starved};
 ghost use Rattle.grasp_model_network.specs.World.{Seat as SeatState};

@@ -1,7 +1,8 @@
 //! A stream between two nodes, as the network keeps it from the sending of its dial on.
 
 ghost use Rattle.std.specs.Prelude.{◌≡◌, ◌==◌, ◌&&◌, not, OnOk, OnErr};
-ghost use Rattle.grasp_simulator.specs.StreamParts.{sent_from, more_sent, more_delivered, piece_of, stream_sent, stream_delivered, stream_told, stream_opened, far_number, side_end, ended_at, goes_to};
+ghost use Rattle.grasp_simulator.specs.StreamParts.{sent_from, more_sent, more_delivered, piece_of, stream_sent, stream_delivered, stream_told};
+ghost use Rattle.grasp_simulator.specs.StreamParts.{stream_opened, far_number, side_end, ended_at, goes_to};
 
 use crate::opening::listener;
 use grasp_cbor::{Octets, OutOfMemory};

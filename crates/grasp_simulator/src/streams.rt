@@ -3,7 +3,8 @@
 ghost use Rattle.std.specs.Prelude.{◌≡◌, ◌+◌, ◌<◌, ℕ, List, [], Some, length, map, nat_le, option_map, slice_get, OnOk, OnErr, IfSome};
 ghost use Rattle.grasp_model_node.specs.Queue.{encoding};
 ghost use Rattle.grasp_types.specs.declared.message.Message.{Message};
-ghost use Rattle.grasp_model_network.specs.Streams.{StreamState, stream_numbered, change_at_end, told_closed, with_delivered, with_ended, with_number, with_sent, with_side};
+ghost use Rattle.grasp_model_network.specs.Streams.{StreamState, stream_numbered, change_at_end, told_closed, with_delivered, with_ended};
+ghost use Rattle.grasp_model_network.specs.Streams.{with_number, with_sent, with_side};
 ghost use Rattle.grasp_model_network.specs.World.{end_of};
 ghost use Rattle.grasp_model_network.specs.Setting.{numbered};
 ghost use Rattle.grasp_simulator.specs.StreamParts.{no_sent, first_standing, first_stream, side_of, piece_at, ended_at};

@@ -2,10 +2,13 @@
 
 ghost use Rattle.std.specs.Prelude.{◌≡◌, IfOk};
 ghost use Rattle.grasp_types.specs.declared.message.Message.{Message};
-ghost use Rattle.grasp_text.specs.Laws.{LinesHaveOneMessage, LinesAreTheirWords, LinesArePrintable, LinesHaveOnePlace, LinesAreMessagesOrBad, NumbersAreTaken, TextsAreTaken, ValuesAreTaken, OptionalValuesAreTaken, AddressesAreTaken, NumbersAreRead, TextsAreRead, ValuesAreRead, AddressesAreRead, ObjectivesAreRead, LocatorsAreRead, OptionalLocatorsAreRead};
+ghost use Rattle.grasp_text.specs.Laws.{LinesHaveOneMessage, LinesAreTheirWords, LinesArePrintable, LinesHaveOnePlace, LinesAreMessagesOrBad};
+ghost use Rattle.grasp_text.specs.Laws.{NumbersAreTaken, TextsAreTaken, ValuesAreTaken, OptionalValuesAreTaken, AddressesAreTaken, NumbersAreRead};
+ghost use Rattle.grasp_text.specs.Laws.{TextsAreRead, ValuesAreRead, AddressesAreRead, ObjectivesAreRead, LocatorsAreRead, OptionalLocatorsAreRead};
 ghost use Rattle.grasp_text.specs.Line.{IsLineOf, IsNoLine};
 ghost use Rattle.grasp_text.specs.Place.{IsPlace, IfBadText};
-ghost use Rattle.grasp_text.specs.Grammar.{message_at, named_at, discovery_at, response_at, objective_of_session_at, end_message_at, wait_at, flood_at, invalid_at, reason_at, verdict_at, are_locators, is_accept, name_of};
+ghost use Rattle.grasp_text.specs.Grammar.{message_at, named_at, discovery_at, response_at, objective_of_session_at, end_message_at, wait_at};
+ghost use Rattle.grasp_text.specs.Grammar.{flood_at, invalid_at, reason_at, verdict_at, are_locators, is_accept, name_of};
 ghost use Rattle.grasp_text.specs.Reading.{Reads, word_at, end_at};
 
 use crate::fault::{TextFault, WordFault};

@@ -1,6 +1,7 @@
 //! Texts as words: an apostrophe, and the text's bytes with some of them escaped.
 
-ghost use Rattle.std.specs.Prelude.{◌≡◌, true, ◌<◌, ◌≤◌, take, List, ℕ, length, ◌++◌, ◌∷◌, [], OnOk, OnErr, IfOk, IfSome, IfNone, option_map, slice_index, string_bytes};
+ghost use Rattle.std.specs.Prelude.{◌≡◌, true, ◌<◌, ◌≤◌, take, List, ℕ, length, ◌++◌, ◌∷◌, [], OnOk, OnErr, IfOk, IfSome, IfNone, option_map};
+ghost use Rattle.std.specs.Prelude.{slice_index, string_bytes};
 ghost use Rattle.std.specs.Str.{IsUtf8};
 ghost use Rattle.hex.specs.Hex.{lower_digits};
 ghost use Rattle.grasp_cbor.specs.Extends.{Extends};

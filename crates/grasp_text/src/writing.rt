@@ -5,7 +5,9 @@ ghost use Rattle.grasp_cbor.specs.Extends.{Extends};
 ghost use Rattle.grasp_types.specs.Address.{IsAddress, IsLocator};
 ghost use Rattle.grasp_types.specs.Message.{IsMessage, IsVerdict, AreLocators, IsAnswer, AreFloodParts, IsFloodPart};
 ghost use Rattle.grasp_types.specs.Objective.{IsObjective, IsValue};
-ghost use Rattle.grasp_text.specs.Line.{proto_word, address_word, or_dash, value_word, locator_words, all_locator_words, objective_words, optional_objective_words, verdict_words, answer_words, locator_or_none, flood_part_words, all_flood_part_words, line_of, IsLineOf};
+ghost use Rattle.grasp_text.specs.Line.{proto_word, address_word, or_dash, value_word, locator_words, all_locator_words, objective_words};
+ghost use Rattle.grasp_text.specs.Line.{optional_objective_words, verdict_words, answer_words, locator_or_none, flood_part_words};
+ghost use Rattle.grasp_text.specs.Line.{all_flood_part_words, line_of, IsLineOf};
 ghost use Rattle.grasp_text.specs.Words.{spaced};
 ghost use Rattle.grasp_text.specs.Writing.{line_name, words_behind_name};
 

@@ -1,6 +1,7 @@
 //! Cutting messages from a stream of bytes (RFC 8990, section 2.8).
 
-ghost use Rattle.std.specs.Prelude.{true, false, ◌≡◌, ◌+◌, ◌-◌, ◌<◌, ◌≤◌, ◌^◌, [], ◌++◌, length, take, drop, vec_len, None, Some, Ok, Err, IsSome, OnOk, OnErr, IfOk, IfSome};
+ghost use Rattle.std.specs.Prelude.{true, false, ◌≡◌, ◌+◌, ◌-◌, ◌<◌, ◌≤◌, ◌^◌, [], ◌++◌, length, take, drop, vec_len, None, Some, Ok, Err, IsSome};
+ghost use Rattle.std.specs.Prelude.{OnOk, OnErr, IfOk, IfSome};
 ghost use Rattle.grasp_cbor.specs.DataItem.{DataItem};
 ghost use Rattle.grasp_cbor.specs.Ending.{IsWhole};
 ghost use Rattle.grasp_wire.specs.ReadOn.{IsReadTo};
@@ -46,7 +47,8 @@ pub struct Cutter {
 impl Cutter {
     ghost use Rattle.grasp_wire.specs.Cutter.{Past, no_past, after_feed, after_next, AnswersNext, Takes, CountsRest};
     ghost use Rattle.grasp_wire.specs.Wire.{IsWireForm};
-    ghost use Rattle.grasp_wire.specs.Stands.{Stands, IsSame, AnswersFound, AnswersItem, TakesFound, cut_limit, fed_count, taken_count, waiting_count, rest_of, before_of, fault_in};
+    ghost use Rattle.grasp_wire.specs.Stands.{Stands, IsSame, AnswersFound, AnswersItem, TakesFound, cut_limit, fed_count, taken_count};
+    ghost use Rattle.grasp_wire.specs.Stands.{waiting_count, rest_of, before_of, fault_in};
 
     /// Before the first byte of a stream whose messages have at most `limit` bytes. It takes no memory.
     pub fn new(alloc: Global, limit: u32) -> Cutter

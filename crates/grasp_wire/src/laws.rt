@@ -1,7 +1,9 @@
 //! Laws on messages and streams. They say nothing at run time.
 
 ghost use Rattle.grasp_wire.specs.Chunks.{AnyPiecesBegin, AnyPiecesGiveAll};
-ghost use Rattle.grasp_wire.specs.Laws.{OneMessageForBytes, SomeDivision, OneDivision, OneKind, RestsBeginNoMessage, FormsAreDecoded, SomeAnswer, OneAnswer, DivisionsGrow, FaultsStay, EncodedComeFirst, FrontsDivide, GivenComeFirst, AllGivenAtNone, AllGivenAtFault, AnswersAreDivided, OneNextAnswer};
+ghost use Rattle.grasp_wire.specs.Laws.{OneMessageForBytes, SomeDivision, OneDivision, OneKind, RestsBeginNoMessage, FormsAreDecoded, SomeAnswer};
+ghost use Rattle.grasp_wire.specs.Laws.{OneAnswer, DivisionsGrow, FaultsStay, EncodedComeFirst, FrontsDivide, GivenComeFirst, AllGivenAtNone};
+ghost use Rattle.grasp_wire.specs.Laws.{AllGivenAtFault, AnswersAreDivided, OneNextAnswer};
 ghost use Rattle.grasp_wire.specs.Whole.{WholeFrontsDivide, CuttersGiveWhole};
 
 /// Bytes are the wire form of at most one message.

@@ -2,7 +2,8 @@
 
 ghost use Rattle.std.specs.Prelude.{◌≡◌, IfOk};
 ghost use Rattle.grasp_cbor.specs.Item.{items_of};
-ghost use Rattle.grasp_wire.specs.ReadMessages.{told_of, req_neg_of, req_syn_of, negotiate_of, synch_of, noop_of, discovery_of, response_of, end_of, wait_of, flood_of, invalid_of};
+ghost use Rattle.grasp_wire.specs.ReadMessages.{told_of, req_neg_of, req_syn_of, negotiate_of, synch_of, noop_of, discovery_of, response_of, end_of};
+ghost use Rattle.grasp_wire.specs.ReadMessages.{wait_of, flood_of, invalid_of};
 
 use crate::reading::address::address_at;
 use crate::reading::answer::{answer_between, answer_end};
