@@ -42,11 +42,11 @@ pub ruleset pushes = (one_pushed, some_pushed, extends_words, extends_later)
 
 -- ---- one more locator, and one more part
 
-all_locator_words-append : (xs ys : List Locator) → all_locator_words (xs ++ ys) ≡ all_locator_words xs ++ all_locator_words ys
+pub all_locator_words-append : (xs ys : List Locator) → all_locator_words (xs ++ ys) ≡ all_locator_words xs ++ all_locator_words ys
 all_locator_words-append [] ys = refl
 all_locator_words-append (x ∷ xs) ys = ap (λ (t : List (List ℕ)). locator_words x ++ t) (all_locator_words-append xs ys) ∙ sym (append_assoc (locator_words x) (all_locator_words xs) (all_locator_words ys))
 
-all_flood_part_words-append : (xs ys : List FloodPart) → all_flood_part_words (xs ++ ys) ≡ all_flood_part_words xs ++ all_flood_part_words ys
+pub all_flood_part_words-append : (xs ys : List FloodPart) → all_flood_part_words (xs ++ ys) ≡ all_flood_part_words xs ++ all_flood_part_words ys
 all_flood_part_words-append [] ys = refl
 all_flood_part_words-append (x ∷ xs) ys = ap (λ (t : List (List ℕ)). flood_part_words x ++ t) (all_flood_part_words-append xs ys) ∙ sym (append_assoc (flood_part_words x) (all_flood_part_words xs) (all_flood_part_words ys))
 
@@ -77,7 +77,7 @@ line_all Noop = refl
 line_all _ = refl
 
 -- a name and the words behind it are the line
-line_appended : (m : Message) (old middle new name : List ℕ) → middle ≡ old ++ name → name ≡ line_name m → new ≡ middle ++ spaced (words_behind_name m) → new ≡ old ++ joined (message_words m)
+pub line_appended : (m : Message) (old middle new name : List ℕ) → middle ≡ old ++ name → name ≡ line_name m → new ≡ middle ++ spaced (words_behind_name m) → new ≡ old ++ joined (message_words m)
 line_appended m old middle new name a b c =
     let behind : List ℕ = spaced (words_behind_name m) in
     let whole : line_name m ++ behind ≡ joined (message_words m) = sym (ap joined (line_all m) ∙ joined_spaced (line_name m) (words_behind_name m)) in

@@ -56,7 +56,7 @@ pub(crate) fn read_digits(digits: &[u8], out: &mut [u8]) -> bool
 }
 
 /// Writes the bytes of the digits at the front, at most as many as there is room for, and tells how many.
-pub(crate) fn front_bytes(digits: &[u8], out: &mut [u8]) -> usize
+pub fn front_bytes(digits: &[u8], out: &mut [u8]) -> usize
     ensures room { result ≤ length out.new }
     ensures inside { 2 * result ≤ length digits.now }
     ensures digits { take (2 * result) digits.now ≡ encode_lower (take result out.new) }

@@ -17,16 +17,17 @@ mod values;
 mod words;
 mod writing;
 
+pub use digits::front_bytes;
 pub use fault::{TextFault, WordFault};
 pub use hexes::{address, push_address};
 pub use message::{
     lines_are_messages_or_bad, lines_are_printable, lines_are_their_words, lines_have_one_message,
     lines_have_one_place, message_of, words_are_read, words_are_taken,
 };
-pub use numbers::{number, push_number};
+pub use numbers::{front_digits, number, push_number};
 pub use parts::{read_locator, read_objective, read_optional_locator};
 pub use prefixes::{prefix, push_prefix};
-pub use texts::{push_text, text};
+pub use texts::{front_plain, push_text, text};
 pub use values::{bytes, push_bytes, push_value, value};
 pub use words::Words;
 pub use writing::{

@@ -49,7 +49,7 @@ fn number_of_digits(word: &[u8]) -> Option<u64>
 }
 
 /// The value of the decimal digits at the front, of which it reads at most 19, and how many it read.
-pub(crate) fn front_digits(bytes: &[u8]) -> (u64, usize)
+pub fn front_digits(bytes: &[u8]) -> (u64, usize)
     ensures inside { result.1 ≤ length bytes.now }
     ensures digits { AllDigits 10 (take result.1 bytes.now) }
     ensures value { result.0 ≡ digits_value 10 (take result.1 bytes.now) }

@@ -33,7 +33,7 @@ fn stand_for_themselves(bytes: &[u8]) -> bool
 }
 
 /// How many bytes stand for themselves at the front.
-pub(crate) fn front_plain(bytes: &[u8]) -> usize
+pub fn front_plain(bytes: &[u8]) -> usize
     ensures inside { result ≤ length bytes.now }
     ensures plain { ArePlain (take result bytes.now) }
 {
