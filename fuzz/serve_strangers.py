@@ -1,15 +1,17 @@
 #!/usr/bin/env python3
-"""Runs two nodes that serve, which negotiate while strangers from many addresses of this machine press one of them.
+"""Runs nodes that serve, which negotiate while strangers from many addresses of this machine press one of them.
 
-usage: serve_strangers.py PROGRAM [SECONDS [SEED]]
+usage: serve_strangers.py PROGRAM [SECONDS [SEED [NEIGHBOURS [PAUSE]]]]
 
 PROGRAM is grasp_node. For SECONDS (60) strangers on four addresses that may open streams and on two hundred that may not send
 floods of datagrams, and open streams which they leave silent, shut on their side, reset, or on which they send halves of messages
-and random bytes. Meanwhile the second node wants prefixes of the first, one every second, and two agents negotiate over both.
+and random bytes. They pause for PAUSE milliseconds (2) between two streams. Meanwhile each of the NEIGHBOURS (1, at most 8) of the
+first node wants prefixes of it, one every second and at most 250, evenly over the time, and an agent at each negotiates with one at
+the first node.
 
-It prints what it counted. It ends with 1 where a node ends, a want isn't held ten seconds after the end, the first node's memory
-(VmRSS) grew by more than 8 megabytes, or an asking of all that `status` asks took over 50 ms. Of these times what the node and the
-asker waited for a processor (schedstat) is taken off, since other work on the machine isn't the node's doing.
+It prints what it counted. It ends with 1 where a node ends, a want isn't held ten seconds after the end, a negotiation isn't agreed,
+the first node's memory (VmRSS) grew by more than 8 megabytes, or an asking of all that `status` asks took over 50 ms. Of these times
+what the node and the asker waited for a processor (schedstat) is taken off, since other work on the machine isn't the node's doing.
 """
 import collections
 import multiprocessing
@@ -33,13 +35,13 @@ PORT = 7057
 NODE = ("127.0.0.1", PORT)
 INSIDE = [f"127.0.0.{n}" for n in range(10, 14)]
 OUTSIDE = [f"127.0.1.{n}" for n in range(1, 201)]
-MOST_GROWTH_KB, MOST_STATUS, PATIENCE = 8 * 1024, 0.050, 10
+MOST_GROWTH_KB, MOST_STATUS, MOST_WANTS, PATIENCE = 8 * 1024, 0.050, 250, 10
 STATUS = b"version\nstate\nwants\nreads\ncounters\n"
 CONFIGURATION = """address = "fd00000000000000000000000000000{own}"
 listen = "7f00000{own}:{port}"
 {roots}
 [[link]]
-neighbour = [{{ address = "fd00000000000000000000000000000{other}", at = "7f00000{other}:{port}" }}]
+neighbour = [{neighbours}]
 [serve]
 control = "{own}.sock"
 forget = true
@@ -52,9 +54,10 @@ log = "quiet"
 """
 
 
-def start(own, program):
+def start(own, others, program):
     roots = 'roots = ["20010db8000000000000000000000000/48"]' if own == 1 else ""
-    pathlib.Path(f"{own}.toml").write_text(CONFIGURATION.format(own=own, other=3 - own, port=PORT, roots=roots))
+    neighbours = ", ".join(f'{{ address = "fd00000000000000000000000000000{it}", at = "7f00000{it}:{PORT}" }}' for it in others)
+    pathlib.Path(f"{own}.toml").write_text(CONFIGURATION.format(own=own, neighbours=neighbours, port=PORT, roots=roots))
     node = subprocess.Popen([program, "serve", f"{own}.toml"])
     end = time.monotonic() + PATIENCE
     while not os.path.exists(f"{own}.sock") and time.monotonic() < end:
@@ -72,7 +75,7 @@ def open_stream(address):
     return stream
 
 
-def press(seed, seconds, told):
+def press(seed, seconds, pause, told):
     """The strangers, in a process of their own."""
     draw, messages, streams, sent = random.Random(seed), Messages(seed), collections.deque(), collections.Counter()
     datagrams = [socket.socket(socket.AF_INET, socket.SOCK_DGRAM) for _ in range(20)]
@@ -111,7 +114,7 @@ def press(seed, seconds, told):
             sent["refused"] += 1
         if len(streams) > 200:
             streams.popleft().close()
-        time.sleep(0.002)
+        time.sleep(pause)
     told.put(sent)
 
 
@@ -136,11 +139,11 @@ def memory(node):
     return int(pathlib.Path(f"/proc/{node.pid}/status").read_text().split("VmRSS:")[1].split()[0])
 
 
-def negotiate(seconds, ends):
-    """Two agents in a process of their own: the one offers half of what the other asks for."""
+def negotiate(others, seconds, pause, ends):
+    """Agents in a process of their own: that of the first node offers half of what the others ask for in turn."""
     thing = grasp.Objective("thing", neg=True)
-    giver, asker = grasp.Agent("1.sock"), grasp.Agent("2.sock")
-    for agent in (giver, asker):
+    giver, *askers = (grasp.Agent(f"{own}.sock") for own in (1, *others))
+    for agent in (giver, *askers):
         agent.register_asa("agent")
         agent.register_objective(thing)
 
@@ -158,56 +161,86 @@ def negotiate(seconds, ends):
     counted, end = collections.Counter(), time.monotonic() + seconds
     time.sleep(0.3)
     while time.monotonic() < end:
-        session, turn = asker.request_negotiate(thing._replace(value=100), grasp.Locator(*NODE), 5000)
-        counted[asker.end_negotiate(session, True).kind if turn.kind == "turn" else turn.kind] += 1
-        time.sleep(0.02)
+        for asker in askers:
+            session, turn = asker.request_negotiate(thing._replace(value=100), grasp.Locator(*NODE), 5000)
+            stands = asker.end_negotiate(session, True) if turn.kind == "turn" else turn
+            counted["agreed" if stands.kind == "agreed" else f"{turn.kind} {stands.kind} {stands.reason}"] += 1
+            time.sleep(10 * pause)
     ends.put(counted)
 
 
+def want_more(takers, counts, due):
+    """One more want of each neighbour whose next one is due."""
+    for at, taker in enumerate(takers):
+        if due > counts[at] < MOST_WANTS:
+            counts[at] += taker.want(64, 64, grasp.Locator(*NODE)) is not None
+
+
+def held_at(taker):
+    """How many wants are held at a neighbour, and how many tries they took."""
+    words = taker.ask("wants")
+    return words.count("held"), sum(int(it) for it in words[8::11])
+
+
+def processor(node):
+    """The seconds of processor time that a node took."""
+    words = pathlib.Path(f"/proc/{node.pid}/stat").read_text().rsplit(")", 1)[1].split()
+    return (int(words[11]) + int(words[12])) / os.sysconf("SC_CLK_TCK")
+
+
 def main():
-    program, seconds = str(pathlib.Path(sys.argv[1]).resolve()), float(sys.argv[2]) if len(sys.argv) > 2 else 60.0
-    seed = int(sys.argv[3]) if len(sys.argv) > 3 else int(time.time())
+    program = str(pathlib.Path(sys.argv[1]).resolve())
+    seconds, seed, most, pause = (sys.argv[2:] + ["60", str(int(time.time())), "1", "2"][len(sys.argv) - 2 :])
+    seconds, seed, others, pause = float(seconds), int(seed), range(2, 2 + int(most)), float(pause) / 1000
     wrong = []
     with tempfile.TemporaryDirectory() as work:
         os.chdir(work)
-        nodes = [start(1, program), start(2, program)]
+        nodes = [start(1, others, program), *(start(own, [1], program) for own in others)]
         try:
             told, ends = multiprocessing.Queue(), multiprocessing.Queue()
-            beside = [multiprocessing.Process(target=press, args=(seed, seconds, told))]
-            beside.append(multiprocessing.Process(target=negotiate, args=(seconds, ends)))
-            first = most = memory(nodes[0])
+            beside = [multiprocessing.Process(target=press, args=(seed, seconds, pause, told))]
+            beside.append(multiprocessing.Process(target=negotiate, args=(others, seconds, pause, ends)))
+            first = top = memory(nodes[0])
             for it in beside:
                 it.start()
             asker = socket.socket(socket.AF_UNIX)
             asker.connect("1.sock")
-            lines, times, begin, wants = asker.makefile("rb"), [], time.monotonic(), 0
-            with grasp.Agent("2.sock") as taker:
-                while time.monotonic() < begin + seconds:
-                    times.append(ask_status(asker, lines, nodes[0]))
-                    most = max(most, memory(nodes[0]))
-                    if time.monotonic() - begin > wants < 250:
-                        wants += taker.want(64, 64, grasp.Locator(*NODE)) is not None
-                    time.sleep(0.05)
-                while taker.ask("wants").count("held") < wants and time.monotonic() < begin + seconds + PATIENCE:
-                    time.sleep(0.1)
-                held = taker.ask("wants").count("held")
-                tries = sum(int(it) for it in taker.ask("wants")[8::11]) if held == wants else 0
+            lines, times, begin = asker.makefile("rb"), [], time.monotonic()
+            takers = [grasp.Agent(f"{own}.sock") for own in others]
+            counts = [0] * len(takers)
+            while time.monotonic() < begin + seconds:
+                times.append(ask_status(asker, lines, nodes[0]))
+                top = max(top, memory(nodes[0]))
+                passed = time.monotonic() - begin
+                want_more(takers, counts, passed * min(1, MOST_WANTS / seconds))
+                time.sleep(max(0.05, 10 * pause))
+            wants, held = sum(counts), 0
+            while held < wants and time.monotonic() < begin + seconds + PATIENCE:
+                time.sleep(0.1)
+                held = sum(held_at(taker)[0] for taker in takers)
+            tries = sum(held_at(taker)[1] for taker in takers)
+            took = processor(nodes[0])
             with grasp.Agent("1.sock") as giver:
                 counters, doubt = giver.counters(), len(giver.state()["doubt"])
             for name, queue in (("strangers", told), ("negotiations", ends)):
-                print(f"{name}:", ", ".join(f"{what} {count}" for what, count in sorted(queue.get(timeout=30).items())))
+                counted = queue.get(timeout=30)
+                print(f"{name}:", ", ".join(f"{what} {count}" for what, count in sorted(counted.items())))
+            if set(counted) != {"agreed"}:
+                wrong.append("a negotiation isn't agreed")
             print("counters:", ", ".join(f"{what} {count}" for what, count in counters.items() if count))
             print(f"wants: {held} of {wants} held, {tries} tries; {doubt} prefixes in doubt at the first node")
+            own = sorted(it[1] for it in times)
             print(f"status: {len(times)} times, at most {max(times)[0] * 1000:.1f} ms,"
-                  f" without waits for a processor {max(it[1] for it in times) * 1000:.1f} ms")
-            print(f"memory: {first} kB at first, at most {most} kB; seed {seed}")
+                  f" without waits for a processor {own[len(own) // 2] * 1000:.1f} ms in the middle and {own[-1] * 1000:.1f} ms at most")
+            print(f"processor: {took:.1f} s of the first node in {seconds:.0f} s")
+            print(f"memory: {first} kB at first, at most {top} kB; seed {seed}")
             if held < wants:
                 wrong.append("a want isn't held")
-            if most > first + MOST_GROWTH_KB:
+            if top > first + MOST_GROWTH_KB:
                 wrong.append("memory grew")
-            if max(it[1] for it in times) > MOST_STATUS:
+            if own[-1] > MOST_STATUS:
                 wrong.append("status took over 50 ms")
-            for own, node in ((1, nodes[0]), (2, nodes[1])):
+            for own, node in enumerate(nodes, 1):
                 with grasp.Agent(f"{own}.sock") as agent:
                     agent.stop()
                 if node.wait(PATIENCE) != 0:
@@ -223,6 +256,6 @@ def main():
 
 
 if __name__ == "__main__":
-    if not 2 <= len(sys.argv) <= 4 or sys.argv[1].startswith("-"):
+    if not 2 <= len(sys.argv) <= 6 or sys.argv[1].startswith("-"):
         sys.exit(__doc__.strip())
     sys.exit(main())
