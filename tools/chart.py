@@ -15,7 +15,8 @@ elsewhere is reckoned all the same. Calls that are answered `notyet`, one behind
 Each node has a lifeline, and time goes downwards. Arrows are drawn where something is delivered: solid for a datagram and
 for bytes of a stream, dashed for the arrival of a stream that was dialled. A box is an agent's call with its answer, a
 cross the end of a stream at the side that is told of it, and the readings of clocks stand at the left with the numbers of
-the lines. Every mark shows its report line when it is pointed at. @K is the address of node K, and .. stands in place of
+the lines: those of the script where that is known, as in the program's `bad script in line L`, and else those of the reports.
+Every mark shows its report line when it is pointed at. @K is the address of node K, and .. stands in place of
 the rest of a long value.
 
 Reports don't tell what a delivery made a node send. The tool reckons it by the rules of a node: which node dials a stream,
