@@ -1,5 +1,5 @@
--- What a doubter asks, and what is so of the prefix once the node that is asked has decided to accept the question.
-use Rattle.std.proofs.Common.{◌≡◌, ◌⊎◌, inl, inr, refl, sym, ap, ◌∙◌, subst, ℕ, true, List, Contains, Some, slice_get}
+-- What a doubter asks, and what is so of the prefix, and of the node that is asked, once that has decided to accept the question.
+use Rattle.std.proofs.Common.{◌≡◌, ◌⊎◌, inl, inr, refl, sym, ap, ◌∙◌, subst, ℕ, ◌<◌, true, List, Contains, Some, slice_get}
 use Rattle.std.proofs.lemmas.Option.{same_Some}
 use Rattle.grasp_doubter.specs.Questions.{doubt_name}
 use Rattle.grasp_doubter.specs.States.{DoubterState}
@@ -25,6 +25,7 @@ use Rattle.grasp_model_doubts.specs.Answered.{question}
 use Rattle.grasp_laws_negotiation.specs.Negotiations.{IsNegotiation}
 use Rattle.grasp_laws_negotiation.specs.Streams.{HasItsStream}
 use Rattle.grasp_laws_network.specs.Views.{view_at, view_in}
+use Rattle.grasp_laws_prefixes.proofs.Asked.{placed_one}
 use Rattle.grasp_laws_prefixes.proofs.Places.{same_place}
 use Rattle.grasp_laws_prefixes.proofs.Speaking.{accepts}
 use Rattle.grasp_laws_prefixes.proofs.Speech.{same_requested}
@@ -57,10 +58,19 @@ pub data HasDecided (w : WorldState) (ds : List DoubterState) (t : StreamState) 
   accepted : has_accepted Far t.said ≡ true → HasDecided w ds t
   acts : (b : IsAnswering w t) (d : DoubterState) (a : DoubtAct) → numbered ds b.node ≡ Some d → d.act ≡ Some a → a.accepts ≡ true → b.session.number ≡ a.handle.number → HasDecided w ds t
 
--- where it has, the prefix is accepted never on the stream for which this node has it listed
+-- the prefix of this offer is accepted never on its stream, and the node at which the stream of the question was opened is the one that dialled it
+pub record AnswersNever (w : WorldState) (t : StreamState) (o : Offered) : Type 0 where
+  pub unaccepted : StaysUnaccepted w o
+  pub far : StreamEnd
+  pub opened : t.far ≡ Some far
+  pub answerer : far.node ≡ unaccepted.at.talk.near.node
+
+-- the stream of the question was dialled after the one for which this node has the prefix listed; and where the far end has decided so, the
+-- prefix is accepted never there, and the far end is whoever dialled that
 pub record AskStands (w : WorldState) (ds : List DoubterState) (node : ℕ) (z : Sessions) (k : Ask) (h : Handle) : Type 0 where
   pub of : IsAskOf w node z k h
-  pub never : (place : ℕ) → Contains w.offers (offer_on node k.prefix place) → HasDecided w ds of.talk → StaysUnaccepted w (offer_on node k.prefix place)
+  pub later : (place : ℕ) → Contains w.offers (offer_on node k.prefix place) → place < of.place
+  pub never : (place : ℕ) → Contains w.offers (offer_on node k.prefix place) → HasDecided w ds of.talk → AnswersNever w of.talk (offer_on node k.prefix place)
 
 abbrev pub AsksStand : WorldState → List DoubterState → Type 0
 AsksStand w ds = OfEachDoubter (λ node seat d. (k : Ask) (h : Handle) → d.ask ≡ Some k → k.session ≡ Some h → AskStands w ds node seat.core.sessions k h) w ds
@@ -92,6 +102,26 @@ ask_on w y stay node z m made k h b =
       stands = u.stands;
       near = near_stays y.streams b.place b.talk u ∙ (b.near ∙ ap (end_of node) (sym f.2.stream));
     }
+
+-- as long as the prefix is accepted never, this is so
+pub answers_on : (w y : WorldState) → AllStay w.streams y.streams → (place : ℕ) (t u : StreamState) → slice_get w.streams place ≡ Some t → slice_get y.streams place ≡ Some u → (o : Offered) → AnswersNever w t o
+    → StaysUnaccepted y o → AnswersNever y u o
+answers_on w y stay place t u stands now o a n = record {
+  unaccepted = n;
+  far = a.far;
+  opened = ap (λ (x : StreamState). x.far) (same_Some u v.after (sym now ∙ v.stands)) ∙ v.ends Far a.far a.opened;
+  answerer = a.answerer ∙ ap (λ (e : StreamEnd). e.node) near;
+} where
+  v : Stays y.streams place t
+  v = stay place t stands
+
+  m : Stays y.streams a.unaccepted.at.place a.unaccepted.at.talk
+  m = stay a.unaccepted.at.place a.unaccepted.at.talk a.unaccepted.at.stands
+
+  near : a.unaccepted.at.talk.near ≡ n.at.talk.near
+  near =
+      sym (near_stays y.streams a.unaccepted.at.place a.unaccepted.at.talk m)
+      ∙ ap (λ (x : StreamState). x.near) (sym (placed_one y.streams o n.at a.unaccepted.at.place m.after a.unaccepted.at.is m.stands))
 
 -- the stream is a negotiation, and the question is what was requested on it
 pub record IsAskTalk (k : Ask) (t : StreamState) : Type 0 where
@@ -189,7 +219,7 @@ module _ (l : Grounds) (s : Setting) (w y : WorldState) (ds es : List DoubterSta
 
   -- where no doubter calls
   pub asks_kept : AsksStand w ds → AskedStand w ds → DoubtersWere ds es → NodesWere w y → OffersWere → ((o : Offered) → StaysUnaccepted w o → StaysUnaccepted y o) → AsksStand y es
-  asks_kept all asked were nodes offers unaccepted node new there e it k h ask session = record { of = now; never = never } where
+  asks_kept all asked were nodes offers unaccepted node new there e it k h ask session = record { of = now; later = λ place listed. a.later place (was_listed place listed); never = never } where
     d : (d : DoubterState) × (numbered ds node ≡ Some d) × (e.ask ≡ d.ask) × (e.act ≡ d.act)
     d = were node e it
 
@@ -202,8 +232,12 @@ module _ (l : Grounds) (s : Setting) (w y : WorldState) (ds es : List DoubterSta
     now : IsAskOf y node new.core.sessions k h
     now = ask_on w y stay node n.0.core.sessions new.core.sessions n.2 k h a.of
 
-    never : (place : ℕ) → Contains y.offers (offer_on node k.prefix place) → HasDecided y es now.talk → StaysUnaccepted y (offer_on node k.prefix place)
+    was_listed : (place : ℕ) → Contains y.offers (offer_on node k.prefix place) → Contains w.offers (offer_on node k.prefix place)
+    was_listed place listed = offers node n.0 n.1 k.prefix (asked node n.0 n.1 d.0 d.1 k (sym d.2 ∙ ask)).doubtful place listed
+
+    never : (place : ℕ) → Contains y.offers (offer_on node k.prefix place) → HasDecided y es now.talk → AnswersNever y now.talk (offer_on node k.prefix place)
     never place listed decided =
-        unaccepted (offer_on node k.prefix place)
-        (a.never place (offers node n.0 n.1 k.prefix (asked node n.0 n.1 d.0 d.1 k (sym d.2 ∙ ask)).doubtful place listed)
-        (decided_was were k a.of.place a.of.talk now.talk a.of.stands now.stands (ask_talk l s w r node n.0 n.1 k h a.of) (ask_talk l s y q node new there k h now) decided))
+        let old : AnswersNever w a.of.talk (offer_on node k.prefix place)
+        = a.never place (was_listed place listed)
+        (decided_was were k a.of.place a.of.talk now.talk a.of.stands now.stands (ask_talk l s w r node n.0 n.1 k h a.of) (ask_talk l s y q node new there k h now) decided) in
+        answers_on w y stay a.of.place a.of.talk now.talk a.of.stands now.stands (offer_on node k.prefix place) old (unaccepted (offer_on node k.prefix place) old.unaccepted)

@@ -1,8 +1,8 @@
 -- What the call of a doubter makes of the questions in a network.
-use Rattle.std.proofs.Common.{◌≡◌, ◌≢◌, ◌⊎◌, inl, inr, refl, sym, ap, ◌∙◌, subst, arith, ℕ, ◌+◌, ◌*◌, ◌-◌, ◌<◌, ◌≤◌, ◌||◌, Bool, true, false, List, Contains, Option, None, Some, slice_get, slice_set, slice_index_or}
+use Rattle.std.proofs.Common.{◌≡◌, ◌≢◌, ◌⊎◌, inl, inr, refl, sym, ap, ◌∙◌, subst, arith, ℕ, ◌+◌, ◌*◌, ◌-◌, ◌<◌, ◌≤◌, ◌||◌, Bool, true, false, List, Contains, Option, None, Some, get_or, length, slice_get, slice_set, slice_index_or}
 use Rattle.std.proofs.lemmas.Bool.{cases_eq, or_cases, true≢false}
 use Rattle.std.proofs.lemmas.List.{get_or-set_same}
-use Rattle.std.proofs.lemmas.Option.{none-some, same_Some}
+use Rattle.std.proofs.lemmas.Option.{none-some, same_Some, slice_get_cases, slice_get_within}
 use Rattle.grasp_agent.specs.Replies.{is_again}
 use Rattle.grasp_doubter.specs.Calls as doubter
 use Rattle.grasp_doubter.specs.Questions.{doubt_name, question_in, question_value}
@@ -52,11 +52,12 @@ use Rattle.grasp_laws_prefixes.proofs.Asking.{near_far}
 use Rattle.grasp_laws_prefixes.proofs.NeverAccepted.{quiet_unaccepted}
 use Rattle.grasp_laws_prefixes.proofs.Places.{same_place}
 use Rattle.grasp_laws_prefixes.proofs.Speaking.{accepts}
-use Rattle.grasp_laws_prefixes.proofs.Standing.{AllStay, Stays, StaysUnaccepted, WorldGoesOn}
+use Rattle.grasp_laws_prefixes.proofs.Standing.{AllStay, Stays, WorldGoesOn}
 use Rattle.grasp_laws_prefixes.specs.Apart.{offer_on}
+use Rattle.grasp_laws_prefixes.specs.Known.{HasStream}
 use Rattle.grasp_session.proofs.Tables.{state_slot}
 use Rattle.grasp_laws_doubts.proofs.Answering.{IsAnswerOf, answer_accepts, answers}
-use Rattle.grasp_laws_doubts.proofs.Asking.{AskStands, AskedStand, AsksStand, HasDecided, IsAskOf, IsAskTalk, accepted, acts, ask_on, ask_talk}
+use Rattle.grasp_laws_doubts.proofs.Asking.{AnswersNever, AskStands, AskedStand, AsksStand, HasDecided, IsAskOf, IsAskTalk, accepted, acts, answers_on, ask_on, ask_talk}
 use Rattle.grasp_laws_doubts.proofs.Calling.{IsCalled}
 use Rattle.grasp_laws_doubts.proofs.Changing.{IsLater, MadeStay, SaysBy, WasOwn, back_on, itself, later_then, own_was}
 use Rattle.grasp_laws_doubts.proofs.Changing as changing
@@ -150,7 +151,7 @@ module _ (l : Grounds) (s : Setting) (w y : WorldState) (ds : List DoubterState)
       (stands : slice_get w.streams place ≡ Some t) (now : slice_get y.streams place ≡ Some u) (talk_before : IsAskTalk k t) (talk : IsAskTalk k u) where
     -- either the node that is asked had decided so, or it has just decided, and the prefix is accepted never
     abbrev WasDecided : Type 0
-    WasDecided = HasDecided w ds t ⊎ ((at : ℕ) → Contains y.offers (offer_on giver k.prefix at) → StaysUnaccepted y (offer_on giver k.prefix at))
+    WasDecided = HasDecided w ds t ⊎ ((at : ℕ) → Contains y.offers (offer_on giver k.prefix at) → AnswersNever y u (offer_on giver k.prefix at))
 
     module _ (b : IsAnswering y u) where
       far_before : (x : SessionState) → IsLater x b.session → u.far ≡ Some (end_of b.node x.stream)
@@ -225,7 +226,7 @@ module _ (l : Grounds) (s : Setting) (w y : WorldState) (ds : List DoubterState)
 
   old_stands : (all : AsksStand w ds) (m : ℕ) (z : Seat) → seat_at y m ≡ Some z → (g : DoubterState) → numbered ds m ≡ Some g → (k : Ask) (h : Handle) → g.ask ≡ Some k → k.session ≡ Some h
       → AskStands y es m z.core.sessions k h
-  old_stands all m z at g it k h ask session = record { of = now; never = never } where
+  old_stands all m z at g it k h ask session = record { of = now; later = λ place listed. a.later place (was_listed place listed); never = never } where
     x : (x : Seat) × (seat_at w m ≡ Some x) × MadeStay 2 x.core.sessions z.core.sessions
     x = made_stay m z at
 
@@ -238,14 +239,18 @@ module _ (l : Grounds) (s : Setting) (w y : WorldState) (ds : List DoubterState)
     now_stands : slice_get y.streams a.of.place ≡ Some now.talk
     now_stands = now.stands
 
-    never : (place : ℕ) → Contains y.offers (offer_on m k.prefix place) → HasDecided y es now.talk → StaysUnaccepted y (offer_on m k.prefix place)
+    was_listed : (place : ℕ) → Contains y.offers (offer_on m k.prefix place) → Contains w.offers (offer_on m k.prefix place)
+    was_listed place listed = subst (λ (os : List Offered). Contains os (offer_on m k.prefix place)) goes.offers listed
+
+    never : (place : ℕ) → Contains y.offers (offer_on m k.prefix place) → HasDecided y es now.talk → AnswersNever y now.talk (offer_on m k.prefix place)
     never place listed decided =
         by_case
         (decided_before m x.0 x.1 g it k ask a.of.place a.of.talk now.talk a.of.stands now_stands (ask_talk l s w r m x.0 x.1 k h a.of) (ask_talk l s y q m z at k h now) decided) where
-          by_case : HasDecided w ds a.of.talk ⊎ ((place : ℕ) → Contains y.offers (offer_on m k.prefix place) → StaysUnaccepted y (offer_on m k.prefix place)) → StaysUnaccepted y (offer_on m k.prefix place)
+          by_case : HasDecided w ds a.of.talk ⊎ ((place : ℕ) → Contains y.offers (offer_on m k.prefix place) → AnswersNever y now.talk (offer_on m k.prefix place)) → AnswersNever y now.talk (offer_on m k.prefix place)
           by_case (inl had) =
-              quiet_unaccepted l.prefixes s w r y stay (offer_on m k.prefix place)
-              (a.never place (subst (λ (os : List Offered). Contains os (offer_on m k.prefix place)) goes.offers listed) had) q goes
+              let old : AnswersNever w a.of.talk (offer_on m k.prefix place) = a.never place (was_listed place listed) had in
+              answers_on w y stay a.of.place a.of.talk now.talk a.of.stands now_stands (offer_on m k.prefix place) old
+              (quiet_unaccepted l.prefixes s w r y stay (offer_on m k.prefix place) old.unaccepted q goes)
           by_case (inr just) = just place listed
 
   -- ---- a question that has just been requested
@@ -321,6 +326,33 @@ module _ (l : Grounds) (s : Setting) (w y : WorldState) (ds : List DoubterState)
       near = near;
     }
 
+    -- no stream that was there stands at its place
+    place_new : (t : StreamState) → slice_get w.streams stream.place ≡ Some t → ⊥
+    place_new t stands =
+        let u : Stays y.streams stream.place t = stay stream.place t stands in
+        let dialled : t.near ≡ end_of node started.stream
+        = sym (near_stays y.streams stream.place t u) ∙ (ap (λ (v : StreamState). v.near) (same_Some u.after stream.talk (sym u.stands ∙ stream.stands)) ∙ near) in
+        let below : t.near.number < 2 * seat.core.streams.dialled =
+        every_at (λ (v : StreamState). v.near.node ≡ node → v.near.number < 2 * seat.core.streams.dialled) w.streams (l.prefixes.ready.next s w r node seat here) stream.place t stands
+        (ap (λ (v : StreamEnd). v.node) dialled) in
+        let number : t.near.number ≡ 2 * n.streams.dialled = ap (λ (v : StreamEnd). v.number) dialled in
+        let begun_dialled : n.streams.dialled ≡ seat.core.streams.dialled = (beginnings_end seat.core call.now).0.dialled in
+        omega (arith, below, number, begun_dialled)
+
+    -- and so each offer is for one that was dialled before
+    later : (place : ℕ) → Contains y.offers (offer_on node k.prefix place) → place < stream.place
+    later place listed = by_streams ((l.offers s w r).streams (offer_on node k.prefix place) (subst (λ (os : List Offered). Contains os (offer_on node k.prefix place)) goes.offers listed)) where
+      by_place : place < length w.streams → place < stream.place
+      by_place within = by_case (slice_get_cases w.streams stream.place).1 where
+        by_case : ((t : StreamState) × (stream.place < length w.streams) × (slice_get w.streams stream.place ≡ Some t) × (get_or w.streams stream.place t ≡ t)) ⊎ ((length w.streams ≤ stream.place) × (slice_get w.streams stream.place ≡ None))
+            → place < stream.place
+        by_case (inl p) = absurd (place_new p.0 p.2)
+        by_case (inr p) = let past = p.0 in omega (arith, within, past)
+
+      by_streams : HasStream w (offer_on node k.prefix place) ⊎ (Some place ≡ None) → place < stream.place
+      by_streams (inl h) = by_place (slice_get_within w.streams place h.talk (ap (λ m. slice_get w.streams m) (same_Some place h.place h.is) ∙ h.stands))
+      by_streams (inr none) = absurd (none-some place (sym none))
+
     -- no session that was there answers on this stream
     module _ (a : IsAnswering y stream.talk) where
       not_before : (z : Seat) → seat_at w a.node ≡ Some z → (x : SessionState) → WasMade z.core.sessions x → IsLater x a.session → ⊥
@@ -358,7 +390,7 @@ module _ (l : Grounds) (s : Setting) (w y : WorldState) (ds : List DoubterState)
         differ e = absurd (cc)
 
     new_stands : AskStands y es node c.after.sessions k h
-    new_stands = record { of = of; never = λ place listed decided. absurd (none_decided decided) } where
+    new_stands = record { of = of; later = later; never = λ place listed decided. absurd (none_decided decided) } where
       talks : IsAskTalk k stream.talk
       talks = ask_talk l s y q node new there k h of
 

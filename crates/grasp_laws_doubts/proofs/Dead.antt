@@ -1,4 +1,5 @@
--- Where the call of a doubter settles a prefix, that is accepted never on the stream for which it is listed, and so it is dead.
+-- Where the call of a doubter settles a prefix, that is accepted never on the stream for which it is listed, and so it is dead; and the node to which
+-- it was offered has answered so.
 use Rattle.std.proofs.Common.{◌≡◌, ◌⊎◌, inl, inr, refl, sym, ap, ◌∙◌, subst, arith, ℕ, ◌+◌, ◌*◌, ◌-◌, ◌<◌, ◌≤◌, ◌==◌, ◌&&◌, ◌||◌, Bool, true, false, cond, List, [], ◌∷◌, Contains, Option, None, Some, slice_get, slice_set}
 use Rattle.std.proofs.lemmas.Bool.{or_right, true≢false}
 use Rattle.std.proofs.lemmas.Option.{none-some, same_Some}
@@ -42,6 +43,7 @@ use Rattle.grasp_model_network.specs.Settling.{IsDead}
 use Rattle.grasp_model_network.specs.Streams.{StreamEnd, StreamState, end_at}
 use Rattle.grasp_model_network.specs.Visits.{Choice}
 use Rattle.grasp_model_network.specs.World.{Offered, Seat, WorldState, end_of, member_of, present_life, seat_at}
+use Rattle.grasp_model_doubts.specs.Answered.{IsQuestion, WasAnswered}
 use Rattle.grasp_model_doubts.specs.World.{with_doubter}
 use Rattle.grasp_laws_agents.proofs.GoingOn.{heard_alike}
 use Rattle.grasp_laws_agents.proofs.Places.{owned_at}
@@ -52,24 +54,28 @@ use Rattle.grasp_laws_negotiation.specs.Streams.{HasItsStream}
 use Rattle.grasp_laws_network.specs.Views.{view_at, view_in}
 use Rattle.grasp_laws_node.proofs.Meaning.Acts.{number_at}
 use Rattle.grasp_laws_node.specs.Means.{PollFacts}
+use Rattle.grasp_laws_prefixes.proofs.Asked.{placed_one}
 use Rattle.grasp_laws_prefixes.proofs.Listing.{first_in}
 use Rattle.grasp_laws_prefixes.proofs.NeverAccepted.{quiet_unaccepted}
 use Rattle.grasp_laws_prefixes.proofs.OneNode.{seat_there}
 use Rattle.grasp_laws_prefixes.proofs.Places.{same_place}
+use Rattle.grasp_laws_prefixes.proofs.Speech.{same_requested}
 use Rattle.grasp_laws_prefixes.proofs.Standing.{Stays, StaysUnaccepted, WorldGoesOn}
 use Rattle.grasp_laws_prefixes.specs.Apart.{offer_on}
 use Rattle.grasp_laws_prefixes.specs.Known.{HasInDoubt}
 use Rattle.grasp_session.proofs.Tables.{state_slot}
-use Rattle.grasp_laws_doubts.proofs.Asking.{AskStands, AskedFor, AskedStand, AsksStand, HasDecided, IsAskOf, accepted, ask_on, ask_talk}
+use Rattle.grasp_laws_doubts.proofs.Answered.{answered_on}
+use Rattle.grasp_laws_doubts.proofs.Asking.{AnswersNever, AskStands, AskedFor, AskedStand, AsksStand, HasDecided, IsAskOf, IsAskTalk, accepted, answers_on, ask_on, ask_talk}
 use Rattle.grasp_laws_doubts.proofs.Called.{decided_before, there}
 use Rattle.grasp_laws_doubts.proofs.Calling.{IsCalled}
 use Rattle.grasp_laws_doubts.proofs.Changing.{owner_at}
 use Rattle.grasp_laws_doubts.proofs.Decisions.{PlansStand, not_pending}
 use Rattle.grasp_laws_doubts.proofs.Offering.{one_number}
-use Rattle.grasp_laws_doubts.proofs.Opening.{PlansLast, near_stays}
+use Rattle.grasp_laws_doubts.proofs.Opening.{PlansLast, dialled_on, near_stays, quiet_plans}
 use Rattle.grasp_laws_doubts.proofs.Quiet.{IsQuiet}
 use Rattle.grasp_laws_doubts.proofs.Taking.{IsSettling, settles_so, told_accepted}
 use Rattle.grasp_laws_doubts.specs.Grounds.{Grounds}
+use Rattle.grasp_laws_doubts.specs.Opening.{IsDialledBy}
 use Rattle.grasp_laws_doubts.specs.Remembering.{RemembersAll}
 use Rattle.grasp_laws_doubts.specs.Sending.{IsOfferedTo, SentStand}
 use Rattle.grasp_laws_doubts.specs.Standing.{ServeStand}
@@ -243,15 +249,63 @@ module _ (l : Grounds) (s : Setting) (w y : WorldState) (ds : List DoubterState)
   abbrev now_asks : IsAskOf y node c.after.sessions k h
   now_asks = ask_on w y goes.streams node seat.core.sessions c.after.sessions called.stay k h a.of
 
-  -- in the network after the call, the prefix is never accepted
-  never : StaysUnaccepted y (offer_on node k.prefix offered.place)
-  never =
+  asks_now : IsAskTalk k v.after
+  asks_now = ask_talk l s y q node (seat_with c.after seat.agent) now_at k h now_asks
+
+  -- in the network after the call, the prefix is never accepted, and whoever dialled the stream of its offer has answered so
+  answers : AnswersNever y v.after (offer_on node k.prefix offered.place)
+  answers =
       by_case
       (decided_before l s w y ds r q plans goes different serves serves_now sent asked node seat c here d is put address remembers called node seat here d is k t.ask_is a.of.place a.of.talk v.after a.of.stands v.stands
-      (ask_talk l s w r node seat here k h a.of) (ask_talk l s y q node (seat_with c.after seat.agent) now_at k h now_asks) (accepted answered)) where
-        by_case : HasDecided w ds a.of.talk ⊎ ((place : ℕ) → Contains y.offers (offer_on node k.prefix place) → StaysUnaccepted y (offer_on node k.prefix place)) → StaysUnaccepted y (offer_on node k.prefix offered.place)
-        by_case (inl had) = quiet_unaccepted l.prefixes s w r y goes.streams (offer_on node k.prefix offered.place) (a.never offered.place offered.listed had) q goes
+      (ask_talk l s w r node seat here k h a.of) asks_now (accepted answered)) where
+        by_case : HasDecided w ds a.of.talk ⊎ ((place : ℕ) → Contains y.offers (offer_on node k.prefix place) → AnswersNever y v.after (offer_on node k.prefix place))
+            → AnswersNever y v.after (offer_on node k.prefix offered.place)
+        by_case (inl had) =
+            let old : AnswersNever w a.of.talk (offer_on node k.prefix offered.place) = a.never offered.place offered.listed had in
+            answers_on w y goes.streams a.of.place a.of.talk v.after a.of.stands v.stands (offer_on node k.prefix offered.place) old
+            (quiet_unaccepted l.prefixes s w r y goes.streams (offer_on node k.prefix offered.place) old.unaccepted q goes)
         by_case (inr just) = just offered.place listed
+
+  never : StaysUnaccepted y (offer_on node k.prefix offered.place)
+  never = answers.unaccepted
+
+  -- the stream of the offer, then, and who dialled it
+  abbrev m : Stays y.streams offered.place offered.talk
+  m = goes.streams offered.place offered.talk offered.stands
+
+  by : IsDialledBy y m.after k.address
+  by = dialled_on w y plans offered.talk m.after k.address (near_stays y.streams offered.place offered.talk m) offered.by
+
+  answered_now : WasAnswered y (offer_on node k.prefix offered.place)
+  answered_now = record {
+    place = offered.place;
+    talk = m.after;
+    on = refl;
+    stands = m.stands;
+    requester = by.dialler;
+    dialled = by.dialled;
+    question_place = a.of.place;
+    asking = v.after;
+    asked = v.stands;
+    later = a.later offered.place offered.listed;
+    asker = ap (λ (e : StreamEnd). e.node) near;
+    is = subst (λ x. IsQuestion x k.prefix v.after) (sym by.address) (record { opens = negotiation; asks = sym (same_requested v.after.said) ∙ asks_now.asks });
+    far = answers.far;
+    opened = answers.opened;
+    answerer = answers.answerer ∙ ap (λ (u : StreamState). u.near.node) (placed_one y.streams (offer_on node k.prefix offered.place) answers.unaccepted.at offered.place m.after refl m.stands);
+    accepted = answered;
+  }
+
+  -- so it is in a network to which that one goes on, quietly, of the offer of this prefix that is listed for the member
+  pub settled_answered : (z : WorldState) → IsReached s z → IsQuiet y z → member_of z node ≡ node → (o : Offered) → Contains z.offers o → member_of z o.node ≡ node → o.prefix ≡ p → WasAnswered z o
+  settled_answered z reached quiet member o has own same =
+      subst (λ (x : Offered). WasAnswered z x) one (answered_on l s y z q reached quiet.goes.streams (quiet_plans y z quiet) (offer_on node k.prefix offered.place) answered_now)
+    where
+      still : Contains z.offers (offer_on node k.prefix offered.place)
+      still = subst (λ (os : List Offered). Contains os (offer_on node k.prefix offered.place)) (sym quiet.goes.offers) listed
+
+      one : offer_on node k.prefix offered.place ≡ o
+      one = (l.offers s z reached).once (offer_on node k.prefix offered.place) o still has (member ∙ sym own) (t.prefix ∙ sym same)
 
   -- and so it is dead in a network to which that one goes on, quietly
   pub settled_dead : (z : WorldState) → IsReached s z → IsQuiet y z → present_life z node ≡ node → member_of z node ≡ node → IsDead z node p

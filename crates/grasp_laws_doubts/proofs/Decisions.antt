@@ -36,18 +36,19 @@ use Rattle.grasp_model_network.specs.Sending.{seat_with}
 use Rattle.grasp_model_network.specs.Setting.{Setting, numbered}
 use Rattle.grasp_model_network.specs.Streams.{StreamState}
 use Rattle.grasp_model_network.specs.Visits.{Choice}
-use Rattle.grasp_model_network.specs.World.{Offered, Seat, WorldState, seat_at}
+use Rattle.grasp_model_network.specs.World.{Offered, Seat, WorldState, end_of, seat_at}
 use Rattle.grasp_model_doubts.specs.Answered.{question}
 use Rattle.grasp_laws_agents.specs.Giving.{OffersIn}
 use Rattle.grasp_laws_delivery.proofs.Worlds.{reached_in_order}
 use Rattle.grasp_laws_node.specs.Means.{Takes}
+use Rattle.grasp_laws_prefixes.proofs.Asked.{placed_one}
 use Rattle.grasp_laws_prefixes.proofs.EntryOffers.{offers_reserved}
 use Rattle.grasp_laws_prefixes.proofs.OneNode.{seat_there}
 use Rattle.grasp_laws_prefixes.proofs.Standing.{AllStay, StaysUnaccepted, WorldGoesOn}
 use Rattle.grasp_laws_prefixes.specs.Apart.{offer_on}
 use Rattle.grasp_laws_session.proofs.Runs.{at_below}
 use Rattle.grasp_laws_doubts.proofs.Answering.{decides_so}
-use Rattle.grasp_laws_doubts.proofs.Asking.{AskedFor, AskedStand, IsAskTalk}
+use Rattle.grasp_laws_doubts.proofs.Asking.{AnswersNever, AskedFor, AskedStand, IsAskTalk}
 use Rattle.grasp_laws_doubts.proofs.Calling.{IsCalled, incoming_takes}
 use Rattle.grasp_laws_doubts.proofs.Deciding.{SaysNever, never_accepted, says_never}
 use Rattle.grasp_laws_doubts.proofs.Offering.{offered_on, one_number}
@@ -166,7 +167,21 @@ module _ (l : Grounds) (s : Setting) (w y : WorldState) (ds : List DoubterState)
       let f = goes.seats giver giver_now.0 giver_now.1 in
       subst (λ z. Contains z.doubtful k.prefix) (sym (f.2.pool ∙ ap (λ (z : Seat). z.agent.pool) (same_Some f.0 gives (sym f.1 ∙ there)))) for.doubtful
 
-  pub never_there : (place : ℕ) → Contains y.offers (offer_on giver k.prefix place) → StaysUnaccepted y (offer_on giver k.prefix place)
-  never_there place listed =
-      subst (λ (z : Offered). StaysUnaccepted y z) ((l.offers s y q).once (offer_on giver k.prefix offered_now.place) (offer_on giver k.prefix place) offered_now.listed listed refl refl)
-      (never_accepted l s y q node new here d remembers asks never giver giver_now.0 giver_now.1 doubtful_now k.address offered_now near)
+  -- the one that dialled the stream of the offer is the node that is asked
+  pub never_there : (place : ℕ) → Contains y.offers (offer_on giver k.prefix place) → AnswersNever y u (offer_on giver k.prefix place)
+  never_there place listed = record {
+    unaccepted = n;
+    far = end_of b.node b.session.stream;
+    opened = b.far;
+    answerer = same ∙ (sym near ∙ ap (λ (t : StreamState). t.near.node) (sym talk_is));
+  } where
+    one : offer_on giver k.prefix offered_now.place ≡ offer_on giver k.prefix place
+    one = (l.offers s y q).once (offer_on giver k.prefix offered_now.place) (offer_on giver k.prefix place) offered_now.listed listed refl refl
+
+    n : StaysUnaccepted y (offer_on giver k.prefix place)
+    n =
+        subst (λ (z : Offered). StaysUnaccepted y z) one
+        (never_accepted l s y q node new here d remembers asks never giver giver_now.0 giver_now.1 doubtful_now k.address offered_now near)
+
+    talk_is : n.at.talk ≡ offered_now.talk
+    talk_is = placed_one y.streams (offer_on giver k.prefix place) n.at offered_now.place offered_now.talk (ap (λ (z : Offered). z.talk) (sym one)) offered_now.stands

@@ -28,9 +28,10 @@ use Rattle.grasp_model_network.specs.Sending.{event_drain, seat_with}
 use Rattle.grasp_model_network.specs.Setting.{Setting, numbered}
 use Rattle.grasp_model_network.specs.Settling.{IsDead, after_settle}
 use Rattle.grasp_model_network.specs.Visits.{Choice, Visit}
-use Rattle.grasp_model_network.specs.World.{Seat, WorldState, is_present, member_of, present_life, seat_at}
+use Rattle.grasp_model_network.specs.World.{Offered, Seat, WorldState, is_present, member_of, present_life, seat_at}
 use Rattle.grasp_model_network.specs.declared.event.Event.{Event}
 use Rattle.grasp_model_network.specs.declared.event.Event.TheVariants as event
+use Rattle.grasp_model_doubts.specs.Answered.{WasAnswered}
 use Rattle.grasp_model_doubts.specs.Events.{CallOccurs, DoubtOccurs, doubt_event}
 use Rattle.grasp_model_doubts.specs.Runs.{IsToldOpeners}
 use Rattle.grasp_model_doubts.specs.Steps.{after_doubter_call, doubter_event, taken_at, taken_beside}
@@ -62,14 +63,14 @@ use Rattle.grasp_laws_doubts.proofs.Both.{agent_put, call_put, put_both, put_dou
 use Rattle.grasp_laws_doubts.proofs.Called.{call_asks}
 use Rattle.grasp_laws_doubts.proofs.Calling.{IsCalled, doubter_called, doubter_serves}
 use Rattle.grasp_laws_doubts.proofs.Cores.{SameCores, cores_plans, put_plans, settled_cores, told_cores}
-use Rattle.grasp_laws_doubts.proofs.Dead.{settled_dead}
+use Rattle.grasp_laws_doubts.proofs.Dead.{settled_answered, settled_dead}
 use Rattle.grasp_laws_doubts.proofs.Decisions.{PlansStand}
 use Rattle.grasp_laws_doubts.proofs.Forgetting.{Forgets, take_forgets}
 use Rattle.grasp_laws_doubts.proofs.Offered.{ask_sent, call_sent, quiet_sent, settle_sent, told_sent}
 use Rattle.grasp_laws_doubts.proofs.Offering.{agent_sent}
 use Rattle.grasp_laws_doubts.proofs.Openers.{agent_openers, agent_plans, cores_openers, doubter_openers}
 use Rattle.grasp_laws_doubts.proofs.Opening.{PlansLast, going_openers, quiet_plans}
-use Rattle.grasp_laws_doubts.proofs.Parts.{DoubtPartsKeep, SettlesDead, after_is, agent_visit_of, behind_agent, doubter_visit_of, step_of}
+use Rattle.grasp_laws_doubts.proofs.Parts.{DoubtPartsKeep, after_is, agent_visit_of, behind_agent, doubter_visit_of, step_of}
 use Rattle.grasp_laws_doubts.proofs.Questions.{agent_asks, agent_serves_on, ask_asks, cores_stay, quiet_asks, settle_asks, stay_serves, told_asks}
 use Rattle.grasp_laws_doubts.proofs.Quiet.{IsQuiet, drain_quiet, quiet_serves, step_quiet}
 use Rattle.grasp_laws_doubts.proofs.Resting.{saw_rest}
@@ -141,7 +142,7 @@ module _ (l : Grounds) (s : Setting) (told_so : IsToldOpeners s) where
   -- ---- numbers
 
   module _ (w : WorldState) (ds : List DoubterState) (k : DoubtersStand s w ds) where
-    member_present : (node : ℕ) → IsNode (length s.members) node → present_life w node ≡ node
+    pub member_present : (node : ℕ) → IsNode (length s.members) node → present_life w node ≡ node
     member_present node is = same_present (first_world s) w node k.lives ∙ first_present s node is
 
     member_own : (node : ℕ) → IsNode (length s.members) node → member_of w node ≡ node
@@ -302,17 +303,27 @@ module _ (l : Grounds) (s : Setting) (told_so : IsToldOpeners s) where
           call_asks l s w y ds r q plans goes different k.serve serves_now k.sent k.asked node seat c here d is (call_put w node seat d c present) address (accepted_now node new there d is) called k.asks;
     }
 
-    -- what it settles is dead once what is queued was sent
-    pub call_dead : (p : Prefix) → (after_take d seat.agent c.reply).settled ≡ Some p → IsReached s (network.drained s y (present_life w node) event_drain) → IsDead (network.drained s y (present_life w node) event_drain) node p
+    -- the network once what is queued was sent
+    abbrev z : WorldState
+    z = network.drained s y (present_life w node) event_drain
+
+    quiet : IsQuiet y z
+    quiet = drain_quiet l s y q serves_now (present_life w node) event_drain (present_least w node)
+
+    member : member_of z node ≡ node
+    member = same_member w z node (quiet.goes.lives ∙ goes.lives) ∙ member_own w ds k node (doubter_member w ds k node d is)
+
+    -- what it settles is dead then
+    pub call_dead : (p : Prefix) → (after_take d seat.agent c.reply).settled ≡ Some p → IsReached s z → IsDead z node p
     call_dead p settled reached =
         settled_dead l s w y ds r q plans goes different k.serve serves_now k.sent k.asked node seat c here d is (call_put w node seat d c present) address (accepted_now node new there d is) called k.asks p settled z reached quiet
-        (same_present w z node (quiet.goes.lives ∙ goes.lives) ∙ present) (same_member w z node (quiet.goes.lives ∙ goes.lives) ∙ member_own w ds k node (doubter_member w ds k node d is))
-      where
-        z : WorldState
-        z = network.drained s y (present_life w node) event_drain
+        (same_present w z node (quiet.goes.lives ∙ goes.lives) ∙ present) member
 
-        quiet : IsQuiet y z
-        quiet = drain_quiet l s y q serves_now (present_life w node) event_drain (present_least w node)
+    -- and was answered for
+    pub call_answered : (p : Prefix) → (after_take d seat.agent c.reply).settled ≡ Some p → IsReached s z → (o : Offered) → Contains z.offers o → member_of z o.node ≡ node → o.prefix ≡ p → WasAnswered z o
+    call_answered p settled reached =
+        settled_answered l s w y ds r q plans goes different k.serve serves_now k.sent k.asked node seat c here d is (call_put w node seat d c present) address (accepted_now node new there d is) called k.asks p settled z reached quiet
+        member
 
   -- ---- an agent of prefixes is told something
 
@@ -399,7 +410,7 @@ module _ (l : Grounds) (s : Setting) (told_so : IsToldOpeners s) where
 
   -- ---- every part of an event
 
-  pub parts_keep : DoubtPartsKeep s (DoubtersStand s)
+  pub parts_keep : DoubtPartsKeep s IsDead (DoubtersStand s)
   parts_keep = record {
     steps = λ w ds e c v r k o plain is others q. quiet_stand w (after_visit s w e v c) ds r q (step_quiet l s w r k.serve e c v o plain is others) k;
     agents = λ w ds node hold c seat d r k o visit_is at is step q. agent_stand w ds node hold c seat d r k o visit_is at is step q;

@@ -84,6 +84,7 @@ pub record HasCalled (s : Setting) (w y : WorldState) (node : ℕ) (seat : Seat)
   pub reached : IsReached s y
   pub lives : y.lives ≡ (first_world s).lives
   pub bytes : y.byte_count ≡ 0
+  pub settled : y.settled ≡ w.settled
   pub seats : y.seats ≡ slice_set w.seats (node - 1) (seat_with (called seat.core o.asa o.call o.answer) seat.agent)
 
 module _ (s : Setting) (w : WorldState) (r : IsReached s w) (lives : w.lives ≡ (first_world s).lives) (bytes : w.byte_count ≡ 0) (node : ℕ) (is : IsNode (length s.members) node) (seat : Seat) (here : seat_at w node ≡ Some seat)
@@ -116,6 +117,10 @@ module _ (s : Setting) (w : WorldState) (r : IsReached s w) (lives : w.lives ≡
   unfolding after_agent_call noted stepped
   y_bytes = refl
 
+  y_settled : y.settled ≡ w.settled
+  unfolding after_agent_call noted stepped
+  y_settled = refl
+
   y_seats : y.seats ≡ slice_set w.seats (present_life w node - 1) (seat_with c.after seat.agent)
   unfolding after_agent_call noted stepped
   y_seats = refl
@@ -131,6 +136,7 @@ module _ (s : Setting) (w : WorldState) (r : IsReached s w) (lives : w.lives ≡
     reached = reached_more s w e c r occurs;
     lives = event_lives s w e c ∙ lives;
     bytes = ap (λ (z : WorldState). z.byte_count) after ∙ (y_bytes ∙ bytes);
+    settled = ap (λ (z : WorldState). z.settled) after ∙ y_settled;
     seats = ap (λ (z : WorldState). z.seats) after ∙ (y_seats ∙ ap (λ m. slice_set w.seats (m - 1) (seat_with c.after seat.agent)) present);
   }
 
@@ -145,13 +151,14 @@ pub record OpensBelow (s : Setting) (k : ℕ) (w : WorldState) : Type 0 where
   pub reached : IsReached s w
   pub lives : w.lives ≡ (first_world s).lives
   pub bytes : w.byte_count ≡ 0
+  pub settled : w.settled ≡ []
   pub seats : (node : ℕ) (seat : Seat) → seat_at w node ≡ Some seat → (m : Member) × (numbered s.members node ≡ Some m) × (node < k → seat ≡ seat_with (listening (first_seat m).core) (first_seat m).agent)
       × (k ≤ node → seat ≡ first_seat m)
 
 module _ (questions : QuestionsBegin) (s : Setting) (good : IsGoodSetting s) where
   first_opens : OpensBelow s 1 (first_world s)
   unfolding first_world
-  first_opens = record { reached = first_reached s good; lives = refl; bytes = refl; seats = seats } where
+  first_opens = record { reached = first_reached s good; lives = refl; bytes = refl; settled = refl; seats = seats } where
     seats : (node : ℕ) (seat : Seat) → seat_at (first_world s) node ≡ Some seat → (m : Member) × (numbered s.members node ≡ Some m) × (node < 1 → seat ≡ seat_with (listening (first_seat m).core) (first_seat m).agent)
         × (1 ≤ node → seat ≡ first_seat m)
     seats node seat here =
@@ -234,7 +241,7 @@ module _ (questions : QuestionsBegin) (s : Setting) (good : IsGoodSetting s) whe
 
     next_opens : OpensBelow s (k + 1) (after_opening s w k)
     unfolding after_opening
-    next_opens = record { reached = h_3.reached; lives = h_3.lives; bytes = h_3.bytes; seats = seats } where
+    next_opens = record { reached = h_3.reached; lives = h_3.lives; bytes = h_3.bytes; settled = h_3.settled ∙ (h_2.settled ∙ (h_1.settled ∙ b.settled)); seats = seats } where
       seats : (node : ℕ) (seat : Seat) → seat_at w_3 node ≡ Some seat → (j : Member) × (numbered s.members node ≡ Some j) × (node < k + 1 → seat ≡ seat_with (listening (first_seat j).core) (first_seat j).agent)
           × (k + 1 ≤ node → seat ≡ first_seat j)
       seats node seat found = by_node (cases_eq node k) where
@@ -266,6 +273,10 @@ module _ (questions : QuestionsBegin) (s : Setting) (good : IsGoodSetting s) whe
   last : OpensBelow s (length s.members + 1) (first_doubts s).world
   unfolding first_doubts
   last = all_open 1 (length s.members) (first_world s) (omega arith) (omega arith) first_opens
+
+  -- nothing was settled
+  pub first_settled : (first_doubts s).world.settled ≡ []
+  first_settled = last.settled
 
   open_at : (node : ℕ) (seat : Seat) → seat_at (first_doubts s).world node ≡ Some seat → (m : Member) × (numbered s.members node ≡ Some m) × (seat ≡ seat_with (listening (first_seat m).core) (first_seat m).agent)
   open_at node seat here =

@@ -1,4 +1,5 @@
 pub mod Accepting
+pub mod Answered
 pub mod Answering
 pub mod Asked
 pub mod Asking

@@ -26,7 +26,7 @@ use Rattle.grasp_model_network.specs.Runs.{IsReached}
 use Rattle.grasp_model_network.specs.Sending as network
 use Rattle.grasp_model_network.specs.Sending.{event_drain, seat_with, stepped, drained_at, drained_from}
 use Rattle.grasp_model_network.specs.Setting.{Setting, numbered}
-use Rattle.grasp_model_network.specs.Settling.{IsDead, after_settle}
+use Rattle.grasp_model_network.specs.Settling.{after_settle}
 use Rattle.grasp_model_network.specs.Visits.{Visit, Choice, MayCome, VisitStep, visit_seat}
 use Rattle.grasp_model_network.specs.World.{Seat, WorldState, present_life, seat_at, with_seat}
 use Rattle.grasp_model_network.specs.declared.event.Event.{Event}
@@ -61,8 +61,8 @@ agent_visit_of w node seat = record { node = present_life w node; seat = seat; n
 abbrev pub doubter_visit_of : WorldState → ℕ → Seat → DoubterState → Visit
 doubter_visit_of w node seat d = record { node = present_life w node; seat = seat; now = seat.core.reading; input = input.Api 2 (doubter.next_call d) }
 
--- what each part of an event keeps of a network and of its doubters
-pub record DoubtPartsKeep (s : Setting) (P : WorldState → List DoubterState → Type 0) : Type 0 where
+-- what each part of an event keeps of a network and of its doubters, where S is so of each prefix that a doubter settles
+pub record DoubtPartsKeep (s : Setting) (S : WorldState → ℕ → Prefix → Type 0) (P : WorldState → List DoubterState → Type 0) : Type 0 where
   -- a step, and the network after it, which turns lead to
   pub steps : (w : WorldState) (ds : List DoubterState) (e : Event) (c : Choice) (v : Visit) → IsReached s w → P w ds → Occurs s w e c → IsPlain e → visit_of s w e ≡ Some v → IsOthersStep e
       → IsReached s (after_visit s w e v c) → P (after_visit s w e v c) ds
@@ -81,7 +81,7 @@ pub record DoubtPartsKeep (s : Setting) (P : WorldState → List DoubterState �
   -- a drain
   pub drains : (w : WorldState) (ds : List DoubterState) (node max : ℕ) → IsReached s w → IsReached s (network.drained s w node max) → P w ds → 1 ≤ node → P (network.drained s w node max) ds
   -- a settling behind the reply that says so
-  pub settles : (w : WorldState) (ds : List DoubterState) (node : ℕ) (p : Prefix) (d f : DoubterState) (r : Reply) (seat : Seat) → IsReached s w → IsDead w node p → numbered ds node ≡ Some f
+  pub settles : (w : WorldState) (ds : List DoubterState) (node : ℕ) (p : Prefix) (d f : DoubterState) (r : Reply) (seat : Seat) → IsReached s w → S w node p → numbered ds node ≡ Some f
       → seat_at w (present_life w node) ≡ Some seat → (after_take d seat.agent r).settled ≡ Some p → f ≡ (after_take d seat.agent r).after → P w ds → P (after_settle w node p) ds
   -- a question that a member's doubter is to ask
   pub asks : (w : WorldState) (ds : List DoubterState) (node : ℕ) (p : Prefix) (peer : Locator) (d : DoubterState) (seat : Seat) → IsReached s w → P w ds → numbered ds node ≡ Some d
@@ -137,7 +137,7 @@ none_is s w e c is = ap (λ (o : Option Visit). after_by s w e c o) is
 pub step_of : (s : Setting) (w : WorldState) (e : Event) (c : Choice) (v : Visit) → Occurs s w e c → visit_of s w e ≡ Some v → NodeStep v.seat.core v.now v.input c.coming c.reply c.after
 step_of s w e c v o is = let step : VisitStep v c = subst (λ (x : Option Visit). MayCome x c) is o.comes in step.steps
 
-module _ (s : Setting) (P : WorldState → List DoubterState → Type 0) (k : DoubtPartsKeep s P) where
+module _ (s : Setting) (S : WorldState → ℕ → Prefix → Type 0) (P : WorldState → List DoubterState → Type 0) (k : DoubtPartsKeep s S P) where
   behind_kept : (b : Bool) (w : WorldState) (ds : List DoubterState) (node : ℕ) → IsReached s w → IsReached s (drained_behind b s w node) → P w ds → 1 ≤ node → P (drained_behind b s w node) ds
   behind_kept true w ds node r q p least = k.drains w ds node event_drain r q p least
   behind_kept false w ds node r q p least = p
@@ -255,9 +255,9 @@ module _ (s : Setting) (P : WorldState → List DoubterState → Type 0) (k : Do
   call_there w v c d here = put_here w.seats v.node v.seat (seat_with c.after v.seat.agent) here
 
   call_kept : (w : WorldState) (ds : List DoubterState) (node : ℕ) (c : Choice) (d : DoubterState) → IsReached s w → P w ds → Occurs s w (doubter_event d node) c → numbered ds node ≡ Some d
-      → ((p : Prefix) → (taken_at s w node d c).settled ≡ Some p → IsDead (after_doubter_call s w node d c) node p)
+      → ((p : Prefix) → (taken_at s w node d c).settled ≡ Some p → S (after_doubter_call s w node d c) node p)
       → P (settled_where (after_doubter_call s w node d c) node (taken_at s w node d c).settled) (with_doubter ds node (taken_at s w node d c).after)
-  call_kept w ds node c d r p o is dead = from (member_seat s w node r o.fit.0) where
+  call_kept w ds node c d r p o is so_it_is = from (member_seat s w node r o.fit.0) where
     from : (seat : Seat) × (seat_at w (present_life w node) ≡ Some seat)
         → P (settled_where (after_doubter_call s w node d c) node (taken_at s w node d c).settled) (with_doubter ds node (taken_at s w node d c).after)
     from f = by_seen (behind_agent true s (after_agent_call w v 2 (doubter.next_call d) c) v.node (seat_with c.after seat.agent) (call_there w v c d here)) where
@@ -306,7 +306,7 @@ module _ (s : Setting) (P : WorldState → List DoubterState → Type 0) (k : Do
         by_settled : (o : Option Prefix) → (after_take d seat.agent c.reply).settled ≡ o → P (settled_where y node o) took
         by_settled None e = kept
         by_settled (Some q) e =
-            k.settles y took node q d (after_take d seat.agent c.reply).after c.reply z.0 (reached_more s w (doubter_event d node) c r o) (dead q (ap (λ (t : Taken). t.settled) taken ∙ e))
+            k.settles y took node q d (after_take d seat.agent c.reply).after c.reply z.0 (reached_more s w (doubter_event d node) c r o) (so_it_is q (ap (λ (t : Taken). t.settled) taken ∙ e))
             (doubter_put ds node d (after_take d seat.agent c.reply).after is) now (ap (λ (a : AgentState). (after_take d a c.reply).settled) z.2 ∙ e)
             (ap (λ (a : AgentState). (after_take d a c.reply).after) (sym z.2)) kept
 
@@ -324,12 +324,12 @@ module _ (s : Setting) (P : WorldState → List DoubterState → Type 0) (k : Do
 
   -- ---- each event
 
-  -- where it settles a prefix, that is dead
-  abbrev pub SettlesDead : DoubtState → DoubtEvent → Choice → Type 0
-  SettlesDead x (doubt.Plain e) c = Unit {0}
-  SettlesDead x (doubt.Doubter node) c =
-      (d : DoubterState) (p : Prefix) → numbered x.doubters node ≡ Some d → (taken_at s x.world node d c).settled ≡ Some p → IsDead (after_doubter_call s x.world node d c) node p
-  SettlesDead x (doubt.Ask node p peer) c = Unit {0}
+  -- where it settles a prefix, S is so of that
+  abbrev pub SettlesSo : DoubtState → DoubtEvent → Choice → Type 0
+  SettlesSo x (doubt.Plain e) c = Unit {0}
+  SettlesSo x (doubt.Doubter node) c =
+      (d : DoubterState) (p : Prefix) → numbered x.doubters node ≡ Some d → (taken_at s x.world node d c).settled ≡ Some p → S (after_doubter_call s x.world node d c) node p
+  SettlesSo x (doubt.Ask node p peer) c = Unit {0}
 
   member_doubter : (x : DoubtState) (node : ℕ) → length x.doubters ≡ length s.members → IsNode (length s.members) node → (d : DoubterState) × (numbered x.doubters node ≡ Some d)
   member_doubter x node count is = numbered_there x.doubters node (subst (λ n. IsNode n node) (sym count) is)
@@ -358,15 +358,15 @@ module _ (s : Setting) (P : WorldState → List DoubterState → Type 0) (k : Do
     by_other (event.Cut stream far hold) o plain = still (event.Cut stream far hold) o plain tt
     by_other (event.Drain node max) o plain = still (event.Drain node max) o plain tt
 
-  pub doubt_kept : (x : DoubtState) (e : DoubtEvent) (c : Choice) → IsReached s x.world → length x.doubters ≡ length s.members → DoubtOccurs s x e c → SettlesDead x e c → P x.world x.doubters
+  pub doubt_kept : (x : DoubtState) (e : DoubtEvent) (c : Choice) → IsReached s x.world → length x.doubters ≡ length s.members → DoubtOccurs s x e c → SettlesSo x e c → P x.world x.doubters
       → P (doubt_event s x e c).world (doubt_event s x e c).doubters
   unfolding after_plain after_doubter after_asking
-  doubt_kept x (doubt.Plain e) c r count o dead all = plain_kept x e c r count o.0 o.1 all
-  doubt_kept x (doubt.Doubter node) c r count o dead all = by_doubter (numbered x.doubters node) refl o where
+  doubt_kept x (doubt.Plain e) c r count o so_it_is all = plain_kept x e c r count o.0 o.1 all
+  doubt_kept x (doubt.Doubter node) c r count o so_it_is all = by_doubter (numbered x.doubters node) refl o where
     by_doubter : (f : Option DoubterState) → numbered x.doubters node ≡ f → CallOccurs s x.world node c f → P (doubter_called s x node c f).world (doubter_called s x node c f).doubters
     by_doubter None is o = all
-    by_doubter (Some d) is o = call_kept x.world x.doubters node c d r all o is (λ p e. dead d p is e)
-  doubt_kept x (doubt.Ask node p peer) c r count o dead all =
+    by_doubter (Some d) is o = call_kept x.world x.doubters node c d r all o is (λ p e. so_it_is d p is e)
+  doubt_kept x (doubt.Ask node p peer) c r count o so_it_is all =
       let f = member_doubter x node count o.0 in
       let l = numbered_there s.peers peer o.1 in
       let seat = member_seat s x.world node r o.0 in

@@ -245,7 +245,7 @@ module _ (w : WorldState) (ds : List DoubterState) (node : ℕ) (d : DoubterStat
   ask_asks all n seat here e it k h ask session = by_node (numbered_put ds node n asker e least it) where
     old : (g : DoubterState) → numbered ds n ≡ Some g → g.ask ≡ Some k → AskStands w askers n seat.core.sessions k h
     old g at was =
-        let a = all n seat here g at k h was session in record { of = a.of; never = λ place listed decided. a.never place listed (decided_so a.of.talk decided) }
+        let a = all n seat here g at k h was session in record { of = a.of; later = a.later; never = λ place listed decided. a.never place listed (decided_so a.of.talk decided) }
 
     by_node : ((n ≡ node) × (asker ≡ e)) ⊎ ((n ≢ node) × (numbered ds n ≡ Some e)) → AskStands w askers n seat.core.sessions k h
     by_node (inl j) = old d (ap (λ m. numbered ds m) j.0 ∙ is) ((ask_rest told).1 k h (ap (λ (g : DoubterState). g.ask) j.1 ∙ ask) session)

@@ -1,5 +1,5 @@
 -- Each network that a run of a network of doubters comes to is one that turns lead to, and so the doubters stand with it.
-use Rattle.std.proofs.Common.{◌≡◌, inl, inr, refl, sym, ap, ◌∙◌, subst, ℕ, Bool, true, false, List, [], ◌∷◌, length, Option, None, Some}
+use Rattle.std.proofs.Common.{◌≡◌, inl, inr, refl, sym, ap, ◌∙◌, subst, ℕ, Bool, true, false, List, [], ◌∷◌, length, Contains, Option, None, Some}
 use Rattle.std.proofs.lemmas.Option.{none-some, same_Some}
 use Rattle.grasp_agent.specs.States.{AgentState}
 use Rattle.grasp_doubter.specs.Calls as doubter
@@ -17,7 +17,8 @@ use Rattle.grasp_model_network.specs.Sending.{event_drain, seat_with, stepped}
 use Rattle.grasp_model_network.specs.Setting.{Setting, numbered}
 use Rattle.grasp_model_network.specs.Settling.{IsDead, after_settle}
 use Rattle.grasp_model_network.specs.Visits.{Choice, Visit, visit_seat}
-use Rattle.grasp_model_network.specs.World.{Seat, WorldState, present_life, seat_at}
+use Rattle.grasp_model_network.specs.World.{Offered, Seat, WorldState, member_of, present_life, seat_at}
+use Rattle.grasp_model_doubts.specs.Answered.{WasAnswered}
 use Rattle.grasp_model_doubts.specs.Events.{CallOccurs, DoubtOccurs, doubt_event}
 use Rattle.grasp_model_doubts.specs.Runs.{AreDoubtTurns, DoubtTurn, IsDoubted, IsToldOpeners, doubted}
 use Rattle.grasp_model_doubts.specs.Steps.{after_asking, after_doubter, after_doubter_call, after_plain, doubter_called, doubter_event, settled_where, taken_at, taken_beside}
@@ -30,10 +31,14 @@ use Rattle.grasp_laws_network.proofs.Going.{reached_more, settled_reached}
 use Rattle.grasp_laws_network.proofs.Lives.{same_present}
 use Rattle.grasp_laws_network.proofs.SameLives.{event_lives}
 use Rattle.grasp_laws_network.proofs.Staying.{put_here}
-use Rattle.grasp_laws_doubts.proofs.Doubted.{DoubtersStand, call_dead, doubter_member, parts_keep}
-use Rattle.grasp_laws_doubts.proofs.Parts.{DoubtPartsKeep, SettlesDead, after_is, behind_agent, doubt_kept, doubter_visit_of, member_seat, step_of}
+use Rattle.grasp_laws_doubts.proofs.Doubted.{DoubtersStand, call_answered, call_dead, doubter_member, parts_keep}
+use Rattle.grasp_laws_doubts.proofs.Parts.{DoubtPartsKeep, SettlesSo, after_is, behind_agent, doubt_kept, doubter_visit_of, member_seat, step_of}
 use Rattle.grasp_laws_doubts.specs.Grounds.{Grounds}
 use Rattle.grasp_laws_doubts.specs.Laws.{DoubtedAreReached, SettlingsAreOfDead}
+
+-- each listed offer of the prefix by the member was answered for
+abbrev pub WasAnsweredFor : WorldState → ℕ → Prefix → Type 0
+WasAnsweredFor w node p = (o : Offered) → Contains w.offers o → member_of w o.node ≡ node → o.prefix ≡ p → WasAnswered w o
 
 module _ (l : Grounds) (s : Setting) (told_so : IsToldOpeners s) where
   -- ---- the call of a doubter
@@ -78,14 +83,20 @@ module _ (l : Grounds) (s : Setting) (told_so : IsToldOpeners s) where
         (call_dead l s told_so w ds node c seat d r all o visit_is member.1 is (step_of s w (doubter_event d node) c v o visit_is) reached p (sym (ap (λ (t : Taken). t.settled) taken) ∙ e)
         (subst (IsReached s) after (reached_more s w (doubter_event d node) c r o)))
 
+    pub call_settles_answered : (p : Prefix) → (taken_at s w node d c).settled ≡ Some p → WasAnsweredFor (after_doubter_call s w node d c) node p
+    call_settles_answered p e =
+        subst (λ x. WasAnsweredFor x node p) (sym after)
+        (call_answered l s told_so w ds node c seat d r all o visit_is member.1 is (step_of s w (doubter_event d node) c v o visit_is) reached p (sym (ap (λ (t : Taken). t.settled) taken) ∙ e)
+        (subst (IsReached s) after (reached_more s w (doubter_event d node) c r o)))
+
   -- ---- each event
 
-  dead_where : (x : DoubtState) (e : DoubtEvent) (c : Choice) → IsReached s x.world → DoubtersStand s x.world x.doubters → DoubtOccurs s x e c → SettlesDead s (DoubtersStand s) (parts_keep l s told_so) x e c
+  dead_where : (x : DoubtState) (e : DoubtEvent) (c : Choice) → IsReached s x.world → DoubtersStand s x.world x.doubters → DoubtOccurs s x e c → SettlesSo s IsDead (DoubtersStand s) (parts_keep l s told_so) x e c
   dead_where x (doubt.Plain e) c r all o = tt
   dead_where x (doubt.Doubter node) c r all o = λ d p is e. call_settles_dead x.world x.doubters node c d r all is (subst (λ z. CallOccurs s x.world node c z) is o) p e
   dead_where x (doubt.Ask node p peer) c r all o = tt
 
-  event_reached : (x : DoubtState) (e : DoubtEvent) (c : Choice) → IsReached s x.world → DoubtersStand s x.world x.doubters → DoubtOccurs s x e c → IsReached s (doubt_event s x e c).world
+  pub event_reached : (x : DoubtState) (e : DoubtEvent) (c : Choice) → IsReached s x.world → DoubtersStand s x.world x.doubters → DoubtOccurs s x e c → IsReached s (doubt_event s x e c).world
   unfolding after_plain after_doubter after_asking
   event_reached x (doubt.Plain e) c r all o = reached_more s x.world e c r o.0
   event_reached x (doubt.Doubter node) c r all o = by_doubter (numbered x.doubters node) refl o where
@@ -98,9 +109,9 @@ module _ (l : Grounds) (s : Setting) (told_so : IsToldOpeners s) where
           settled_reached s (after_doubter_call s x.world node d c) node p (reached_more s x.world (doubter_event d node) c r o) (call_settles_dead x.world x.doubters node c d r all is o p e)
   event_reached x (doubt.Ask node p peer) c r all o = r
 
-  event_stands : (x : DoubtState) (e : DoubtEvent) (c : Choice) → IsReached s x.world → DoubtersStand s x.world x.doubters → DoubtOccurs s x e c
+  pub event_stands : (x : DoubtState) (e : DoubtEvent) (c : Choice) → IsReached s x.world → DoubtersStand s x.world x.doubters → DoubtOccurs s x e c
       → DoubtersStand s (doubt_event s x e c).world (doubt_event s x e c).doubters
-  event_stands x e c r all o = doubt_kept s (DoubtersStand s) (parts_keep l s told_so) x e c r all.count o (dead_where x e c r all o) all
+  event_stands x e c r all o = doubt_kept s IsDead (DoubtersStand s) (parts_keep l s told_so) x e c r all.count o (dead_where x e c r all o) all
 
   -- ---- runs
 

@@ -1,5 +1,5 @@
 -- That the node to which a prefix was offered has said that it never accepted it.
-use Rattle.std.specs.Prelude.{◌≡◌, ℕ, true, Some, reverse, slice_get}
+use Rattle.std.specs.Prelude.{◌≡◌, ◌<◌, ℕ, true, Some, reverse, slice_get}
 use Rattle.grasp_doubter.specs.Questions.{doubt_name, question_value}
 use Rattle.grasp_session.specs.Conversation.{requested, spoken}
 use Rattle.grasp_session.specs.Laws.{IsOpened}
@@ -20,8 +20,8 @@ pub record IsQuestion (a : Address) (p : Prefix) (t : StreamState) : Type 0 wher
   pub opens : IsOpened (reverse (spoken Near t.said))
   pub asks : requested t.said ≡ question a p
 
--- the offer was for a stream, and the node that dialled that stream was asked by the node that offered: the question has its address and the
--- prefix, and it has said an acceptance of the question
+-- the offer was for a stream, and the node that dialled that stream was asked by the node that offered, on a stream that was dialled later: the
+-- question has its address and the prefix, and it has said an acceptance of the question
 pub record WasAnswered (w : WorldState) (o : Offered) : Type 0 where
   pub place : ℕ
   pub talk : StreamState
@@ -32,6 +32,7 @@ pub record WasAnswered (w : WorldState) (o : Offered) : Type 0 where
   pub question_place : ℕ
   pub asking : StreamState
   pub asked : slice_get w.streams question_place ≡ Some asking
+  pub later : place < question_place
   pub asker : asking.near.node ≡ o.node
   pub is : IsQuestion requester.core.plan.address o.prefix asking
   pub far : StreamEnd
