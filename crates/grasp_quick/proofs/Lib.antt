@@ -1,0 +1,4 @@
+pub mod Fronts
+pub mod MessageLines
+pub mod Sequence
+pub mod Spelled

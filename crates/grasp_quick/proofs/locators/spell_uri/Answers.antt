@@ -1,0 +1,8 @@
+use Rattle.grasp_quick.proofs.Spelled.{found_is}
+use Rattle.grasp_quick.proofs.Sequence.{uri_spelled}
+use Rattle.grasp_quick.proofs.locators.spell_uri.Goals as goal
+
+pub returns : goal.returns
+returns c = found_is _ _ c.spell_port_or_null.result c.spell_port_or_null.ensures (λ rest h.
+    uri_spelled c.args.bytes.now c.in_ok-rest.rest.now c.in_ok-rest-2.rest.now rest.now c.args.line.now c.put.new.self c.spell_text.new.line c.spell_proto_or_null.new.line c.spell_port_or_null.new.line
+    c.in_ok-put.ensures c.in_ok-rest.ensures c.in_ok-rest-2.ensures h)

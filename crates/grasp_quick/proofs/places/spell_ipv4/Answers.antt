@@ -1,0 +1,9 @@
+use Rattle.std.proofs.Common.{rules, ◌<◌, ◌^◌}
+use Rattle.grasp_quick.proofs.Sequence.{ipv4_spelled}
+use Rattle.grasp_quick.proofs.places.spell_ipv4.Goals as goal
+
+pub returns : goal.returns
+returns c =
+    let few : c.in_ok-address.address < 2 ^ 32 = search rules in
+    ipv4_spelled c.in_ok-address.address c.in_ok-content.content.now c.args.bytes.now c.in_ok-content.rest.now c.args.line.now c.put_octets.new.self
+    c.in_ok-content.ensures.some c.in_ok-address.ensures.some few c.in_ok-put_octets.ensures
