@@ -1,5 +1,5 @@
 -- The message at the front of bytes.
-use Rattle.std.proofs.Common.{◌≡◌, ℕ, ◌+◌, ◌-◌, ◌≤◌, List, [], ◌∷◌, ◌++◌, length, take, drop, take-append-drop, Some, Ok, sym, ap, subst, ◌∙◌, append_assoc, append-nil, length-append, arith, Result, Option, Err, ◌<◌, None, refl}
+use Rattle.std.proofs.Common.{◌≡◌, ℕ, ◌+◌, ◌-◌, ◌≤◌, List, [], ◌∷◌, ◌++◌, length, take, drop, take-append-drop, Some, Ok, sym, ap, subst, ◌∙◌, append_assoc, append-nil, length-append, arith}
 use Rattle.std.proofs.lemmas.List.{take_at, take_all, length-take}
 use Rattle.grasp_cbor.specs.Encodes.{IsEncoding}
 use Rattle.grasp_cbor.specs.Leading.{Leads}

@@ -1,7 +1,6 @@
 -- The line of a message behind the head of its array and the number of its kind.
-use Rattle.grasp_types.specs.declared.objective.Objective.{Objective}
-use Rattle.std.proofs.Common.{◌≡◌, ℕ, ◌+◌, ◌-◌, ◌<◌, ◌≤◌, ◌^◌, List, [], ◌∷◌, ◌++◌, length, map, codes, decimal, refl, sym, subst, append-nil, arith, ap, ◌∙◌}
-use Rattle.std.specs.Prelude.{Some, None, option_map, IfSome, Option}
+use Rattle.std.proofs.Common.{◌≡◌, ℕ, ◌+◌, ◌<◌, ◌≤◌, ◌^◌, List, [], ◌∷◌, ◌++◌, length, map, codes, decimal, refl, sym, subst, append-nil, arith}
+use Rattle.std.specs.Prelude.{Some, None, option_map}
 use Rattle.std.specs.Str.{IsUtf8}
 use Rattle.std.proofs.lemmas.List.{length-append, length-map}
 use Rattle.grasp_cbor.specs.DataItem.{DataItem, unsigned, text_string, array_of}
@@ -17,7 +16,7 @@ use Rattle.grasp_text.specs.Words.{spaced}
 use Rattle.grasp_text.specs.Writing.{line_name, words_behind_name}
 use Rattle.grasp_text.proofs.Pushed.{some_pushed, line_appended}
 use Rattle.grasp_wire.specs.Direct.{LeadAll, EndsKind}
-use Rattle.grasp_wire.proofs.Straight.{kind_ends, both_lead, array_leads}
+use Rattle.grasp_wire.proofs.Straight.{kind_ends, both_lead}
 use Rattle.grasp_quick.specs.Spelled.{Spells, SpellsKind, SpellsMany, SpellsLast, SpellsLastObjective, SpellsAnswer, SpellsTold, EndsLine, SpellsLine}
 use Rattle.grasp_quick.proofs.Sequence.{alone, before}
 

@@ -1,19 +1,15 @@
 -- Values that are spelled one after another.
-use Rattle.grasp_text.specs.Writing.{line_name, words_behind_name}
-use Rattle.grasp_types.specs.declared.objective.Objective.{Objective}
-use Rattle.grasp_types.specs.declared.message.Message.{Message}
-use Rattle.grasp_types.specs.declared.message.Answer.{Answer}
-use Rattle.std.proofs.Common.{◌≡◌, ℕ, ◌+◌, ◌<◌, ◌≤◌, ◌^◌, List, [], ◌∷◌, ◌++◌, map, codes, decimal, refl, sym, ap, subst, ◌∙◌, append-nil, arith, append_assoc, length}
-use Rattle.std.specs.Prelude.{IfSome, Option, Some, None, ⊤, All}
+use Rattle.std.proofs.Common.{◌≡◌, ℕ, ◌+◌, ◌<◌, ◌≤◌, ◌^◌, List, [], ◌∷◌, ◌++◌, map, codes, decimal, refl, sym, ap, subst, ◌∙◌, append-nil, arith}
+use Rattle.std.specs.Prelude.{IfSome, Option, Some, None, ⊤}
 use Rattle.std.specs.Int.{to_be_bytes, w32, w128}
 use Rattle.std.specs.Str.{IsUtf8}
 use Rattle.std.proofs.lemmas.List.{length-append, length-map, map-append}
 use Rattle.std.proofs.lemmas.List.Elements.{All-push, All-nil}
 use Rattle.hex.specs.Hex.{encode_lower}
-use Rattle.grasp_cbor.specs.DataItem.{DataItem, unsigned, byte_string, text_string, array_of}
+use Rattle.grasp_cbor.specs.DataItem.{DataItem, unsigned, byte_string, text_string}
 use Rattle.grasp_cbor.specs.Leading.{Leads, LeadsArray, LeadsBytes}
 use Rattle.grasp_types.specs.Address.{address_bytes, address_item, proto_item, proto_or_null, port_or_null, locator_item, IsAddress, IsLocator}
-use Rattle.grasp_types.specs.Message.{flood_part_item, locator_or_empty, IsFloodPart, IsVerdict, IsMessage, item_of, verdict_item, answer_items}
+use Rattle.grasp_types.specs.Message.{flood_part_item, locator_or_empty, IsFloodPart}
 use Rattle.grasp_types.specs.Objective.{objective_item, IsObjective}
 use Rattle.grasp_types.specs.declared.address.Address.{Address}
 use Rattle.grasp_types.specs.declared.address.Address.TheVariants as address
@@ -22,12 +18,12 @@ use Rattle.grasp_types.specs.declared.address.Locator.TheVariants.{V6, V4, Fqdn,
 use Rattle.grasp_types.specs.declared.address.Proto.{Proto}
 use Rattle.grasp_types.specs.declared.flood.FloodPart.{FloodPart}
 use Rattle.grasp_types.specs.declared.message.Answer.TheVariants.{Locators, Divert}
-use Rattle.grasp_text.specs.Line.{address_word, v4_word, v6_word, proto_word, or_dash, text_word, locator_words, all_locator_words, locator_or_none, objective_words, flood_part_words, all_flood_part_words, line_of, answer_words}
+use Rattle.grasp_text.specs.Line.{address_word, v4_word, v6_word, proto_word, or_dash, text_word, locator_words, all_locator_words, locator_or_none, objective_words, flood_part_words, all_flood_part_words}
 use Rattle.grasp_text.specs.Words.{spaced}
-use Rattle.grasp_text.proofs.Pushed.{some_pushed, all_locator_words-append, all_flood_part_words-append, line_appended}
-use Rattle.grasp_wire.specs.Direct.{LeadAll, EndsKind}
+use Rattle.grasp_text.proofs.Pushed.{some_pushed, all_locator_words-append, all_flood_part_words-append}
+use Rattle.grasp_wire.specs.Direct.{LeadAll}
 use Rattle.grasp_wire.proofs.Straight.{bytes_lead, array_leads, kind_ends, both_lead}
-use Rattle.grasp_quick.specs.Spelled.{Spells, SpellsArray, SpellsKind, SpellsMany, SpellsLastObjective, SpellsAnswer, SpellsTold, EndsLine}
+use Rattle.grasp_quick.specs.Spelled.{Spells, SpellsArray, SpellsKind, SpellsMany, SpellsLastObjective, SpellsAnswer}
 
 -- some value in its range leads the bytes as these items, and its words were appended
 pub record SpellsAll {X : Type 0} (items : X → List DataItem) (is : X → Type 0) (words : X → List (List ℕ)) (bytes rest old new : List ℕ) : Type 0 where

@@ -41,14 +41,16 @@ pub record SpellsArray {X : Type 0} (count : ℕ) (item : X → DataItem) (is : 
   pub spelled : new ≡ old ++ spaced (words value)
 
 -- Inside: the same, behind the head of the array and this number
-pub record SpellsKind {X : Type 0} (count kind : ℕ) (item : X → DataItem) (is : X → Type 0) (words : X → List (List ℕ)) (bytes rest old new : List ℕ) : Type 0 where
+pub record SpellsKind {X : Type 0} (count kind : ℕ) (item : X → DataItem) (is : X → Type 0) (words : X → List (List ℕ))
+    (bytes rest old new : List ℕ) : Type 0 where
   pub value : X
   pub ends : EndsKind count kind (item value) bytes rest
   pub is_one : is value
   pub spelled : new ≡ old ++ spaced (words value)
 
 -- Inside: so many values lead the bytes, one after another, and the words of all were appended
-pub record SpellsMany {X : Type 0} (item : X → DataItem) (is : X → Type 0) (words : List X → List (List ℕ)) (count : ℕ) (bytes rest old new : List ℕ) : Type 0 where
+pub record SpellsMany {X : Type 0} (item : X → DataItem) (is : X → Type 0) (words : List X → List (List ℕ)) (count : ℕ)
+    (bytes rest old new : List ℕ) : Type 0 where
   pub values : List X
   pub lead : LeadAll (map item values) bytes rest
   pub each : All is values

@@ -24,7 +24,8 @@ pub(crate) fn spell_address<'a>(bytes: &'a [u8], line: &mut Room) -> Option<&'a 
 
 /// The number of an IPv4 address.
 pub(crate) fn spell_ipv4<'a>(bytes: &'a [u8], line: &mut Room) -> Option<&'a [u8]>
-    ensures { IfSome result (λ rest. Spells (λ n. byte_string (to_be_bytes w32 n)) (λ n. n < 2 ^ 32) (λ n. v4_word n ∷ []) bytes.now rest.now line.old line.new) }
+    ensures { IfSome result (λ rest. Spells (λ n. byte_string (to_be_bytes w32 n)) (λ n. n < 2 ^ 32) (λ n. v4_word n ∷ [])
+        bytes.now rest.now line.old line.new) }
 {
     let (content, rest) = read_byte_string(bytes)?;
     let address = ipv4_of_bytes(content)?;
@@ -34,7 +35,8 @@ pub(crate) fn spell_ipv4<'a>(bytes: &'a [u8], line: &mut Room) -> Option<&'a [u8
 
 /// The number of an IPv6 address.
 pub(crate) fn spell_ipv6<'a>(bytes: &'a [u8], line: &mut Room) -> Option<&'a [u8]>
-    ensures { IfSome result (λ rest. Spells (λ n. byte_string (to_be_bytes w128 n)) (λ n. n < 2 ^ 128) (λ n. v6_word n ∷ []) bytes.now rest.now line.old line.new) }
+    ensures { IfSome result (λ rest. Spells (λ n. byte_string (to_be_bytes w128 n)) (λ n. n < 2 ^ 128) (λ n. v6_word n ∷ [])
+        bytes.now rest.now line.old line.new) }
 {
     let (content, rest) = read_byte_string(bytes)?;
     let address = ipv6_of_bytes(content)?;
@@ -73,7 +75,8 @@ pub(crate) fn spell_proto_or_null<'a>(bytes: &'a [u8], line: &mut Room) -> Optio
 
 /// A port, or null.
 pub(crate) fn spell_port_or_null<'a>(bytes: &'a [u8], line: &mut Room) -> Option<&'a [u8]>
-    ensures { IfSome result (λ rest. Spells port_or_null (λ p. IfSome p (λ port. port ≤ 65535)) (λ p. or_dash decimal p ∷ []) bytes.now rest.now line.old line.new) }
+    ensures { IfSome result (λ rest. Spells port_or_null (λ p. IfSome p (λ port. port ≤ 65535)) (λ p. or_dash decimal p ∷ [])
+        bytes.now rest.now line.old line.new) }
 {
     if let Some(rest) = read_null(bytes) {
         line.put(b" -")?;
