@@ -1,6 +1,6 @@
 //! How the program ends.
 ghost use Rattle.std.specs.Prelude.{◌≡◌, IfOk};
-ghost use Rattle.grasp_replay_main.specs.Ending.{number_of, fault_line_of, finding_line, cut_line, numbered, status_of};
+ghost use Rattle.grasp_replay_main.specs.Ending.{number_of, fault_line_of, finding_line, cut_line, numbered};
 
 use grasp_cbor::{Chars, OutOfMemory};
 use grasp_text::push_number;
@@ -58,16 +58,6 @@ impl Status {
             Status::OutOfMemory => 6,
             Status::TooLarge => 7,
         }
-    }
-}
-
-/// How the program ends with this finding, once all is written.
-pub fn status_of(finding: Option<Finding>) -> Status
-    ensures { result ≡ status_of finding }
-{
-    match finding {
-        Some(finding) => Status::Finding(finding),
-        None => Status::Ok,
     }
 }
 

@@ -1,33 +1,29 @@
 //! `show`: the lines of the messages of a stream.
-ghost use Rattle.std.specs.Prelude.{◌≡◌, ◌<◌, ◌≤◌, ◌==◌, if◌then◌else◌, ◌∷◌, ◌++◌, ℕ, List, [], Option, Ok, Some, None, option_map, IfOk, IfErr, OnOk, OnErr, IsErrOf};
+ghost use Rattle.std.specs.Prelude.{◌≡◌, ◌<◌, ◌≤◌, ◌+◌, ◌^◌, ◌∷◌, ◌++◌, ℕ, List, [], Option, Ok, option_map, length};
+ghost use Rattle.std.specs.Prelude.{IfOk, IfErr, OnOk, OnErr, IsErrOf};
 ghost use Rattle.grasp_io.specs.Faults.{Rose};
 ghost use Rattle.grasp_io.specs.Known.{AppendsFront, Passes};
 ghost use Rattle.grasp_text.specs.Line.{line_of};
 ghost use Rattle.grasp_wire.specs.Cutter.{lasting};
-ghost use Rattle.grasp_wire.specs.Stands.{waiting_count};
-ghost use Rattle.grasp_replay_main.specs.Step.{HasShown, Steps, ShowsReady};
+ghost use Rattle.grasp_replay_main.specs.Step.{HasShown, Steps, IsInside, place_of, moved};
 ghost use Rattle.grasp_replay_main.specs.Task.{ShowMakes};
 ghost use Rattle.grasp_replay_main.specs.Written.{Writes, Begins, IsStop};
-ghost use Rattle.grasp_replay_main.specs.declared.exit.Finding.TheVariants.{Cut, Truncated};
+ghost use Rattle.grasp_replay_main.specs.declared.exit.Finding.TheVariants.{Cut};
 
-use crate::exit::{Finding, Status, status_of};
+use crate::exit::{Finding, Status};
 use crate::unfinished::Unfinished;
 use grasp_io::{Sink, WriteBuffer};
+use grasp_quick::{Room, first_message, front_line};
 use grasp_text::push_line;
 use grasp_types::Message;
-use grasp_wire::{CutFault, Cutter};
+use grasp_wire::CutFault;
 use std::alloc::Global;
-
-/// The most bytes of the stream that are fed at once.
-const PIECE: usize = 4096;
 
 /// What the next step of `show` came to.
 enum Step {
-    /// A message's line was put into the buffer.
-    Line,
-    /// No message is left, and what is left waits for more.
-    End,
-    /// What is left has a fault.
+    /// The line of a message of so many bytes was put into the buffer.
+    Line(usize),
+    /// What is left has this finding.
     Fault(Finding),
 }
 
@@ -45,68 +41,94 @@ pub fn show<K: Sink>(
     ensures stop { IfErr result IsStop }
     ensures fault { IsErrOf result Unfinished.WriteFault → Rose (K.faults sink.old) (K.faults sink.new) }
 {
-    let mut cutter = Cutter::new(alloc, limit);
     let mut buffer = WriteBuffer::new();
     let mut line = String::new(alloc);
+    let mut room = Room::new();
     let mut rest = input;
     while !rest.is_empty() {
-        let (piece, after) = rest.split_at(rest.len().min(PIECE));
-        cutter.feed(piece)?;
-        if let Some(finding) = show_ready(alloc, &mut cutter, &mut line, &mut buffer, sink)? {
-            buffer.flush(sink)?;
-            return Ok(Status::Finding(finding));
+        let before = (input.len() - rest.len()) as u64;
+        let step = show_next(
+            alloc,
+            rest,
+            before,
+            limit,
+            &mut room,
+            &mut line,
+            &mut buffer,
+            sink,
+        )?;
+        match step {
+            Step::Line(used) => rest = &rest[used..],
+            Step::Fault(finding) => {
+                buffer.flush(sink)?;
+                return Ok(Status::Finding(finding));
+            }
         }
-        rest = after;
     }
     buffer.flush(sink)?;
-    Ok(status_of(truncated(cutter.waiting(), input.len() as u64)))
+    Ok(Status::Ok)
 }
 
-/// Writes the lines of the messages that the cutter has whole. Returns the finding where what is left has a fault.
-fn show_ready<K: Sink>(
-    alloc: Global,
-    cutter: &mut Cutter,
-    line: &mut String,
-    buffer: &mut WriteBuffer,
-    sink: &mut K,
-) -> Result<Option<Finding>, Unfinished>
-    ensures shown { (limit : ℕ) (fed : List ℕ) (start : Option (List ℕ)) → HasShown limit fed start (K.written sink.old) buffer.old cutter.old
-        → ShowsReady limit fed start (K.written sink.new) buffer.new cutter.new result }
-    ensures stop { IfErr result IsStop }
-    ensures fault { IsErrOf result Unfinished.WriteFault → Rose (K.faults sink.old) (K.faults sink.new) }
-    ensures never_falls { K.faults sink.old ≤ K.faults sink.new }
-{
-    loop {
-        match show_next(alloc, cutter, line, buffer, sink)? {
-            Step::Line => {}
-            Step::End => return Ok(None),
-            Step::Fault(finding) => return Ok(Some(finding)),
-        }
-    }
-}
-
-/// Writes the line of the next message.
+/// Writes the line of the message that begins the rest, which so many bytes stand before.
 fn show_next<K: Sink>(
     alloc: Global,
-    cutter: &mut Cutter,
+    rest: &[u8],
+    before: u64,
+    limit: u32,
+    room: &mut Room,
     line: &mut String,
     buffer: &mut WriteBuffer,
     sink: &mut K,
 ) -> Result<Step, Unfinished>
-    ensures step { (limit : ℕ) (fed : List ℕ) (start : Option (List ℕ)) → HasShown limit fed start (K.written sink.old) buffer.old cutter.old
-        → Steps limit fed start (K.written sink.new) buffer.new cutter.new result }
-    ensures less { result ≡ Ok Step.Line → waiting_count cutter.new < waiting_count cutter.old }
+    requires limit { 0 < limit }
+    requires some { 0 < length rest.now }
+    requires before { before + length rest.now < 2 ^ 64 }
+    ensures step { (front : List ℕ) (start : Option (List ℕ)) → length front ≡ before → HasShown limit front start (K.written sink.old) buffer.old
+        → Steps limit front rest.now start (K.written sink.new) buffer.new result }
+    ensures inside { IfOk result (IsInside (length rest.now)) }
     ensures stop { IfErr result IsStop }
     ensures fault { IsErrOf result Unfinished.WriteFault → Rose (K.faults sink.old) (K.faults sink.new) }
     ensures never_falls { K.faults sink.old ≤ K.faults sink.new }
 {
-    match cutter.next() {
-        Ok(Some(message)) => {
-            write_line(alloc, &message, line, buffer, sink)?;
-            Ok(Step::Line)
+    match front_line(rest, limit, room) {
+        Some(used) => {
+            buffer.put(sink, room.bytes())?;
+            Ok(Step::Line(used))
         }
-        Ok(None) => Ok(Step::End),
-        Err(fault) => match finding_of(fault) {
+        None => show_any(alloc, rest, before, limit, line, buffer, sink),
+    }
+}
+
+/// The same for a message of any form, and for a fault.
+fn show_any<K: Sink>(
+    alloc: Global,
+    rest: &[u8],
+    before: u64,
+    limit: u32,
+    line: &mut String,
+    buffer: &mut WriteBuffer,
+    sink: &mut K,
+) -> Result<Step, Unfinished>
+    requires limit { 0 < limit }
+    requires some { 0 < length rest.now }
+    requires before { before + length rest.now < 2 ^ 64 }
+    ensures step { (front : List ℕ) (start : Option (List ℕ)) → length front ≡ before → HasShown limit front start (K.written sink.old) buffer.old
+        → Steps limit front rest.now start (K.written sink.new) buffer.new result }
+    ensures inside { IfOk result (IsInside (length rest.now)) }
+    ensures stop { IfErr result IsStop }
+    ensures fault { IsErrOf result Unfinished.WriteFault → Rose (K.faults sink.old) (K.faults sink.new) }
+    ensures never_falls { K.faults sink.old ≤ K.faults sink.new }
+{
+    match first_message(alloc, rest, limit) {
+        Ok(Some((message, used))) => {
+            write_line(alloc, &message, line, buffer, sink)?;
+            Ok(Step::Line(used))
+        }
+        Ok(None) => {
+            let at = before + rest.len() as u64;
+            Ok(Step::Fault(Finding::Truncated { at }))
+        }
+        Err(fault) => match finding_behind(fault, before) {
             Some(finding) => Ok(Step::Fault(finding)),
             None => Err(Unfinished::OutOfMemory),
         },
@@ -134,23 +156,18 @@ fn write_line<K: Sink>(
     Ok(())
 }
 
-/// The finding at the end of a stream of so many bytes, of which so many wait for more.
-fn truncated(rest: u64, len: u64) -> Option<Finding>
-    ensures { result ≡ (if rest == 0 then None else Some (Truncated len)) }
+/// The finding of a fault of a rest which so many bytes stand before, or `None` for want of memory.
+fn finding_behind(fault: CutFault, before: u64) -> Option<Finding>
+    requires { before + place_of fault < 2 ^ 64 }
+    ensures { result ≡ option_map Cut (lasting (moved before fault)) }
 {
-    if rest == 0 {
-        None
-    } else {
-        Some(Finding::Truncated { at: len })
-    }
-}
-
-/// The finding of a fault, or `None` for want of memory.
-fn finding_of(fault: CutFault) -> Option<Finding>
-    ensures { result ≡ option_map Cut (lasting fault) }
-{
-    match fault {
-        CutFault::OutOfMemory => None,
-        _ => Some(Finding::Cut(fault)),
-    }
+    let moved = match fault {
+        CutFault::Malformed { at } => CutFault::Malformed { at: before + at },
+        CutFault::NotText { at } => CutFault::NotText { at: before + at },
+        CutFault::TooDeep { at } => CutFault::TooDeep { at: before + at },
+        CutFault::TooLong { at } => CutFault::TooLong { at: before + at },
+        CutFault::NotMessage { at } => CutFault::NotMessage { at: before + at },
+        CutFault::OutOfMemory => return None,
+    };
+    Some(Finding::Cut(moved))
 }
