@@ -55,7 +55,7 @@ line_tried code new line told a b held left (Err f) runs passed front stop = lin
 
 -- the line stopped the network
 line_stops : (code new : KeptWorld) (line : KeptLine) (a : Option (List ℕ)) (held : List ℕ) (why : WorldStop) → RunsKeptLine code new line (Err why) → PassesLine code new line a held a held (Err (fault_of why))
-line_stops code new line a held stop.TooMuch runs = λ s k met. record { overflows = runs s k met; written = refl; left_is = refl }
+line_stops code new line a held stop.TooMuch runs = λ s k met. record { overflows = (runs s k met).overflows; written = refl; left_is = refl }
 line_stops code new line a held stop.OutOfMemory runs = λ s k met. refl
 
 pub line_stopped : (code new : KeptWorld) (line : KeptLine) (a : Option (List ℕ)) (held : List ℕ) (why : WorldStop) (f : RunFault) → RunsKeptLine code new line (Err why) → f ≡ fault_of why → PassesLine code new line a held a held (Err f)

@@ -1,5 +1,5 @@
 -- Lines that are run in a network whose nodes crash, and their reports.
-use Rattle.std.proofs.Common.{rules, ◌≡◌, refl, sym, ap, ◌∙◌, subst, ℕ, List, Result, Ok, Err}
+use Rattle.std.proofs.Common.{rules, ◌≡◌, refl, sym, ap, ◌∙◌, subst, inl, inr, ℕ, List, Result, Ok, Err}
 use Rattle.grasp_disk.specs.declared.left.Left.{Left}
 use Rattle.grasp_pool.specs.declared.image.PoolImage.{PoolImage}
 use Rattle.grasp_model_network.specs.Setting.{Setting}
@@ -27,7 +27,7 @@ use Rattle.grasp_runner.specs.Lines.{CanRun, MeetsLine, RunsLook, TellsEvent}
 use Rattle.grasp_runner.proofs.Placing.{IsPlaced, fit_here, has_node}
 use Rattle.grasp_simulator.specs.WorldStands.{HasNode}
 use Rattle.grasp_simulator.specs.declared.world.World.{World}
-use Rattle.grasp_runner_kept.specs.Lines.{CanRunKept, IsCrashReport, IsPlainReport, KeptLineMayStop, MeetsKeptLine, RunsCrash, RunsKeptLine, RunsKeptLook, RunsPlain, TellsCrash, event_line, kept_at}
+use Rattle.grasp_runner_kept.specs.Lines.{CanRunKept, IsCrashReport, IsPlainReport, KeptLineFails, MeetsKeptLine, RunsCrash, RunsKeptLine, RunsKeptLook, RunsPlain, StepFails, TellsCrash, event_line, kept_at}
 
 -- ---- the network itself
 
@@ -37,6 +37,13 @@ meets_plain code s k x h = record { stands = h.stands.stands.0.world; fit = h.fi
 
 pub can_plain : (code : KeptWorld) (x : Line) → CanRunKept code (line.Plain x) → CanRun (network_in code) x.act
 can_plain code x can = record { setting = can.setting; network = can.state.world; meets = meets_plain code can.setting can.state x can.meets }
+
+-- ---- what isn't reported
+
+step_fails : (new : KeptWorld) (s : Setting) (k : KeptState) (x : KeptLine) (why : WorldStop) → StepFails new s k x why → KeptLineFails new s k x why
+step_fails new s k x stop.TooMuch h = h
+step_fails new s k x stop.OutOfMemory (inl before) = inl before
+step_fails new s k x stop.OutOfMemory (inr halted) = inr (inl halted)
 
 -- ---- reports
 
@@ -77,12 +84,13 @@ module _ (code : KeptWorld) (text : List ℕ) (e placed : Event) (is : IsPlaced 
 
     pub plain_stops : (why : WorldStop) → KeptWorldStepped code new (kept.Plain placed) (Err why) → RunsPlain code new text e (Err why)
     plain_stops stop.TooMuch stepped s k h =
-        subst (λ (x : Event). KeptMayStop s k (kept.Plain x) stop.TooMuch) (placed_is s k h) (stepped (kept_at s k) (meets_placed s k h)).may_stop
-    plain_stops stop.OutOfMemory stepped s k h = tt
+        let a = stepped (kept_at s k) (meets_placed s k h) in
+        record { overflows = subst (λ (x : Event). KeptMayStop s k (kept.Plain x) stop.TooMuch) (placed_is s k h) a.may_stop; stands = a.stands }
+    plain_stops stop.OutOfMemory stepped s k h = inr (stepped (kept_at s k) (meets_placed s k h)).stands
 
 -- memory may be wanted at any time
-pub plain_starves : (code new : KeptWorld) (text : List ℕ) (e : Event) → RunsPlain code new text e (Err stop.OutOfMemory)
-plain_starves code new text e s k h = tt
+pub plain_starves : (code : KeptWorld) (text : List ℕ) (e : Event) → RunsPlain code code text e (Err stop.OutOfMemory)
+plain_starves code text e s k h = inl h.stands
 
 -- ---- crashes
 
@@ -106,20 +114,24 @@ module _ (code new : KeptWorld) (text : List ℕ) (node calls : ℕ) (left : Lef
       record { choice = a.choice; occurs = a.occurs; image_is = same_image image _ (sym is ∙ a.report_is); stands = a.stands }
 
   pub crash_stops : (why : WorldStop) → KeptWorldStepped code new (kept.Crash node calls left) (Err why) → RunsCrash code new text node calls left (Err why)
-  crash_stops stop.TooMuch stepped s k h = (stepped (kept_at s k) (meets_crash s k h)).may_stop
-  crash_stops stop.OutOfMemory stepped s k h = tt
+  crash_stops stop.TooMuch stepped s k h =
+      let a = stepped (kept_at s k) (meets_crash s k h) in
+      record { overflows = a.may_stop; stands = a.stands }
+  crash_stops stop.OutOfMemory stepped s k h = inr (stepped (kept_at s k) (meets_crash s k h)).stands
 
   -- the report of a crash
   crash_line : (image : PoolImage) (r : Result (List ℕ) WorldStop) → RunsCrash code new text node calls left (Ok image) → TellsCrash text image r → RunsKeptLine code new (line.Crash text node calls left) r
   crash_line image (Ok told) runs tells s k h = let a = runs s k h in record { choice = a.choice; comes = a.occurs; told_is = tells ∙ ap (told_restart text) a.image_is; stands = a.stands }
-  crash_line image (Err why) runs tells s k h = subst (λ (y : WorldStop). KeptLineMayStop s k (line.Crash text node calls left) y) (sym tells) tt
+  crash_line image (Err why) runs tells s k h =
+      let a = runs s k h in
+      subst (λ (y : WorldStop). KeptLineFails new s k (line.Crash text node calls left) y) (sym tells) (inr (inr (record { choice = a.choice; comes = a.occurs; stands = a.stands })))
 
   pub crash_tells : (x : KeptLine) → x ≡ line.Crash text node calls left → (image : PoolImage) (r : Result (List ℕ) WorldStop) → RunsCrash code new text node calls left (Ok image) → TellsCrash text image r
       → RunsKeptLine code new x r
   crash_tells x is image r runs tells = subst (λ (y : KeptLine). RunsKeptLine code new y r) (sym is) (crash_line image r runs tells)
 
   crash_halted : (why : WorldStop) → RunsCrash code new text node calls left (Err why) → RunsKeptLine code new (line.Crash text node calls left) (Err why)
-  crash_halted why runs s k h = runs s k h
+  crash_halted why runs s k h = step_fails new s k (line.Crash text node calls left) why (runs s k h)
 
   pub crash_halts : (x : KeptLine) → x ≡ line.Crash text node calls left → (why : WorldStop) → RunsCrash code new text node calls left (Err why) → RunsKeptLine code new x (Err why)
   crash_halts x is why runs = subst (λ (y : KeptLine). RunsKeptLine code new y (Err why)) (sym is) (crash_halted why runs)
@@ -136,13 +148,15 @@ module _ (code new : KeptWorld) (x : Line) where
 
     event_line_told : (told : Report) (r : Result (List ℕ) WorldStop) → RunsPlain code new x.text e (Ok told) → TellsEvent x.text told r → RunsKeptLine code new (event_line x.text e) r
     event_line_told told (Ok text) runs tells s k h = let a = runs s k h in record { choice = a.choice; comes = a.occurs; told_is = tells ∙ ap (event_told x.text) a.report_is; stands = a.stands }
-    event_line_told told (Err why) runs tells s k h = subst (λ (y : WorldStop). KeptLineMayStop s k (event_line x.text e) y) (sym tells) tt
+    event_line_told told (Err why) runs tells s k h =
+        let a = runs s k h in
+        subst (λ (y : WorldStop). KeptLineFails new s k (event_line x.text e) y) (sym tells) (inr (inr (record { choice = a.choice; comes = a.occurs; stands = a.stands })))
 
     pub event_tells : (told : Report) (r : Result (List ℕ) WorldStop) → RunsPlain code new x.text e (Ok told) → TellsEvent x.text told r → RunsKeptLine code new (line.Plain x) r
     event_tells told r runs tells = subst (λ (y : KeptLine). RunsKeptLine code new y r) (sym same_line) (event_line_told told r runs tells)
 
     event_line_stopped : (why : WorldStop) → RunsPlain code new x.text e (Err why) → RunsKeptLine code new (event_line x.text e) (Err why)
-    event_line_stopped why runs s k h = runs s k h
+    event_line_stopped why runs s k h = step_fails new s k (event_line x.text e) why (runs s k h)
 
     pub event_stops : (why : WorldStop) → RunsPlain code new x.text e (Err why) → RunsKeptLine code new (line.Plain x) (Err why)
     event_stops why runs = subst (λ (y : KeptLine). RunsKeptLine code new y (Err why)) (sym same_line) (event_line_stopped why runs)
@@ -161,7 +175,7 @@ module _ (code new : KeptWorld) (x : Line) where
 
     look_told : (r : Result (List ℕ) WorldStop) → RunsKeptLook code x.text node r → RunsKeptLine code code look_line r
     look_told (Ok told) runs s k h = record { choice = no_choice; comes = tt; told_is = runs s k h; stands = h.stands }
-    look_told (Err why) runs s k h = subst (λ (y : WorldStop). KeptLineMayStop s k look_line y) (sym (runs s k h)) tt
+    look_told (Err why) runs s k h = subst (λ (y : WorldStop). KeptLineFails code s k look_line y) (sym (runs s k h)) (inl h.stands)
 
     pub look_tells : (r : Result (List ℕ) WorldStop) → RunsKeptLook code x.text node r → RunsKeptLine code code (line.Plain x) r
     look_tells r runs = subst (λ (y : KeptLine). RunsKeptLine code code y r) (sym same_look) (look_told r runs)

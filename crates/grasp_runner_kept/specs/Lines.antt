@@ -1,5 +1,5 @@
 -- What the code promises of one line of a script of a network whose nodes crash.
-use Rattle.std.specs.Prelude.{◌≡◌, ℕ, List, length, Result, Ok, Err}
+use Rattle.std.specs.Prelude.{◌≡◌, ◌⊎◌, ℕ, List, length, Result, Ok, Err}
 use Rattle.grasp_disk.specs.declared.left.Left.{Left}
 use Rattle.grasp_pool.specs.declared.image.PoolImage.{PoolImage}
 use Rattle.grasp_model_network.specs.Plans.{IsNode}
@@ -22,7 +22,7 @@ use Rattle.grasp_model_kept.specs.World.{KeptState}
 use Rattle.grasp_model_kept.specs.declared.event.KeptEvent.TheVariants as kept
 use Rattle.grasp_model_kept.specs.declared.report.KeptReport.{KeptReport}
 use Rattle.grasp_model_kept.specs.declared.report.KeptReport.TheVariants as report
-use Rattle.grasp_kept.specs.Contract.{KeptNetwork, going}
+use Rattle.grasp_kept.specs.Contract.{KeptNetwork, going, stopped}
 use Rattle.grasp_kept.specs.Stands.{KeptWorldStands}
 use Rattle.grasp_kept.specs.declared.kept_world.KeptWorld.{KeptWorld}
 use Rattle.grasp_runner.specs.Lines.{LookAnswers}
@@ -31,6 +31,10 @@ use Rattle.grasp_model_script_kept.specs.LineRuns.{KeptLineOverflows, MayHappen,
 -- a network with its disks that goes on
 abbrev pub kept_at : Setting → KeptState → KeptNetwork
 kept_at s k = record { setting = s; standing = going k }
+
+-- one that was stopped, and why
+abbrev pub kept_stopped : Setting → WorldStop → KeptNetwork
+kept_stopped s why = record { setting = s; standing = stopped why }
 
 -- a script of so many nodes can have this line
 abbrev pub CanHave : ℕ → KeptLine → Type 0
@@ -48,10 +52,34 @@ pub record CanRunKept (code : KeptWorld) (x : KeptLine) : Type 0 where
   pub state : KeptState
   pub meets : MeetsKeptLine code setting state x
 
--- why the line may stop the network: its event sends too much, or, at any time, for want of memory
-abbrev pub KeptLineMayStop : Setting → KeptState → KeptLine → WorldStop → Type 0
-KeptLineMayStop s k x stop.TooMuch = KeptLineOverflows s k x
-KeptLineMayStop s k x stop.OutOfMemory = Unit {0}
+-- ---- where a line isn't reported
+
+-- the line sends too much, and the code stands for a network that was stopped for this
+pub record IsOverflown (code : KeptWorld) (s : Setting) (k : KeptState) (x : KeptLine) : Type 0 where
+  pub overflows : KeptLineOverflows s k x
+  pub stands : KeptWorldStands code (kept_stopped s stop.TooMuch)
+
+-- the line came out so, and the code stands for the network after it
+pub record IsPast (code : KeptWorld) (s : Setting) (k : KeptState) (x : KeptLine) : Type 0 where
+  pub choice : Choice
+  pub comes : MayHappen s k (line_event k.world x) choice
+  pub stands : KeptWorldStands code (kept_at s (state_then s k (line_event k.world x) choice))
+
+-- there was no memory: the code stands for the network as it was before the line, for one that was stopped for this, or for that after the line
+abbrev pub IsStarved : KeptWorld → Setting → KeptState → KeptLine → Type 0
+IsStarved code s k x = KeptWorldStands code (kept_at s k) ⊎ (KeptWorldStands code (kept_stopped s stop.OutOfMemory) ⊎ IsPast code s k x)
+
+-- why the line isn't reported, and for what the code stands then
+abbrev pub KeptLineFails : KeptWorld → Setting → KeptState → KeptLine → WorldStop → Type 0
+KeptLineFails code s k x stop.TooMuch = IsOverflown code s k x
+KeptLineFails code s k x stop.OutOfMemory = IsStarved code s k x
+
+-- Inside: its event didn't come out
+abbrev pub StepFails : KeptWorld → Setting → KeptState → KeptLine → WorldStop → Type 0
+StepFails code s k x stop.TooMuch = IsOverflown code s k x
+StepFails code s k x stop.OutOfMemory = KeptWorldStands code (kept_at s k) ⊎ KeptWorldStands code (kept_stopped s stop.OutOfMemory)
+
+-- ---- a line
 
 -- the line came out so, this is its report, and the code stands for the network after it
 pub record KeptLineReported (code : KeptWorld) (s : Setting) (k : KeptState) (x : KeptLine) (told : List ℕ) : Type 0 where
@@ -62,7 +90,7 @@ pub record KeptLineReported (code : KeptWorld) (s : Setting) (k : KeptState) (x 
 
 abbrev pub KeptLineAnswers : KeptWorld → Setting → KeptState → KeptLine → Result (List ℕ) WorldStop → Type 0
 KeptLineAnswers code s k x (Ok told) = KeptLineReported code s k x told
-KeptLineAnswers code s k x (Err why) = KeptLineMayStop s k x why
+KeptLineAnswers code s k x (Err why) = KeptLineFails code s k x why
 
 -- for each network for which the code went on
 abbrev pub RunsKeptLine : KeptWorld → KeptWorld → KeptLine → Result (List ℕ) WorldStop → Type 0
@@ -81,10 +109,10 @@ pub record PlainReported (code : KeptWorld) (s : Setting) (k : KeptState) (e : E
   pub report_is : told ≡ report_of s k.world (placed_event k.world e) choice
   pub stands : KeptWorldStands code (kept_at s (kept_event s k (kept.Plain (placed_event k.world e)) choice))
 
--- Inside: or it may stop the network for this
+-- Inside: or it failed so
 abbrev pub PlainAnswers : KeptWorld → Setting → KeptState → List ℕ → Event → Result Report WorldStop → Type 0
 PlainAnswers code s k text e (Ok told) = PlainReported code s k e told
-PlainAnswers code s k text e (Err why) = KeptLineMayStop s k (event_line text e) why
+PlainAnswers code s k text e (Err why) = StepFails code s k (event_line text e) why
 
 -- Inside: for each network for which the code went on
 abbrev pub RunsPlain : KeptWorld → KeptWorld → List ℕ → Event → Result Report WorldStop → Type 0
@@ -109,10 +137,10 @@ pub record CrashReported (code : KeptWorld) (s : Setting) (k : KeptState) (node 
   pub image_is : image ≡ image_left s k node calls left choice
   pub stands : KeptWorldStands code (kept_at s (kept_event s k (kept.Crash node calls left) choice))
 
--- Inside: or it may stop the network for this
+-- Inside: or it failed so
 abbrev pub CrashAnswers : KeptWorld → Setting → KeptState → List ℕ → ℕ → ℕ → Left → Result PoolImage WorldStop → Type 0
 CrashAnswers code s k text node calls left (Ok image) = CrashReported code s k node calls left image
-CrashAnswers code s k text node calls left (Err why) = KeptLineMayStop s k (line.Crash text node calls left) why
+CrashAnswers code s k text node calls left (Err why) = StepFails code s k (line.Crash text node calls left) why
 
 -- Inside: for each network for which the code went on
 abbrev pub RunsCrash : KeptWorld → KeptWorld → List ℕ → ℕ → ℕ → Left → Result PoolImage WorldStop → Type 0

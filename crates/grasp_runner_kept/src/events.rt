@@ -12,7 +12,7 @@ use grasp_model_kept::{KeptEvent, KeptReport};
 use grasp_model_network::{Event, Report, WorldStop};
 use grasp_script::Line;
 
-/// An event of a line happens. After an `Err` nothing is said of the network.
+/// An event of a line happens. After `OutOfMemory` the network is as it was, or it is stopped.
 pub(crate) fn run_event(
     world: &mut KeptWorld,
     line: &Line,

@@ -19,8 +19,10 @@ use grasp_script::{Line, LineAct, told_report, told_state};
 use grasp_script_kept::{KeptLine, told_restart};
 use std::alloc::Global;
 
-/// Runs a line in a network whose nodes crash, and answers its report, without a line end. After an `Err` nothing is said of the
-/// network.
+/// Runs a line in a network whose nodes crash, and answers its report, without a line end.
+///
+/// With `TooMuch` the network is stopped. With `OutOfMemory` it is as it was before the line, it is stopped, or the line was run
+/// and only its report is missing.
 pub fn run_kept_line(
     alloc: Global,
     world: &mut KeptWorld,

@@ -24,4 +24,4 @@ returns-in-Err-step-clause-runs c =
     c.step.new.self c.in-Err-step.stop c.in-Err-step.ensures.stepped
 
 pub returns-in-Err-clause-runs : goal.returns-in-Err-clause-runs
-returns-in-Err-clause-runs c = plain_starves c.args.world.now c.args.world.now c.args.line.now.text c.args.event.now
+returns-in-Err-clause-runs c = plain_starves c.args.world.now c.args.line.now.text c.args.event.now
