@@ -42,7 +42,7 @@ reply_in (plain.Agent call r) = r
 reply_in _ = reply.Taken
 
 module _ (s : Setting) (w : WorldState) (node : ℕ) (seat : Seat) (here : seat_at w (present_life w node) ≡ Some seat) where
-  call_reported : (asa : ℕ) (call : Call) (hold : Bool) (c : Choice) → report_of s w (event.Api node asa call hold) c ≡ plain.Reply c.reply
+  pub call_reported : (asa : ℕ) (call : Call) (hold : Bool) (c : Choice) → report_of s w (event.Api node asa call hold) c ≡ plain.Reply c.reply
   unfolding report_of
   call_reported asa call hold c = ap (λ (o : Option Seat). report_by w (event.Api node asa call hold) c (visit_seat (present_life w node) (input.Api asa call) o)) here
 
@@ -50,7 +50,7 @@ module _ (s : Setting) (w : WorldState) (node : ℕ) (seat : Seat) (here : seat_
   unfolding reply_in
   call_replies asa call hold c d same = ap reply_in (sym (call_reported asa call hold c) ∙ same ∙ call_reported asa call hold d)
 
-  agent_reported : (hold : Bool) (c : Choice) → report_of s w (event.Agent node hold) c ≡ plain.Agent (next_call seat.agent) c.reply
+  pub agent_reported : (hold : Bool) (c : Choice) → report_of s w (event.Agent node hold) c ≡ plain.Agent (next_call seat.agent) c.reply
   unfolding report_of agent_visit
   agent_reported hold c = ap (λ (o : Option Seat). report_by w (event.Agent node hold) c (agent_seat (present_life w node) o)) here
 

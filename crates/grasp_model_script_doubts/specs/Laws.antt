@@ -1,8 +1,15 @@
 -- Laws on the runs of scripts of networks of doubters.
 use Rattle.std.specs.Prelude.{◌≡◌, ℕ, List}
+use Rattle.grasp_model_network.specs.Plans.{IsGoodPlan}
+use Rattle.grasp_model_network.specs.Setting.{script_setting}
 use Rattle.grasp_model_network.specs.declared.plan.WorldPlan.{WorldPlan}
 use Rattle.grasp_script_doubts.specs.declared.line.DoubtLine.{DoubtLine}
-use Rattle.grasp_model_script_doubts.specs.ScriptRuns.{DoubtsSendTooMuch, IsDoubtRunText, Resolves, ResolvesTooMuch, StopsResolving}
+use Rattle.grasp_model_script_doubts.specs.LineRuns.{DoubtLineRun}
+use Rattle.grasp_model_script_doubts.specs.ScriptRuns.{DoubtsSendTooMuch, IsDoubtRunText, MayRunAllDoubts, Resolves, ResolvesTooMuch, RunsDoubtsSafely, StopsResolving, doubts_of}
+
+-- however the lines of a script come out in the network of a good plan, each network that they lead to is safe, and each prefix that is settled is dead
+abbrev pub EachDoubtRunIsSafe : Type 0
+EachDoubtRunIsSafe = (plan : WorldPlan) (ls : List DoubtLineRun) → IsGoodPlan plan → MayRunAllDoubts (script_setting plan) (doubts_of plan) ls → RunsDoubtsSafely plan ls
 
 -- the run of a script has one text
 pub record DoubtTextsAgree : Type 0 where

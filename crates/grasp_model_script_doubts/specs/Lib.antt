@@ -1,3 +1,4 @@
 pub mod Laws
 pub mod LineRuns
 pub mod ScriptRuns
+pub mod Settlings

@@ -5,10 +5,11 @@ use Rattle.grasp_model_network.specs.declared.plan.WorldPlan.{WorldPlan}
 use Rattle.grasp_script_doubts.specs.Scripts.{IsDoubtScript}
 use Rattle.grasp_script_doubts.specs.declared.line.DoubtLine.{DoubtLine}
 use Rattle.grasp_model_script.specs.Safe.{IsSafe}
-use Rattle.grasp_model_doubts.specs.Runs.{DoubtTurn, doubt_networks}
+use Rattle.grasp_model_doubts.specs.Runs.{DoubtTurn, IsDoubted, doubt_networks}
 use Rattle.grasp_model_doubts.specs.Openings.{first_doubts}
 use Rattle.grasp_model_doubts.specs.World.{DoubtState}
 use Rattle.grasp_model_script_doubts.specs.LineRuns.{DoubtLineOverflows, DoubtLineRun, MayRunDoubts, act_event, after_doubt_line, doubt_line_told, turn_of}
+use Rattle.grasp_model_script_doubts.specs.Settlings.{AllSettleDead}
 
 -- ---- lines, one after the other from a network on
 
@@ -40,10 +41,13 @@ doubt_turns s x (l ∷ ls) = turn_of (act_event x.world l.line.act) l.choice ++ 
 abbrev pub doubts_of : WorldPlan → DoubtState
 doubts_of plan = first_doubts (script_setting plan)
 
--- the lines may come out so, and each network that they lead to is safe, also that before a prefix is settled
+-- the lines may come out so; each network that they lead to is safe, also that before a prefix is settled; each prefix that is settled is dead just
+-- then; and the last one is one that events lead to in a network of doubters, so that what is so of all these is so of it
 pub record RunsDoubtsSafely (plan : WorldPlan) (ls : List DoubtLineRun) : Type 0 where
   pub may_run : MayRunAllDoubts (script_setting plan) (doubts_of plan) ls
   pub safe : All (IsSafe (script_setting plan)) (doubt_networks (script_setting plan) (doubts_of plan) (doubt_turns (script_setting plan) (doubts_of plan) ls))
+  pub dead : AllSettleDead (script_setting plan) (doubts_of plan) (doubt_turns (script_setting plan) (doubts_of plan) ls)
+  pub doubted : IsDoubted (script_setting plan) (state_after (script_setting plan) (doubts_of plan) ls)
 
 -- what is reported of them
 abbrev pub doubt_told_of : WorldPlan → List DoubtLineRun → List ℕ

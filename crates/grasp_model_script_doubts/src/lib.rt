@@ -3,4 +3,4 @@
 
 mod laws;
 
-pub use laws::{doubt_runs_or_stop, doubt_texts_agree};
+pub use laws::{doubt_runs_or_stop, doubt_texts_agree, each_doubt_run_is_safe};
