@@ -1,0 +1,12 @@
+pub mod Texts
+pub mod Ranges
+pub mod FirstCalls
+pub mod Lending
+pub mod Replies
+pub mod AgentCalls
+pub mod DoubterCalls
+pub mod Settling
+pub mod Questions
+pub mod Openings
+pub mod Worlds
+pub mod Steps

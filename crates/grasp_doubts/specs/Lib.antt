@@ -1,0 +1,4 @@
+pub mod Contract
+pub mod Nodes
+pub mod Opening
+pub mod Stands
