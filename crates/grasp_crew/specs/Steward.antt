@@ -31,9 +31,13 @@ pub record StewardState : Type 0 where
   pub quiet : ℕ
   pub pace : Pace
 
+-- this agent, none of whose wants was given
+abbrev pub steward_of : AgentState → List WantPlan → Pace → StewardState
+steward_of agent wants pace = record { agent = agent; wants = map wanted_of wants; tries = map (λ w. untried pace) wants; asking = 0; quiet = 0; pace = pace }
+
 -- an agent that has made no call, and none of whose wants was given
 abbrev pub first_steward : Holding → List WantPlan → Pace → StewardState
-first_steward pool wants pace = record { agent = first_agent pool; wants = map wanted_of wants; tries = map (λ w. untried pace) wants; asking = 0; quiet = 0; pace = pace }
+first_steward pool wants pace = steward_of (first_agent pool) wants pace
 
 -- ---- what it is told
 

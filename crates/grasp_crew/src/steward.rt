@@ -3,7 +3,8 @@
 ghost use Rattle.std.specs.Prelude.{◌≡◌, map, Some, IfOk, OnOk, OnErr};
 ghost use Rattle.grasp_pool.specs.Functions.{pool_of};
 ghost use Rattle.grasp_crew.specs.Nudges.{wanted_of};
-ghost use Rattle.grasp_crew.specs.Steward.{first_steward, may_want, steward_nudge, nudge_of_place, steward_told, steward_due, steward_call, steward_after, steward_woken, is_asked, with_want, without_want, tries_with};
+ghost use Rattle.grasp_crew.specs.Steward.{first_steward, steward_of, may_want, steward_nudge, nudge_of_place, steward_told, steward_due};
+ghost use Rattle.grasp_crew.specs.Steward.{steward_call, steward_after, steward_woken, is_asked, with_want, without_want, tries_with};
 ghost use Rattle.grasp_crew.specs.Trying.{ripe_place, given, tried, dropped};
 
 use crate::replies::is_quiet;
@@ -52,6 +53,18 @@ impl Steward {
         let Ok(agent) = PrefixAgent::open(alloc, roots) else {
             return Err(OutOfMemory);
         };
+        Steward::of(alloc, agent, wants, pace)
+    }
+
+    /// This agent, none of whose wants was given.
+    pub fn of(
+        alloc: Global,
+        agent: PrefixAgent,
+        wants: List<WantPlan>,
+        pace: Pace,
+    ) -> Result<Steward, OutOfMemory>
+        ensures { IfOk result (λ m. m ≡ steward_of agent wants pace) }
+    {
         let mut tries = Vec::new(alloc);
         for _want in wants.slice() {
             tries.push(Trying::untried(pace))?;
@@ -188,6 +201,13 @@ impl Steward {
         if place < self.tries.len() {
             self.tries[place] = self.tries[place].dropped();
         }
+    }
+
+    /// The agent.
+    pub fn agent(&self) -> &PrefixAgent
+        ensures { result.now ≡ self.now.agent }
+    {
+        &self.agent
     }
 
     /// The prefixes that the agent holds.

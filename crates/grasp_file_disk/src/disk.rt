@@ -3,7 +3,8 @@
 ghost use Rattle.std.specs.Prelude.{◌≤◌};
 ghost use Rattle.grasp_io.specs.Faults.{Rose};
 
-use crate::pieces::{FILE_BYTES, read_pieces, write_pieces};
+use crate::pieces::{FILE_BYTES, GATES, fill, read_pieces, write_pieces};
+use crate::slots::is_whole;
 use grasp_disk::Disk;
 use grasp_io::Failed;
 use std::fs::{File, OpenOptions};
@@ -25,6 +26,9 @@ pub enum FileFault {
     /// Another process has it open, or this one has it open already.
     #[error("the store is busy")]
     Busy,
+    /// This slot, 0 or 1, is not as it was written.
+    #[error("bad store in slot {slot}")]
+    Spoilt { slot: u8 },
     /// A call of the machine failed.
     #[error("the file failed")]
     Failed,
@@ -33,8 +37,12 @@ pub enum FileFault {
 /// A file of the machine as a disk, which nobody else opens as a disk meanwhile. It tells no content.
 ///
 /// It keeps the promises of a disk where the machine does: `sync` returns once the medium has the bytes, a loss of power spoils
-/// no block of 4,096 bytes that isn't being written, nobody else writes the file, and no older copy is put in its place. After a
-/// sync that failed each call fails, since the machine may have dropped what was written.
+/// no block of 4,096 bytes that isn't being written and leaves the first eight bytes of such a block old or new, nobody else writes
+/// the file, and no older copy is put in its place. After a sync that failed each call fails, since the machine may have dropped
+/// what was written.
+///
+/// It tells where the medium breaks that promise: each gate has its bytes twice over, and what was written behind it in one call has a
+/// sum, which is looked at once the gate is open. Whoever opens a gate has to have written all behind it in one call.
 #[derive(Drop)]
 pub struct FileDisk {
     file: File,
@@ -54,7 +62,7 @@ impl FileDisk {
         if file.try_lock().is_err() {
             return Err(FileFault::Busy);
         }
-        if file.set_len(FILE_BYTES).is_err() || file.sync_all().is_err() {
+        if fill(&file).is_err() || file.sync_all().is_err() {
             return Err(FileFault::Failed);
         }
         sync_folder(files, path)?;
@@ -62,7 +70,7 @@ impl FileDisk {
     }
 
     /// Opens the disk at this path, and locks it. What an earlier process wrote is brought to the medium first, and the machine's
-    /// copies of it are dropped: that process may have met a sync that failed.
+    /// copies of it are dropped: that process may have met a sync that failed. `Spoilt` where a slot isn't as it was written.
     pub fn open<R: Files<File = File>>(files: &R, path: &str) -> Result<FileDisk, FileFault> {
         let Ok(file) = OpenOptions::new().read(true).write(true).open(files, path) else {
             return Err(FileFault::NoStore);
@@ -80,6 +88,7 @@ impl FileDisk {
         if libc::posix_fadvise(file.as_raw_fd(), 0, 0, libc::POSIX_FADV_DONTNEED) != 0 {
             return Err(FileFault::Failed);
         }
+        see_slots(&file)?;
         Ok(FileDisk::of(file))
     }
 
@@ -91,6 +100,18 @@ impl FileDisk {
             faults: 0,
         }
     }
+}
+
+/// Sees that each slot is as it was written.
+fn see_slots(file: &File) -> Result<(), FileFault> {
+    for slot in 0..2u8 {
+        match is_whole(file, GATES[slot as usize]) {
+            Ok(true) => {}
+            Ok(false) => return Err(FileFault::Spoilt { slot }),
+            Err(Failed) => return Err(FileFault::Failed),
+        }
+    }
+    Ok(())
 }
 
 /// Sees that the name of a file that was made stays through a loss of power.

@@ -4,7 +4,10 @@
 
 mod disk;
 mod pieces;
+mod slots;
 mod store;
+mod store_file;
 
 pub use disk::{FileDisk, FileFault};
 pub use store::{FileStore, StoreFault};
+pub use store_file::StoreFile;

@@ -1,2 +1,3 @@
 mod Expiring
 mod Reading
+mod TimingOut

@@ -3,4 +3,4 @@
 
 mod beginning_laws;
 
-pub use beginning_laws::{beginnings_expire, what_comes_is_read};
+pub use beginning_laws::{beginnings_expire, due_time_out, what_comes_is_read};

@@ -15,7 +15,7 @@ use Rattle.grasp_model_node.specs.Node.{NodeState}
 use Rattle.grasp_model_node.specs.Queue.{along, all_ways, other_ways}
 use Rattle.grasp_model_node.specs.declared.way.Way.{Way}
 use Rattle.grasp_types.specs.declared.message.Message.{Message}
-use Rattle.grasp_laws_datagrams.specs.Relaying.{OtherWaysAreOther, IsRelayed}
+use Rattle.grasp_laws_datagrams.specs.Relaying.{OtherWaysAreOther, EachWayIsTaken, IsRelayed}
 
 pub other_ways_are_other : OtherWaysAreOther
 other_ways_are_other link links way = (there, back) where
@@ -30,6 +30,9 @@ other_ways_are_other link links way = (there, back) where
 
   back : IsWay links way × (way.link ≢ link) → Contains (other_ways link links) way
   back h = filter_keeps other (all_ways links) way ((ways_all links way).1 h.0) (ap not (ne_eqb way.link link h.1))
+
+pub each_way_is_taken : EachWayIsTaken
+each_way_is_taken m ways = refl
 
 pub relayed : (n : NodeState) (link : ℕ) (m : Message) → IsRelayed n link m (relay n m (other_ways link n.plan.links))
 unfolding queue_up

@@ -3,4 +3,4 @@
 
 mod datagram_laws;
 
-pub use datagram_laws::{datagrams_are_taken, other_ways_are_other};
+pub use datagram_laws::{datagrams_are_taken, each_way_is_taken, other_ways_are_other};

@@ -1,5 +1,5 @@
 -- What a message does that comes on a stream without a session (RFC 8990, section 2.5). All numbers and reasons are this project's own.
-use Rattle.std.specs.Prelude.{◌≡◌, ◌≢◌, ◌<◌, ◌+◌, ◌-◌, ◌^◌, ℕ, false, true, List, Option, None, Some, codes, count_by, is_some, slice_get, slice_set}
+use Rattle.std.specs.Prelude.{◌≡◌, ◌≢◌, ◌<◌, ◌+◌, ◌-◌, ◌^◌, ℕ, false, true, List, [], ◌∷◌, Option, None, Some, codes, count_by, is_some, slice_get, slice_set}
 use Rattle.grasp_asa.specs.Answers.{listener_of, flags_registered, value_offered}
 use Rattle.grasp_asa.specs.Registrations.{Registrations}
 use Rattle.grasp_cbor.specs.DataItem.{DataItem}
@@ -16,7 +16,6 @@ use Rattle.grasp_model_node.specs.declared.plan.NodePlan.{NodePlan}
 use Rattle.grasp_session.specs.Messages.{Far}
 use Rattle.grasp_session.specs.Says.{Starts}
 use Rattle.grasp_session.specs.Sessions.{SessionState, Sessions}
-use Rattle.grasp_session.specs.Transcript.{opening}
 use Rattle.grasp_types.specs.Objective.{has_neg, has_synch, has_dry}
 use Rattle.grasp_types.specs.Origin.{origin_of}
 use Rattle.grasp_types.specs.declared.address.Address.{Address}
@@ -54,9 +53,15 @@ pub record HasRoom (z : Sessions) : Type 0 where
   pub live : count_by is_some z.places < 64
   pub numbers : z.made ≢ 2 ^ 64 - 1
 
--- a listener's session, which no agent has taken: it has kept the request at the clock reading, and times out 60000 ms after its last message
+-- a listener's session, which no agent has taken: it has kept the request at the clock reading, and nothing else, and times out 60000 ms after its
+-- last message
 abbrev pub listener : NodeState → ℕ → ℕ → Objective → SessionState
-listener n stream session o = record { number = n.sessions.made + 1; owner = 0; stream = stream; view = opening Negotiation Far 60000 n.reading session o }
+listener n stream session o = record {
+  number = n.sessions.made + 1;
+  owner = 0;
+  stream = stream;
+  view = record { role = Far; kind = Negotiation; timeout = 60000; entries = record { sent = false; message = ReqNeg session o; at = n.reading } ∷ []; mark = None };
+}
 
 -- the session begins at the least empty place, the stream stays open, and nothing else has changed
 pub record Begins (n : NodeState) (stream session : ℕ) (o : Objective) (heard : Heard) : Type 0 where

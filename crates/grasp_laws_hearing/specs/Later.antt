@@ -5,8 +5,8 @@ use Rattle.grasp_laws_receiving.specs.Receiving.{Receives}
 use Rattle.grasp_model_node.specs.Hear.{Heard}
 use Rattle.grasp_model_node.specs.Node.{NodeState}
 use Rattle.grasp_session.specs.Says.{IsAt}
-use Rattle.grasp_session.specs.Sessions.{SessionState, Sessions, with_transcript}
-use Rattle.grasp_session.specs.Transcript.{Mark, Faulty, is_going, session_of, with_kept, with_mark}
+use Rattle.grasp_session.specs.Sessions.{SessionState, Sessions}
+use Rattle.grasp_session.specs.Transcript.{Mark, Faulty, is_going, session_of}
 use Rattle.grasp_session.specs.declared.answer.Received.TheVariants.{Kept, Ignored, Bad}
 use Rattle.grasp_types.specs.declared.message.Message.{Message}
 use Rattle.grasp_types.specs.declared.message.Message.TheVariants.{Invalid}
@@ -21,15 +21,23 @@ pub record IsNow (z : Sessions) (place : ℕ) (x : SessionState) (after : Sessio
   pub stays : ¬ ((x.owner ≡ 0) × (is_going x.view ≡ false)) → after ≡ record { made = z.made; places = slice_set z.places place (Some x); gone = z.gone }
   pub leaves : x.owner ≡ 0 → is_going x.view ≡ false → after ≡ record { made = z.made; places = slice_set z.places place None; gone = x ∷ z.gone }
 
+-- the session as it has kept the message: that is its newest entry, with this reading, and nothing else has changed
+abbrev pub as_kept : SessionState → ℕ → Message → SessionState
+as_kept x now m = record x { view = record x.view { entries = record { sent = false; message = m; at = now } ∷ x.view.entries } }
+
 -- the session keeps the message, at the clock reading; the stream stays open until the session has its outcome, and nothing else has changed
 pub record Keeps (n : NodeState) (place : ℕ) (x : SessionState) (m : Message) (heard : Heard) : Type 0 where
-  pub sessions : IsNow n.sessions place (with_transcript x (with_kept x.view n.reading m)) heard.node.sessions
+  pub sessions : IsNow n.sessions place (as_kept x n.reading m) heard.node.sessions
   pub rest : heard.node ≡ record n { sessions = heard.node.sessions }
-  pub stays_open : heard.is_open ≡ is_going (with_kept x.view n.reading m)
+  pub stays_open : heard.is_open ≡ is_going (as_kept x n.reading m).view
+
+-- the session as it has ended by this mark: it has the mark, and nothing else has changed
+abbrev pub as_marked : SessionState → Mark → SessionState
+as_marked x mark = record x { view = record x.view { mark = Some mark } }
 
 -- the session ends by this mark, and nothing else is changed among the sessions
 abbrev pub IsMarked : NodeState → ℕ → SessionState → Mark → Sessions → Type 0
-IsMarked n place x mark after = IsNow n.sessions place (with_transcript x (with_mark x.view mark)) after
+IsMarked n place x mark after = IsNow n.sessions place (as_marked x mark) after
 
 -- the session ends as one to which something bad came, and tells the peer so by an M_INVALID of its own number; the stream begins closing
 pub record EndsBadly (n : NodeState) (stream place : ℕ) (x : SessionState) (heard : Heard) : Type 0 where

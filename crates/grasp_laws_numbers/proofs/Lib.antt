@@ -1,1 +1,2 @@
-pub mod Next
+mod InUse
+mod Next

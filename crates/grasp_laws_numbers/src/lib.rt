@@ -3,4 +3,4 @@
 
 mod number_laws;
 
-pub use number_laws::drawn_is_next;
+pub use number_laws::{drawn_is_next, used_are_in_use};

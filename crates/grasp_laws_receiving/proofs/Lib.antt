@@ -1,3 +1,5 @@
 mod Finding
+mod Flags
 mod Outcomes
 pub mod Receiving
+mod Recording

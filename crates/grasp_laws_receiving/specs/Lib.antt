@@ -1,3 +1,5 @@
 pub mod Finding
+pub mod Flags
 pub mod Outcomes
 pub mod Receiving
+pub mod Recording

@@ -3,6 +3,7 @@
 ghost use Rattle.grasp_laws_receiving.specs.Finding.{SessionsAreFound};
 ghost use Rattle.grasp_laws_receiving.specs.Outcomes.{OutcomesHaveCauses};
 ghost use Rattle.grasp_laws_receiving.specs.Receiving.{MessagesAreReceived};
+ghost use Rattle.grasp_laws_receiving.specs.Recording.{TranscriptsRecord};
 
 /// What a session keeps of the messages that come, what it ignores and what is bad: exactly, for each message.
 #[tactic(auto, using(crate::proofs::Receiving::messages_are_received))]
@@ -20,4 +21,11 @@ pub fn outcomes_have_causes()
 #[tactic(auto, using(crate::proofs::Finding::sessions_are_found))]
 pub fn sessions_are_found()
     ensures { SessionsAreFound }
+{}
+
+/// A transcript has each message that was kept or said as an entry, the newest first, with the clock reading at which it was; it begins
+/// with the request alone, and what ended it from outside is its mark.
+#[tactic(auto, using(crate::proofs::Recording::transcripts_record))]
+pub fn transcripts_record()
+    ensures { TranscriptsRecord }
 {}

@@ -1,4 +1,5 @@
 mod Closings
 pub mod Draining
 pub mod Fitting
+mod Recording
 mod Short

@@ -2,6 +2,7 @@
 
 ghost use Rattle.grasp_laws_sending.specs.Draining.{DrainsAreExact};
 ghost use Rattle.grasp_laws_sending.specs.Fitting.{QueuesFit, WhatIsGivenFits};
+ghost use Rattle.grasp_laws_sending.specs.Recording.{WhatIsSentIsRecorded};
 
 /// Every message that is queued has at most as many bytes as the node's limit allows, whatever its agents and its peers do.
 pub fn queues_fit()
@@ -17,4 +18,9 @@ pub fn what_is_given_fits()
 /// changes nothing else.
 pub fn drains_are_exact()
     ensures { DrainsAreExact }
+{}
+
+/// What an agent says in a session and what it requests is written down there at the clock reading as it is sent, and nothing else.
+pub fn what_is_sent_is_recorded()
+    ensures { WhatIsSentIsRecorded }
 {}

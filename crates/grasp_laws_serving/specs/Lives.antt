@@ -77,7 +77,7 @@ life_happens p l = all_called (other_openings p l.replies) ++ (rounds_happen (op
 
 -- ---- nodes that served
 
--- the node of a plan served until a visitor stopped it, or until it wanted memory in a round
+-- the node of a plan served until a visitor stopped it, or until a round was cut short: it wanted memory, or its store has a fault
 pub data HasServed (p : ServicePlan) (joining : LinkPlan) (doors : DeskPlan) (before after : Outside) : Type 0 where
   to_its_end : Serves p joining doors before after → HasServed p joining doors before after
   cut_short : FallsShortServing p joining doors before after → HasServed p joining doors before after

@@ -1,5 +1,5 @@
 //! What is wrong in a configuration, and what is of no use in it.
-use crate::{file, place};
+use crate::{WRITE_FAULT, file, place, store};
 use grasp_config::{NodeConfig, ServeConfig, flood_pause, read_config, read_serve};
 use grasp_types::Locator;
 use std::io::Write;
@@ -17,10 +17,17 @@ pub(crate) fn check(rt: &HostRuntime, file: &str) -> u8 {
     if let Ok(config) = read_serve(rt.alloc(), &text) {
         warn(rt, file, &config.node);
         warn_of_floods(rt, file, &config);
+        let status = store::try_out(rt, &config);
+        if status != 0 {
+            return status;
+        }
     } else if let Ok(config) = read_config(rt.alloc(), &text) {
         warn(rt, file, &config);
     }
-    let _ = writeln!(rt.stdout(), "{file}: good");
+    if writeln!(rt.stdout(), "{file}: good").is_err() {
+        let _ = writeln!(rt.stderr(), "grasp_node: standard output: write fault");
+        return WRITE_FAULT;
+    }
     0
 }
 

@@ -1,5 +1,5 @@
-//! The program `grasp_node`: a node that runs for a number of turns, one that serves until it is told to stop, and the clients
-//! of such a node.
+//! The program `grasp_node`: a node that runs for a number of turns, one that serves until it is told to stop, its store, and the
+//! clients of such a node.
 #![tactic(auto)]
 
 mod check;
@@ -10,6 +10,7 @@ mod name;
 mod place;
 mod run;
 mod serve;
+mod store;
 mod words;
 
 use crate::words::{Asked, task_of, words};
@@ -50,6 +51,8 @@ fn answer<R: Threads + Wait + Sync>(rt: &HostRuntime, threads: &R, words: &[Stri
         Some(Asked::Run(file)) => run::run(rt, threads, words, file),
         Some(Asked::Serve(file)) => serve::serve(rt, threads, words, file),
         Some(Asked::Check(file)) => check::check(rt, file),
+        Some(Asked::Init(file)) => store::init(rt, file),
+        Some(Asked::Store(file)) => store::show(rt, file),
         Some(Asked::Client(task, socket)) => client::talk(rt, task, socket),
         None => complain(rt, USAGE),
     }

@@ -1,12 +1,11 @@
 //! A node that makes its turns.
-use crate::name;
+use crate::{file, name};
 use grasp_io::{
     FileSource, Journal, Links, LogLevel, LogSwitch, MioLinks, StdClock, StdSink, random_seed,
 };
 use grasp_node_main::{Status, finish, node_main};
 use grasp_trace::Traced;
 use std::env::{self, VarError};
-use std::fs;
 use std::io::Write;
 use std::sync::Wait;
 use std::thread::Threads;
@@ -26,11 +25,9 @@ pub(crate) fn run<R: Threads + Wait + Sync>(
     finish(rt.alloc(), &status, &mut errors)
 }
 
-/// Says why the file can't be opened, where that is so.
+/// Says why the file can't be read, where that is so.
 fn tell_missing(rt: &HostRuntime, file: &str) {
-    if let Err(error) = fs::open(rt, file) {
-        let _ = writeln!(rt.stderr(), "grasp_node: {file}: {error}");
-    }
+    let _ = file::read(rt, file);
 }
 
 /// Runs a node with a seed of the machine's, and its agents in threads of the second runtime. Where the environment has

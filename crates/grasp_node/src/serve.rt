@@ -1,12 +1,14 @@
 //! A node that serves.
-use crate::{OUT_OF_MEMORY, READ_FAULT, file, place};
+use crate::{OUT_OF_MEMORY, READ_FAULT, file, place, store};
 use grasp_cbor::OutOfMemory;
 use grasp_config::{LogLevel, ServeConfig, ServeFault, ServeTable, read_serve};
 use grasp_desk::MioDesk;
+use grasp_file_disk::{FileFault, StoreFault, StoreFile};
 use grasp_io::{
     AddressRange, Guard, Journal, LogSwitch, MemSource, MioLinks, StdClock, random_seed,
 };
 use grasp_serve_main::{Status, node_serve};
+use grasp_shelf::{Shelf, ShelfFault};
 use grasp_trace::Traced;
 use grasp_types::List;
 use std::io::Write;
@@ -87,6 +89,7 @@ fn serve_guarded<R: Wait>(
     let mut traced = Traced::new(alloc, links, trace);
     let mut source = MemSource::new(text);
     let mut clock = StdClock::new(rt);
+    let mut shelf = Shelf::new(StoreFile::new(rt));
     let status = node_serve(
         waiting,
         alloc,
@@ -97,12 +100,14 @@ fn serve_guarded<R: Wait>(
         &mut traced,
         &mut desk,
         &mut clock,
+        &mut shelf,
         seed,
     );
     // The control socket closes last: whoever waits for that finds the streams ended.
     let mut links = traced.into_links();
     links.settle();
     tell_end(rt, status, &links, &desk);
+    tell_store(rt, status, config, shelf);
     desk.settle();
     status.number()
 }
@@ -130,9 +135,51 @@ fn tell_end(
     } else {
         let why = match status {
             Status::OutOfMemory => "out of memory",
-            Status::NoStore => "serve.store: this version keeps no store: set serve.forget",
             _ => return,
         };
         let _ = writeln!(rt.stderr(), "grasp_node: {why}");
     }
+}
+
+/// Says what is wrong with its store, where that ended the node.
+fn tell_store(
+    rt: &HostRuntime,
+    status: Status,
+    config: &ServeConfig,
+    shelf: Shelf<StoreFile<&HostRuntime>>,
+) {
+    let Some(path) = &config.serve.store else {
+        return;
+    };
+    let path = path.text();
+    if let Status::StoreFault { fault } = status {
+        let _ = writeln!(
+            rt.stderr(),
+            "grasp_node: store {path}: store fault: {fault}"
+        );
+    } else if status == Status::NoStore {
+        tell_unopened(rt, path, shelf);
+    }
+}
+
+/// Says why its store wasn't opened.
+fn tell_unopened(rt: &HostRuntime, path: &str, shelf: Shelf<StoreFile<&HostRuntime>>) {
+    let why = shelf.why();
+    let fault = match shelf.into_store() {
+        Some(store) => store.why(),
+        None => None,
+    };
+    let mut errors = rt.stderr();
+    let _ = write!(errors, "grasp_node: store {path}: ");
+    let _ = match (why, fault) {
+        (Some(ShelfFault::BadImage { slot }), _) => writeln!(errors, "bad store in slot {slot}"),
+        (Some(ShelfFault::Empty), _) => writeln!(errors, "{}", StoreFault::Empty),
+        (Some(ShelfFault::Unopened), Some(FileFault::NoStore)) => {
+            let _ = write!(errors, "{}", FileFault::NoStore);
+            store::tell_missing(rt, path);
+            writeln!(errors)
+        }
+        (Some(ShelfFault::Unopened), Some(fault)) => writeln!(errors, "{fault}"),
+        _ => writeln!(errors, "{}", FileFault::Failed),
+    };
 }

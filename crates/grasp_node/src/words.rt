@@ -18,6 +18,10 @@ pub(crate) enum Asked<'a> {
     Serve(&'a str),
     /// Every fault of this configuration.
     Check(&'a str),
+    /// A new store, configured by this file.
+    Init(&'a str),
+    /// What the store has that this file configures.
+    Store(&'a str),
     /// A client of the node with this control socket.
     Client(Task, &'a str),
 }
@@ -40,6 +44,8 @@ fn asked_of<'a>(word: &str, of: &'a str) -> Option<Asked<'a>> {
         "run" => Some(Asked::Run(of)),
         "serve" => Some(Asked::Serve(of)),
         "check" | "--check" => Some(Asked::Check(of)),
+        "init" => Some(Asked::Init(of)),
+        "store" => Some(Asked::Store(of)),
         "status" => Some(Asked::Client(Task::Status, of)),
         "events" => Some(Asked::Client(Task::Events, of)),
         "talk" => Some(Asked::Client(Task::Talk, of)),

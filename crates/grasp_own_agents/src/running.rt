@@ -2,6 +2,7 @@
 
 ghost use Rattle.std.specs.Prelude.{◌≡◌, ◌≢◌, MatchResult, IsTrue, true, false};
 ghost use Rattle.grasp_io.specs.Faults.{Rose};
+ghost use Rattle.grasp_node_main.specs.Program.{NothingPassed};
 ghost use Rattle.grasp_node_main.specs.Tells.{links_told, told};
 ghost use Rattle.grasp_own_agents.specs.Running.{Opened, OpensLinks, Went, RanOpen, Ran};
 ghost use Rattle.grasp_service_visits.specs.Calling.{GoesSome};
@@ -22,6 +23,7 @@ use grasp_io::{Clock, LinkPlan, Links};
 ///
 /// The agents are the callers 1, 2 and so on of the node's history, and the loop is caller 0. An agent that isn't registered yet has
 /// the number 0, so that its calls but the first are refused. Where there is no memory for an agent's next call the run ends at once.
+/// Where the links can't be opened nothing passed over them, and the clock wasn't read.
 #[tactic(auto, using(crate::proofs::Turns::running))]
 pub fn run_agents<L: Links, C: Clock, A: Agent>(
     core: &mut NodeCore,
@@ -38,6 +40,8 @@ pub fn run_agents<L: Links, C: Clock, A: Agent>(
         (told (C.readings clock.new) (links_told L.Links links.new)) }
     ensures short { result ≢ RunningEnd.Done → GoesSome core.old core.new }
     ensures link_fault { result ≡ RunningEnd.LinkFault → Rose (L.faults links.old) (L.faults links.new) }
+    ensures nothing_passed { result ≡ RunningEnd.LinkFault → NothingPassed (links_told L.Links links.old) (links_told L.Links links.new) }
+    ensures clock_unread { result ≡ RunningEnd.LinkFault → clock.new ≡ clock.old }
 {
     match open(core, agents, opening) {
         Ok(()) => run_open(core, agents, joining, turns, wait, links, clock),
@@ -61,6 +65,8 @@ fn run_open<L: Links, C: Clock, A: Agent>(
         (told (C.readings clock.new) (links_told L.Links links.new)) }
     ensures short { result ≢ RunningEnd.Done → GoesSome core.old core.new }
     ensures link_fault { result ≡ RunningEnd.LinkFault → Rose (L.faults links.old) (L.faults links.new) }
+    ensures nothing_passed { result ≡ RunningEnd.LinkFault → NothingPassed (links_told L.Links links.old) (links_told L.Links links.new) }
+    ensures clock_unread { result ≡ RunningEnd.LinkFault → clock.new ≡ clock.old }
 {
     if !open_links(links, joining) {
         return RunningEnd::LinkFault;
@@ -78,6 +84,7 @@ fn run_open<L: Links, C: Clock, A: Agent>(
 fn open_links<L: Links>(links: &mut L, plan: &LinkPlan) -> bool
     ensures opens { result ≡ true → OpensLinks plan.now (links_told L.Links links.old) (links_told L.Links links.new) }
     ensures fault { result ≡ false → Rose (L.faults links.old) (L.faults links.new) }
+    ensures nothing_passed { result ≡ false → NothingPassed (links_told L.Links links.old) (links_told L.Links links.new) }
 {
     links.open(plan).is_ok()
 }

@@ -3,6 +3,8 @@
 
 use grasp_io::{StdSink, StdSource};
 use grasp_replay_main::{Status, finish, print_text, replay_main, text_for};
+use libc::net as c;
+use libc::types::pollfd;
 use std::env;
 use std::io::ErrorKind;
 use std::process::ExitCode;
@@ -13,8 +15,21 @@ fn main(rt: HostRuntime) -> ExitCode {
         Ok(words) => answer(&rt, &words),
         Err(status) => status,
     };
+    if status == Status::WriteFault && is_unread() {
+        return ExitCode::from(status.number());
+    }
     let mut errors = StdSink::new(rt.stderr());
     ExitCode::from(finish(rt.alloc(), &status, &mut errors))
+}
+
+/// Whether standard output is a pipe that nobody reads any more.
+fn is_unread() -> bool {
+    let mut polled = [pollfd {
+        fd: 1,
+        events: 0,
+        revents: 0,
+    }];
+    c::poll(&mut polled, 0) > 0 && polled[0].revents & c::POLLERR != 0
 }
 
 /// Does what the words ask for.

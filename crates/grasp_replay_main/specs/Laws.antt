@@ -1,5 +1,5 @@
 -- Inputs with which the tasks end well, and that each task makes one thing of an input.
-use Rattle.std.specs.Prelude.{◌≡◌, ◌<◌, ℕ, List, All, map, ⊤}
+use Rattle.std.specs.Prelude.{◌≡◌, ◌⊎◌, ◌<◌, ℕ, List, All, map, ⊤}
 use Rattle.grasp_cbor.specs.Bytes.{AllBytes}
 use Rattle.grasp_types.specs.declared.message.Message.{Message}
 use Rattle.grasp_text.specs.Line.{line_of}
@@ -11,7 +11,7 @@ use Rattle.grasp_wire.specs.Wire.{AreWireForms}
 use Rattle.grasp_replay_main.specs.Gen.{Overruns}
 use Rattle.grasp_replay_main.specs.Pack.{CanPack}
 use Rattle.grasp_replay_main.specs.Replay.{IsShortKeptScript, IsShortScript}
-use Rattle.grasp_replay_main.specs.Task.{Makes}
+use Rattle.grasp_replay_main.specs.Task.{Makes, IsBadScript, IsOkOrMemory, IsOutcome, IsTooLarge}
 use Rattle.grasp_replay_main.specs.declared.exit.Status.{Status}
 use Rattle.grasp_replay_main.specs.declared.exit.Status.TheVariants as status
 use Rattle.grasp_replay_main.specs.declared.task.Task.{Task}
@@ -31,6 +31,18 @@ IsWholeInput Replay limit input = (plan : WorldPlan) × (lines : List Line) × I
 IsWholeInput Keep limit input = (plan : WorldPlan) × (lines : List KeptLine) × IsShortKeptScript input plan lines
 IsWholeInput (Gen number) limit input = ¬ Overruns number
 IsWholeInput (Draw number) limit input = ⊤
+
+-- how a task ends on an input while nothing outside fails: one that is too large is refused, one within the limits decides, and a whole one ends
+-- well; but memory may be wanted
+pub record EndsSo (task : Task) (limit : ℕ) (ended : Status) (input : List ℕ) : Type 0 where
+  pub large : IsTooLarge task input → (ended ≡ status.TooLarge) ⊎ (ended ≡ status.OutOfMemory)
+  pub outcome : ¬ IsTooLarge task input → IsOutcome task limit input ended
+  pub whole : ¬ IsTooLarge task input → IsWholeInput task limit input → IsOkOrMemory ended
+
+-- the input isn't too large, and is to be a script and is none: this line is bad
+pub record IsBadWithin (task : Task) (line : ℕ) (input : List ℕ) : Type 0 where
+  pub bad : IsBadScript task input line
+  pub small : ¬ IsTooLarge task input
 
 -- a task makes one output of an input, with one status
 abbrev pub TasksAreFunctions : Type 0

@@ -3,6 +3,7 @@ pub mod Finish
 pub mod Gen
 pub mod Laws
 pub mod Limits
+pub mod Made
 pub mod Pack
 pub mod Replay
 pub mod Show

@@ -61,6 +61,12 @@ input_of Keep left = left
 input_of (Gen number) left = Some []
 input_of (Draw number) left = Some []
 
+-- some input has P; where the task's input is known, it is this one
+pub record SomeInput (known : Option (List ℕ)) (P : List ℕ → Type 0) : Type 0 where
+  pub input : List ℕ
+  pub told : IfSome known (λ all. input ≡ all)
+  pub holds : P input
+
 -- all is made, or what comes before a finding
 abbrev pub IsUpToFinding : (Option Finding → Type 0) → Status → Type 0
 IsUpToFinding F status.Ok = F None

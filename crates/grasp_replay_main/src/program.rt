@@ -2,9 +2,10 @@
 ghost use Rattle.std.specs.Prelude.{◌≡◌, ◌≢◌, ◌≤◌, ◌⊎◌, ℕ, [], Some, None, map, length, string_bytes, IfOk, IfErr, IfSome, IsSome, IsErrOf};
 ghost use Rattle.grasp_io.specs.Faults.{Rose};
 ghost use Rattle.grasp_replay_main.specs.Ending.{IsAfterInput};
-ghost use Rattle.grasp_replay_main.specs.Laws.{IsWholeInput};
+ghost use Rattle.grasp_replay_main.specs.Laws.{EndsSo, IsBadWithin, IsWholeInput};
 ghost use Rattle.grasp_replay_main.specs.Limits.{input_limit, message_limit};
-ghost use Rattle.grasp_replay_main.specs.Task.{task_of, ReadsInput, input_of, Makes, MayBegin, Tells, BeginsToTell, IsReadToEnd, IsDone, IsOfInput, HasTooManyLines, IsTooLarge, IsBadScript, IsUnfinished, IsOutcome, IsOkOrMemory};
+ghost use Rattle.grasp_replay_main.specs.Made.{IsMade};
+ghost use Rattle.grasp_replay_main.specs.Task.{task_of, ReadsInput, input_of, Makes, MayBegin, Tells, BeginsToTell, IsReadToEnd, IsDone, IsOfInput, HasTooManyLines, IsTooLarge, IsUnfinished, SomeInput};
 ghost use Rattle.grasp_runner.specs.Written as ran;
 ghost use Rattle.grasp_replay_main.specs.Written.{Writes};
 ghost use Rattle.grasp_replay_main.specs.declared.task.Task.{Task};
@@ -54,7 +55,7 @@ pub fn replay_main<S: Source, K: Sink>(
     // at most 200,000.
     ensures read_fault { result ≡ Status.ReadFault → Rose (S.faults source.old) (S.faults source.new) }
     ensures small { (task : Task) → task_of (map string_bytes words.now) ≡ Some task → IsAfterInput result
-        → IfSome (input_of task (S.left source.old)) (λ input. ¬ IsTooLarge task input) }
+        → SomeInput (input_of task (S.left source.old)) (λ input. ¬ IsTooLarge task input) }
     ensures read_to_end { (task : Task) → task_of (map string_bytes words.now) ≡ Some task → ReadsInput task → IsAfterInput result
         → IsReadToEnd (S.left source.old) (S.left source.new) }
     ensures read_all_lines { (task : Task) → task_of (map string_bytes words.now) ≡ Some task → ReadsInput task → result ≡ Status.TooLarge
@@ -62,14 +63,14 @@ pub fn replay_main<S: Source, K: Sink>(
 
     // Then a script is read: where the input is none, its bad line is told.
     ensures bad_script { (task : Task) (line : ℕ) → task_of (map string_bytes words.now) ≡ Some task → result ≡ Status.BadScript line
-        → IfSome (input_of task (S.left source.old)) (λ input. IsBadScript task input line) }
+        → SomeInput (input_of task (S.left source.old)) (IsBadWithin task line) }
 
     // Then what the task makes of the input is written: all of it, up to the finding.
     ensures done { (task : Task) → task_of (map string_bytes words.now) ≡ Some task → IsDone result
         → Tells task message_limit (S.left source.old) (K.written sink.old) (K.written sink.new) result }
     // The input was too large, and nothing was written; or a run sent too much, and what it reports before that was written.
     ensures too_large { (task : Task) → task_of (map string_bytes words.now) ≡ Some task → result ≡ Status.TooLarge
-        → ((sink.new ≡ sink.old) × IfSome (input_of task (S.left source.old)) (λ input. IsTooLarge task input))
+        → ((sink.new ≡ sink.old) × SomeInput (input_of task (S.left source.old)) (IsTooLarge task))
         ⊎ Tells task message_limit (S.left source.old) (K.written sink.old) (K.written sink.new) Status.TooLarge }
     ensures of_input { IsOfInput result }
     ensures write_fault { result ≡ Status.WriteFault → Rose (K.faults sink.old) (K.faults sink.new) }
@@ -84,12 +85,7 @@ pub fn replay_main<S: Source, K: Sink>(
     // Where nothing outside fails, the input alone decides, unless memory is wanted.
     ensures complete { (task : Task) → task_of (map string_bytes words.now) ≡ Some task
         → ¬ Rose (S.faults source.old) (S.faults source.new) → ¬ Rose (K.faults sink.old) (K.faults sink.new)
-        → IfSome (input_of task (S.left source.old)) (λ input. ¬ IsTooLarge task input → IsOutcome task message_limit input result) }
-    ensures complete_whole { (task : Task) → task_of (map string_bytes words.now) ≡ Some task
-        → ¬ Rose (S.faults source.old) (S.faults source.new) → ¬ Rose (K.faults sink.old) (K.faults sink.new)
-        → IfSome (input_of task (S.left source.old)) (λ input. ¬ IsTooLarge task input → IsWholeInput task message_limit input → IsOkOrMemory result) }
-    ensures complete_large { (task : Task) → task_of (map string_bytes words.now) ≡ Some task → ¬ Rose (S.faults source.old) (S.faults source.new)
-        → IfSome (input_of task (S.left source.old)) (λ input. IsTooLarge task input → (result ≡ Status.TooLarge) ⊎ (result ≡ Status.OutOfMemory)) }
+        → SomeInput (input_of task (S.left source.old)) (EndsSo task message_limit result) }
 {
     match task_of(words) {
         Some(task) => run(alloc, task, source, sink),
@@ -103,14 +99,14 @@ fn run<S: Source, K: Sink>(alloc: Global, task: Task, source: &mut S, sink: &mut
     ensures unread_without_input { ¬ ReadsInput task → source.new ≡ source.old }
     ensures unfailed_without_input { ¬ ReadsInput task → result ≢ Status.ReadFault }
     ensures read_fault { result ≡ Status.ReadFault → Rose (S.faults source.old) (S.faults source.new) }
-    ensures small { IsAfterInput result → IfSome (input_of task (S.left source.old)) (λ input. ¬ IsTooLarge task input) }
+    ensures small { IsAfterInput result → SomeInput (input_of task (S.left source.old)) (λ input. ¬ IsTooLarge task input) }
     ensures read_to_end { ReadsInput task → IsAfterInput result → IsReadToEnd (S.left source.old) (S.left source.new) }
     ensures read_all_lines { ReadsInput task → result ≡ Status.TooLarge
         → IfSome (S.left source.old) (λ input. length input ≤ input_limit → S.left source.new ≡ Some []) }
-    ensures bad_script { (line : ℕ) → result ≡ Status.BadScript line → IfSome (input_of task (S.left source.old)) (λ input. IsBadScript task input line) }
+    ensures bad_script { (line : ℕ) → result ≡ Status.BadScript line → SomeInput (input_of task (S.left source.old)) (IsBadWithin task line) }
     ensures done { IsDone result → Tells task message_limit (S.left source.old) (K.written sink.old) (K.written sink.new) result }
     ensures too_large { result ≡ Status.TooLarge
-        → ((sink.new ≡ sink.old) × IfSome (input_of task (S.left source.old)) (λ input. IsTooLarge task input))
+        → ((sink.new ≡ sink.old) × SomeInput (input_of task (S.left source.old)) (IsTooLarge task))
         ⊎ Tells task message_limit (S.left source.old) (K.written sink.old) (K.written sink.new) Status.TooLarge }
     ensures of_input { IsOfInput result }
     ensures write_fault { result ≡ Status.WriteFault → Rose (K.faults sink.old) (K.faults sink.new) }
@@ -119,7 +115,7 @@ fn run<S: Source, K: Sink>(alloc: Global, task: Task, source: &mut S, sink: &mut
         → (sink.new ≡ sink.old) ⊎ BeginsToTell task message_limit (S.left source.old) (K.written sink.old) (K.written sink.new) }
     ensures unwritten { ¬ IsDone result → result ≢ Status.WriteFault → result ≢ Status.OutOfMemory → result ≢ Status.TooLarge → sink.new ≡ sink.old }
     ensures unwritten_without_input { ¬ ReadsInput task → result ≢ Status.Ok → result ≢ Status.WriteFault → sink.new ≡ sink.old }
-    ensures whole { IsDone result → IfSome (input_of task (S.left source.old)) (λ input. IsWholeInput task message_limit input → result ≡ Status.Ok) }
+    ensures made { IsDone result → SomeInput (input_of task (S.left source.old)) (IsMade task message_limit result) }
 {
     match task {
         Task::Gen { number } => generate(alloc, number, sink),
@@ -141,14 +137,14 @@ fn read_and_write<S: Source, K: Sink>(
     requires reads { ReadsInput task }
     ensures no_usage { result ≢ Status.Usage }
     ensures read_fault { result ≡ Status.ReadFault → Rose (S.faults source.old) (S.faults source.new) }
-    ensures small { IsAfterInput result → IfSome (S.left source.old) (λ input. ¬ IsTooLarge task input) }
+    ensures small { IsAfterInput result → SomeInput (S.left source.old) (λ input. ¬ IsTooLarge task input) }
     ensures read_to_end { IsAfterInput result → IsReadToEnd (S.left source.old) (S.left source.new) }
     ensures read_all_lines { result ≡ Status.TooLarge
         → IfSome (S.left source.old) (λ input. length input ≤ input_limit → S.left source.new ≡ Some []) }
-    ensures bad_script { (line : ℕ) → result ≡ Status.BadScript line → IfSome (S.left source.old) (λ input. IsBadScript task input line) }
+    ensures bad_script { (line : ℕ) → result ≡ Status.BadScript line → SomeInput (S.left source.old) (IsBadWithin task line) }
     ensures done { IsDone result → Tells task message_limit (S.left source.old) (K.written sink.old) (K.written sink.new) result }
     ensures too_large { result ≡ Status.TooLarge
-        → ((sink.new ≡ sink.old) × IfSome (S.left source.old) (λ input. IsTooLarge task input))
+        → ((sink.new ≡ sink.old) × SomeInput (S.left source.old) (IsTooLarge task))
         ⊎ Tells task message_limit (S.left source.old) (K.written sink.old) (K.written sink.new) Status.TooLarge }
     ensures of_input { IsOfInput result }
     ensures write_fault { result ≡ Status.WriteFault → Rose (K.faults sink.old) (K.faults sink.new) }
@@ -156,7 +152,7 @@ fn read_and_write<S: Source, K: Sink>(
     ensures begun_for_memory { result ≡ Status.OutOfMemory
         → (sink.new ≡ sink.old) ⊎ BeginsToTell task message_limit (S.left source.old) (K.written sink.old) (K.written sink.new) }
     ensures unwritten { ¬ IsDone result → result ≢ Status.WriteFault → result ≢ Status.OutOfMemory → result ≢ Status.TooLarge → sink.new ≡ sink.old }
-    ensures whole { IsDone result → IfSome (S.left source.old) (λ input. IsWholeInput task message_limit input → result ≡ Status.Ok) }
+    ensures made { IsDone result → SomeInput (S.left source.old) (IsMade task message_limit result) }
 {
     let input = match read_all(alloc, source, INPUT_LIMIT) {
         Ok(input) => input,

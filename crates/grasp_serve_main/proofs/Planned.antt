@@ -1,5 +1,6 @@
 -- Plans of what is configured.
-use Rattle.std.proofs.Common.{◌≡◌, refl, ap, ◌∙◌, sym, subst, ℕ, suc, ◌+◌, ◌<◌, arith, List, [], ◌∷◌, ◌++◌, map, take, length, slice_get, Option, Some}
+use Rattle.std.proofs.Common.{◌≡◌, refl, ap, ◌∙◌, sym, subst, ℕ, suc, ◌+◌, ◌<◌, arith, List, [], ◌∷◌, ◌++◌, map, take, length, slice_get, Option}
+use Rattle.std.proofs.Common.{None, Some}
 use Rattle.grasp_cbor.proofs.Facts.Lists.{length_map}
 use Rattle.grasp_config.specs.Laws.{IsInRange}
 use Rattle.grasp_config.specs.declared.serve.ServeConfig.{ServeConfig}
@@ -27,8 +28,8 @@ herald_planned every bs i b ps news p at are is e =
 -- the node and its agents
 pub service_planned : (c : ServeConfig) (seed : List ℕ) (d : DaemonPlan) (heralds : List HeraldPlan) (p : ServicePlan) → IsPlanOf c.node seed d → heralds ≡ map (herald_plan_of c.serve.every) d.beacons
     → p.node ≡ record d.node { locator = c.serve.locator } → p.roots ≡ d.roots → p.wants ≡ d.wants → p.pace ≡ pace_of c → p.heralds ≡ heralds → p.readers ≡ d.readers
-    → p.tick ≡ c.serve.tick → p.level ≡ c.serve.log → IsServicePlanOf c seed p
-service_planned c seed d heralds p planned are n r w pace h l t log = record {
+    → p.tick ≡ c.serve.tick → p.level ≡ c.serve.log → (c.serve.store ≡ None → p.agent ≡ None) → IsServicePlanOf c seed p
+service_planned c seed d heralds p planned are n r w pace h l t log agent = record {
   node = n ∙ ap (λ (x : NodePlan). record x { locator = c.serve.locator }) planned.node;
   roots = r ∙ planned.roots;
   wants = subst (λ ws. AreWantsOf c.node.wants ws) (sym w) planned.wants;
@@ -37,6 +38,7 @@ service_planned c seed d heralds p planned are n r w pace h l t log = record {
   readers = l ∙ planned.readers;
   tick = t;
   level = log;
+  agent = agent;
 }
 
 -- a configuration within its limits has few agents

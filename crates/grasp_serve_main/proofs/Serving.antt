@@ -1,32 +1,81 @@
 -- What the program did, from what its parts did.
-use Rattle.std.proofs.Common.{◌≡◌, inl, inr, refl, subst, true, ℕ, List, Option, IfSome, is_some}
+use Rattle.std.proofs.Common.{◌≡◌, ◌≢◌, ◌≤◌, inl, inr, refl, sym, subst, true, ℕ, List, length, Option, None, Some, IfSome, is_some}
+use Rattle.std.proofs.lemmas.Option.{none-some}
+use Rattle.grasp_agent.specs.States.{AgentState}
 use Rattle.grasp_config.specs.Laws.{IsInRange}
 use Rattle.grasp_config.specs.Serve.{HasServe, IsBadServe}
 use Rattle.grasp_config.specs.ServeLaws.{ServesAreInRange}
 use Rattle.grasp_config.specs.declared.serve.ServeConfig.{ServeConfig}
 use Rattle.grasp_config.specs.declared.serve_fault.ServeKey.{ServeKey}
 use Rattle.grasp_desk.specs.declared.desk.DeskPlan.{DeskPlan}
+use Rattle.grasp_disk.specs.Calls.{DiskLog, bytes_of, disk_size}
+use Rattle.grasp_io.proofs.Facts.{rose_before}
+use Rattle.grasp_io.specs.Faults.{Rose}
 use Rattle.grasp_io.specs.declared.links.LinkPlan.{LinkPlan}
 use Rattle.grasp_node_main.proofs.MainRuns.{so_of_input}
 use Rattle.grasp_node_main.specs.Plans.{link_plan_of}
 use Rattle.grasp_node_main.specs.Program.{IsInput}
 use Rattle.grasp_service.specs.Rounds.{Outside}
-use Rattle.grasp_service.specs.Served.{Serves, ServesShort}
+use Rattle.grasp_service.specs.Served.{ServesKept, ServesShort, StopsShort, kept_life}
+use Rattle.grasp_service.specs.declared.cut.Cut.TheVariants as cut
 use Rattle.grasp_service.specs.declared.plan.ServicePlan.{ServicePlan}
 use Rattle.grasp_serve_main.specs.Plans.{desk_plan_of, IsServicePlanOf}
-use Rattle.grasp_serve_main.specs.Program.{ServesConfig, ServesInput, ShortConfig, ShortInput, NamesStore}
+use Rattle.grasp_shelf.proofs.Keeping.{fault_then}
+use Rattle.grasp_shelf.specs.Opening.{OpensShelf, IsShelfFault, IsOfCalls, IsUnused}
+use Rattle.grasp_shelf.specs.Shelves.{ShelfState, IsClosed, faults_of, IsKeptFault}
+use Rattle.grasp_shelf.specs.declared.fault.ShelfFault.{ShelfFault}
+use Rattle.grasp_shelf.specs.declared.fault.ShelfFault.TheVariants as shelf_fault
+use Rattle.grasp_store.specs.declared.fault.KeepFault.{KeepFault}
+use Rattle.grasp_store.specs.declared.fault.KeepFault.TheVariants as keep_fault
+use Rattle.grasp_serve_main.specs.Program.{ServesInput, ShortConfig, ShortInput, NamesStore, BeginsFrom, KeepsConfig, KeepsInput, StopsConfig}
+use Rattle.grasp_serve_main.specs.Program.{StopsInput, RefusesStore}
 
 -- ---- the node of a configuration
 
-pub serves_config : (c : ServeConfig) (seed : List ℕ) (p : ServicePlan) (joining : LinkPlan) (doors : DeskPlan) (x y : Outside) → joining ≡ link_plan_of c.node → doors ≡ desk_plan_of c.serve
-    → IsServicePlanOf c seed p → Serves p joining doors x y → ServesConfig c seed x y
-serves_config c seed p joining doors x y l d planned serves = record {
+pub keeps_config : {B : Type 0} (stands : B → DiskLog → Type 0) (faults : B → ℕ) (c : ServeConfig) (seed : List ℕ) (p : ServicePlan)
+    (agent : Option AgentState) (joining : LinkPlan) (doors : DeskPlan) (a m b : ShelfState B) (x y : Outside)
+    → joining ≡ link_plan_of c.node → doors ≡ desk_plan_of c.serve → BeginsFrom stands c.serve.store a m agent → IsServicePlanOf c seed p
+    → p.agent ≡ agent → ServesKept stands faults p joining doors m x b y
+    → KeepsConfig stands faults c seed a x b y
+keeps_config stands faults c seed p agent joining doors a m b x y l d begins planned is serves = record {
   plan = p;
   planned = planned;
-  serves = subst (λ k. Serves p (link_plan_of c.node) k x y) d (subst (λ k. Serves p k doors x y) l serves);
+  shelf = m;
+  begins = subst (λ k. BeginsFrom stands c.serve.store a m k) (sym is) begins;
+  serves = subst (λ k. ServesKept stands faults p (link_plan_of c.node) k m x b y) d
+      (subst (λ k. ServesKept stands faults p k doors m x b y) l serves);
 }
 
-pub short_config : (c : ServeConfig) (seed : List ℕ) (p : ServicePlan) (joining : LinkPlan) (doors : DeskPlan) (x y : Outside) → joining ≡ link_plan_of c.node → doors ≡ desk_plan_of c.serve
+-- where the pool is forgotten there is no agent
+pub forgets_agent : {B : Type 0} (stands : B → DiskLog → Type 0) (store : Option (List ℕ)) (a m : ShelfState B) (agent : Option AgentState)
+    → BeginsFrom stands store a m agent → store ≡ None → agent ≡ None
+forgets_agent stands None a m agent begins none = begins.0
+forgets_agent stands (Some path) a m agent begins none = absurd (none-some path (sym none))
+
+-- a fault of the store that was opened
+kept_fault : {B : Type 0} (faults : B → ℕ) (a m b : ShelfState B) (fault : KeepFault) → faults_of faults a ≤ faults_of faults m
+    → IsKeptFault faults m b fault → IsKeptFault faults a b fault
+kept_fault faults a m b keep_fault.DiskFault le is = rose_before (faults_of faults a) (faults_of faults m) (faults_of faults b) le is
+kept_fault faults a m b keep_fault.Spent le is = tt
+kept_fault faults a m b keep_fault.Stopped le is = tt
+
+pub stops_config : {B : Type 0} (stands : B → DiskLog → Type 0) (faults : B → ℕ) (c : ServeConfig) (seed : List ℕ) (p : ServicePlan)
+    (agent : Option AgentState) (joining : LinkPlan) (doors : DeskPlan) (a m b : ShelfState B) (x y : Outside)
+    (fault : KeepFault) → joining ≡ link_plan_of c.node → doors ≡ desk_plan_of c.serve → BeginsFrom stands c.serve.store a m agent
+    → faults_of faults a ≤ faults_of faults m → IsServicePlanOf c seed p → p.agent ≡ agent
+    → StopsShort stands faults p joining doors m x (cut.Store fault) b y → StopsConfig stands faults c seed a x fault b y
+stops_config stands faults c seed p agent joining doors a m b x y fault l d begins rises planned is stops = record {
+  plan = p;
+  planned = planned;
+  shelf = m;
+  begins = subst (λ k. BeginsFrom stands c.serve.store a m k) (sym is) begins;
+  never_falls = rises;
+  stops = subst (λ k. StopsShort stands faults p (link_plan_of c.node) k m x (cut.Store fault) b y) d
+      (subst (λ k. StopsShort stands faults p k doors m x (cut.Store fault) b y) l stops);
+}
+
+pub short_config : (c : ServeConfig) (seed : List ℕ) (p : ServicePlan) (joining : LinkPlan) (doors : DeskPlan) (x y : Outside)
+    → joining ≡ link_plan_of c.node → doors ≡ desk_plan_of c.serve
     → IsServicePlanOf c seed p → ServesShort p joining doors x y → ShortConfig c seed x y
 short_config c seed p joining doors x y l d planned short =
     by_end (subst (λ k. ServesShort p (link_plan_of c.node) k x y) d (subst (λ k. ServesShort p k doors x y) l short)) where
@@ -37,7 +86,7 @@ short_config c seed p joining doors x y l d planned short =
 pub config_untouched : (c : ServeConfig) (seed : List ℕ) (x : Outside) → ShortConfig c seed x x
 config_untouched c seed x = inl refl
 
-pub ruleset configuring = (serves_config, short_config, config_untouched)
+pub ruleset configuring = (keeps_config, stops_config, short_config, config_untouched, forgets_agent)
 
 -- ---- the node of an input
 
@@ -45,20 +94,87 @@ pub ruleset configuring = (serves_config, short_config, config_untouched)
 pub in_range : (text : List ℕ) (config : ServeConfig) → ServesAreInRange → HasServe text config → IsInRange config.node
 in_range text config law has = (law has.table config has.is).0
 
-pub serves_input : (left : Option (List ℕ)) (seed : List ℕ) (x y : Outside) (input : List ℕ) (config : ServeConfig) → IsInput left input → HasServe input config → ServesConfig config seed x y → ServesInput left seed x y
-serves_input left seed x y input config is has serves = record { input = input; told = is; config = config; has = has; serves = serves }
+pub keeps_input : {B : Type 0} (stands : B → DiskLog → Type 0) (faults : B → ℕ) (left : Option (List ℕ)) (seed : List ℕ) (a b : ShelfState B)
+    (x y : Outside) (input : List ℕ) (config : ServeConfig) → IsInput left input
+    → HasServe input config → KeepsConfig stands faults config seed a x b y → KeepsInput stands faults left seed a x b y
+keeps_input stands faults left seed a b x y input config is has keeps = record { input = input; told = is; config = config; has = has; keeps = keeps }
 
-pub short_input : (left : Option (List ℕ)) (seed : List ℕ) (x y : Outside) (input : List ℕ) (config : ServeConfig) → IsInput left input → HasServe input config → ShortConfig config seed x y → ShortInput left seed x y
+-- so the node served
+pub serves_input : {B : Type 0} (stands : B → DiskLog → Type 0) (faults : B → ℕ) (left : Option (List ℕ)) (seed : List ℕ) (a b : ShelfState B)
+    (x y : Outside) → KeepsInput stands faults left seed a x b y → ServesInput left seed x y
+serves_input stands faults left seed a b x y k = record {
+  input = k.input;
+  told = k.told;
+  config = k.config;
+  has = k.has;
+  serves = record { plan = k.keeps.plan; planned = k.keeps.planned; serves = k.keeps.serves.serves };
+}
+
+pub stops_input : {B : Type 0} (stands : B → DiskLog → Type 0) (faults : B → ℕ) (left : Option (List ℕ)) (seed : List ℕ) (a b : ShelfState B)
+    (x y : Outside) (fault : KeepFault) (input : List ℕ) (config : ServeConfig)
+    → IsInput left input → HasServe input config → StopsConfig stands faults config seed a x fault b y
+    → StopsInput stands faults left seed a x fault b y
+stops_input stands faults left seed a b x y fault input config is has stops = record {
+  input = input;
+  told = is;
+  config = config;
+  has = has;
+  stops = stops;
+}
+
+-- so something failed at the store
+stops_fault : {B : Type 0} (stands : B → DiskLog → Type 0) (faults : B → ℕ) (p : ServicePlan) (joining : LinkPlan) (doors : DeskPlan)
+    (m b : ShelfState B) (x y : Outside) (fault : KeepFault)
+    → StopsShort stands faults p joining doors m x (cut.Store fault) b y → IsKeptFault faults m b fault
+stops_fault stands faults p joining doors m b x y fault (inl at_once) = at_once.1
+stops_fault stands faults p joining doors m b x y fault (inr later) = fault_then stands faults m later.shelf b
+    (kept_life p later.falls.replies later.falls.rounds) fault later.kept later.is
+
+pub fault_told : {B : Type 0} (stands : B → DiskLog → Type 0) (faults : B → ℕ) (left : Option (List ℕ)) (seed : List ℕ) (a b : ShelfState B)
+    (x y : Outside) (fault : KeepFault) → StopsInput stands faults left seed a x fault b y
+    → IsKeptFault faults a b fault
+fault_told stands faults left seed a b x y fault s =
+    let c = s.stops in
+    kept_fault faults a c.shelf b fault c.never_falls
+    (stops_fault stands faults c.plan (link_plan_of s.config.node) (desk_plan_of s.config.serve) c.shelf b x y fault c.stops)
+
+pub ruleset keeping = (serves_input, fault_told)
+
+pub short_input : (left : Option (List ℕ)) (seed : List ℕ) (x y : Outside) (input : List ℕ) (config : ServeConfig) → IsInput left input
+    → HasServe input config → ShortConfig config seed x y → ShortInput left seed x y
 short_input left seed x y input config is has (inl same) = inl same
 short_input left seed x y input config is has (inr falls) = inr (record { input = input; told = is; config = config; has = has; falls = falls })
 
 pub input_untouched : (left : Option (List ℕ)) (seed : List ℕ) (x : Outside) → ShortInput left seed x x
 input_untouched left seed x = inl refl
 
-pub bad_input : (left : Option (List ℕ)) (bytes : List ℕ) (key : ServeKey) → IsInput left bytes → IsBadServe bytes key → IfSome left (λ input. IsBadServe input key)
+pub bad_input : (left : Option (List ℕ)) (bytes : List ℕ) (key : ServeKey) → IsInput left bytes → IsBadServe bytes key
+    → IfSome left (λ input. IsBadServe input key)
 bad_input left bytes key is bad = so_of_input left bytes (λ input. IsBadServe input key) is bad
 
-pub store_named : (left : Option (List ℕ)) (bytes : List ℕ) (config : ServeConfig) → IsInput left bytes → HasServe bytes config → is_some config.serve.store ≡ true → IfSome left (λ input. NamesStore input)
-store_named left bytes config is has names = so_of_input left bytes (λ input. NamesStore input) is (record { config = config; has = has; names = names })
+pub store_named : (left : Option (List ℕ)) (bytes : List ℕ) (config : ServeConfig) → IsInput left bytes → HasServe bytes config
+    → is_some config.serve.store ≡ true → IfSome left (λ input. NamesStore input)
+store_named left bytes config is has names =
+    so_of_input left bytes (λ input. NamesStore input) is (record { config = config; has = has; names = names })
 
-pub ruleset reading = (in_range, serves_input, short_input, input_untouched, bad_input, store_named)
+pub ruleset reading = (in_range, keeps_input, stops_input, short_input, input_untouched, bad_input, store_named)
+
+-- ---- the opening of its store
+
+pub begins_agent : {B : Type 0} (stands : B → DiskLog → Type 0) (path : Option (List ℕ)) (name : List ℕ) (a m : ShelfState B) (agent : AgentState)
+    → path ≡ Some name
+    → ((log : DiskLog) → IsClosed stands a log → length (bytes_of log) ≡ disk_size → OpensShelf stands m agent log)
+    → BeginsFrom stands path a m (Some agent)
+begins_agent stands path name a m agent is opens = subst (λ p. BeginsFrom stands p a m (Some agent)) (sym is) opens
+
+pub begins_forgetting : {B : Type 0} (stands : B → DiskLog → Type 0) (path : Option (List ℕ)) (a : ShelfState B) → path ≡ None
+    → BeginsFrom stands path a a None
+begins_forgetting stands path a is = subst (λ p. BeginsFrom stands p a a None) (sym is) (refl, refl)
+
+pub refuses : {B : Type 0} (stands : B → DiskLog → Type 0) (faults : B → ℕ) (a m : ShelfState B) (fault : ShelfFault) →
+    ((log : DiskLog) → IsClosed stands a log → length (bytes_of log) ≡ disk_size → IsShelfFault (bytes_of log) fault)
+    → (IsOfCalls fault → IsUnused a → Rose (faults_of faults a) (faults_of faults m)) → m.fault ≡ Some fault → fault ≢ shelf_fault.OutOfMemory
+    → RefusesStore stands faults a m
+refuses stands faults a m fault is calls why not = record { fault = fault; why = why; of_store = not; is = is; calls = calls }
+
+pub ruleset opening = (begins_agent, begins_forgetting, refuses)

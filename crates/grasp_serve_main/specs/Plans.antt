@@ -1,5 +1,5 @@
 -- What a node that serves is opened with by its configuration.
-use Rattle.std.specs.Prelude.{◌≡◌, ℕ, ◌%◌, Option, List, map}
+use Rattle.std.specs.Prelude.{◌≡◌, ℕ, ◌%◌, Option, None, List, map}
 use Rattle.grasp_config.specs.ServeKeys.{pause_of}
 use Rattle.grasp_config.specs.declared.serve.ServeConfig.{ServeConfig}
 use Rattle.grasp_config.specs.declared.serve.ServeTable.{ServeTable}
@@ -34,7 +34,7 @@ serve_plan_of c seed = record (node_plan_of c.node seed) { locator = c.serve.loc
 abbrev pub herald_plan_of : Option ℕ → BeaconPlan → HeraldPlan
 herald_plan_of every b = record { name = b.name; value = b.value; ttl = b.ttl; loops = b.loops; every = pause_of every b.ttl }
 
--- the node and its agents are planned as they are configured
+-- the node and its agents are planned as they are configured: with the roots, where the pool is forgotten
 pub record IsServicePlanOf (c : ServeConfig) (seed : List ℕ) (p : ServicePlan) : Type 0 where
   pub node : p.node ≡ serve_plan_of c seed
   pub roots : p.roots ≡ c.node.roots
@@ -44,3 +44,4 @@ pub record IsServicePlanOf (c : ServeConfig) (seed : List ℕ) (p : ServicePlan)
   pub readers : p.readers ≡ c.node.readers
   pub tick : p.tick ≡ c.serve.tick
   pub level : p.level ≡ c.serve.log
+  pub agent : c.serve.store ≡ None → p.agent ≡ None

@@ -1,8 +1,9 @@
 //! The plans of a configuration.
 
-ghost use Rattle.std.specs.Prelude.{◌≡◌, map, IfOk};
+ghost use Rattle.std.specs.Prelude.{◌≡◌, None, map, IfOk};
 ghost use Rattle.grasp_serve_main.specs.Plans.{desk_plan_of, herald_plan_of, salt_of, IsServicePlanOf};
 
+use grasp_agent::PrefixAgent;
 use grasp_cbor::{Chars, OutOfMemory};
 use grasp_config::{ServeConfig, ServeTable, flood_pause};
 use grasp_crew::Pace;
@@ -33,14 +34,18 @@ fn copy_path(path: &Option<Chars>) -> Result<Option<Chars>, OutOfMemory>
     }
 }
 
-/// The plan of a node that serves, as it is configured. The node tells others the locator of the table `serve`.
+/// The plan of a node that serves, as it is configured. The node tells others the locator of the table `serve`. It begins with this
+/// agent, or with its roots, where its pool is forgotten.
 #[tactic(auto, using(crate::proofs::Planned::service_planned))]
 pub(crate) fn service_plan(
     alloc: Global,
     config: ServeConfig,
+    agent: Option<PrefixAgent>,
     seed: [u8; 32],
 ) -> Result<ServicePlan, OutOfMemory>
-    ensures { IfOk result (λ plan. IsServicePlanOf config seed plan) }
+    requires { config.serve.store ≡ None → agent ≡ None }
+    ensures planned { IfOk result (λ plan. IsServicePlanOf config seed plan) }
+    ensures agent { IfOk result (λ plan. plan.agent ≡ agent) }
 {
     let ServeConfig { node, serve } = config;
     let pace = Pace {
@@ -55,6 +60,7 @@ pub(crate) fn service_plan(
     Ok(ServicePlan {
         node,
         roots: plan.roots,
+        agent,
         wants: plan.wants,
         pace,
         heralds,

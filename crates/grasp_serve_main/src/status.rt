@@ -4,6 +4,7 @@ ghost use Rattle.std.specs.Prelude.{◌≡◌};
 ghost use Rattle.grasp_serve_main.specs.Program.{number_of};
 
 use grasp_config::ServeKey;
+use grasp_store::KeepFault;
 
 /// How a call of the program ended.
 #[derive(Clone, Copy, Debug, PartialEq, Eq)]
@@ -22,8 +23,10 @@ pub enum Status {
     TooLarge,
     /// The links couldn't be opened.
     LinkFault,
-    /// The configuration names a store, and none is kept.
+    /// The store that the configuration names isn't opened.
     NoStore,
+    /// The store has a fault. Nothing was sent behind it.
+    StoreFault { fault: KeepFault },
     /// The desk couldn't be opened.
     DeskFault,
 }
@@ -42,6 +45,7 @@ impl Status {
             Status::TooLarge => 7,
             Status::LinkFault => 8,
             Status::NoStore => 9,
+            Status::StoreFault { .. } => 9,
             Status::DeskFault => 10,
         }
     }

@@ -5,91 +5,131 @@ use Rattle.std.specs.Prelude.{MatchResult}
 use Rattle.std.specs.Prelude.{slice_get, slice_set}
 use Rattle.grasp_core.specs.declared.node_core.NodeCore.{NodeCore}
 use Rattle.grasp_cbor.proofs.Facts.Lists.{length_push}
-use Rattle.grasp_cbor.specs.declared.memory.OutOfMemory.{OutOfMemory}
 use Rattle.grasp_crew.specs.Servants.{is_due, call_of, after_call}
 use Rattle.grasp_crew.specs.declared.servant.Servant.{Servant}
+use Rattle.grasp_disk.specs.Calls.{DiskLog}
 use Rattle.grasp_shared.proofs.Adding.{adds_on, adds_nothing}
 use Rattle.grasp_shared.specs.Adding.{Adds}
 use Rattle.grasp_shared.specs.Calls.{GoesOn, answered}
+use Rattle.grasp_shelf.proofs.Keeping.{kept_none, kept_then}
+use Rattle.grasp_shelf.specs.Shelves.{ShelfState, KeptOn}
 use Rattle.grasp_types.specs.declared.reply.Reply.{Reply}
 use Rattle.grasp_types.specs.declared.traffic.Input.{Input}
-use Rattle.grasp_service_visits.specs.Calling.{is_starved, GoesSome}
+use Rattle.grasp_service_visits.specs.Calling.{is_starved}
 use Rattle.grasp_service_visits.proofs.Going.{some_none, some_step}
 use Rattle.grasp_service_visits.proofs.Each.{after_none, after_next, after_more, adds_more, adds_none, each_more}
 use Rattle.grasp_service_visits.specs.Each.{each_after, each_adds}
-use Rattle.grasp_service.specs.Deeds.{Deed, rests, calls, told_at, IsDeed, after_deed, deed_calls, DeedGoes, Acts, ActsSome, ActsAll}
+use Rattle.grasp_service.proofs.Kept.{then_none, then_more, kept_same, cut_memory, cut_then, cut_fault}
+use Rattle.grasp_service.specs.Deeds.{Deed, rests, calls, told_at, IsDeed, after_deed, deed_calls, kept_deed, kept_deeds, DeedGoes, Acts, ActsSome}
+use Rattle.grasp_service.specs.Deeds.{ActsAll}
+use Rattle.grasp_service.specs.Keeping.{kept_ahead, kept_after, IsCut, CutsOff}
+use Rattle.grasp_service.specs.declared.cut.Cut.{Cut}
 
 -- the calls of one deed
 deed_adds : (a b : NodeCore) (now caller : ℕ) (m : Servant) (d : Deed) → DeedGoes a now m d b → Adds a (deed_calls now caller m d) b
 deed_adds a b now caller m rests p = subst (λ x. Adds a [] x) (sym p) (adds_nothing a)
 deed_adds a b now caller m (calls r) p = p.goes caller
 
--- none acted
-pub acts_none : (a : NodeCore) (crew : List Servant) (now : ℕ) → ActsSome 0 a crew now a crew
-acts_none a crew now = record {
-  deeds = [];
-  count_is = refl;
-  each = tt;
-  adds = subst (λ h. Adds a h a) (sym (adds_none (deed_calls now) 1 crew)) (adds_nothing a);
-  crew_is = sym (after_none (after_deed now) crew);
-}
+module _ {B : Type 0} (stands : B → DiskLog → Type 0) (faults : B → ℕ) where
+  -- none acted
+  pub acts_none : (a : NodeCore) (crew : List Servant) (s : ShelfState B) (now : ℕ) → ActsSome stands faults 0 a crew s now a crew s
+  acts_none a crew s now = record {
+    deeds = [];
+    count_is = refl;
+    each = tt;
+    adds = subst (λ h. Adds a h a) (sym (adds_none (deed_calls now) 1 crew)) (adds_nothing a);
+    crew_is = sym (after_none (after_deed now) crew);
+    kept = kept_same stands faults s s (λ log. log) (kept_deeds now crew []) (λ log. sym (then_none (kept_deed now) crew log)) (kept_none stands faults s);
+  }
 
--- one more did
-acts_more : (count : ℕ) (a b c : NodeCore) (crew others news : List Servant) (now : ℕ) (m n : Servant) → ActsSome count a crew now b others → slice_get crew count ≡ Some m
-    → Acts b m now c n → news ≡ slice_set others count n → ActsSome (count + 1) a crew now c news
-acts_more count a b c crew others news now m n p g q s =
-    let is : slice_get crew (length p.deeds) ≡ Some m = subst (λ i. slice_get crew i ≡ Some m) (sym p.count_is) g in
-    record {
-      deeds = p.deeds ++ q.deed ∷ [];
-      count_is = length_push p.deeds q.deed ∙ ap (λ i. i + 1) p.count_is;
-      each = each_more (IsDeed now) crew p.deeds m q.deed is p.each q.is;
-      adds =
-          subst (λ h. Adds a h c) (sym (adds_more (deed_calls now) 1 crew p.deeds m q.deed is))
-          (adds_on a b c _ (deed_calls now (1 + length p.deeds) m q.deed) p.adds (deed_adds b c now (1 + length p.deeds) m q.deed q.went));
-      crew_is =
-          s ∙ ap (λ i. slice_set others i n) (sym p.count_is) ∙ ap (λ ss. slice_set ss (length p.deeds) n) p.crew_is
-          ∙ ap (λ x. slice_set (each_after (after_deed now) crew p.deeds) (length p.deeds) x) q.agent
-          ∙ sym (after_more (after_deed now) crew p.deeds m q.deed is);
-    }
+  -- one more did
+  acts_more : (count : ℕ) (a b c : NodeCore) (crew others news : List Servant) (s t u : ShelfState B) (now : ℕ) (m n : Servant)
+      → ActsSome stands faults count a crew s now b others t → slice_get crew count ≡ Some m
+      → Acts stands faults b m t now c n u → news ≡ slice_set others count n → ActsSome stands faults (count + 1) a crew s now c news u
+  acts_more count a b c crew others news s t u now m n p g q set =
+      let is : slice_get crew (length p.deeds) ≡ Some m = subst (λ i. slice_get crew i ≡ Some m) (sym p.count_is) g in
+      record {
+        deeds = p.deeds ++ q.deed ∷ [];
+        count_is = length_push p.deeds q.deed ∙ ap (λ i. i + 1) p.count_is;
+        each = each_more (IsDeed now) crew p.deeds m q.deed is p.each q.is;
+        adds =
+            subst (λ h. Adds a h c) (sym (adds_more (deed_calls now) 1 crew p.deeds m q.deed is))
+            (adds_on a b c _ (deed_calls now (1 + length p.deeds) m q.deed) p.adds (deed_adds b c now (1 + length p.deeds) m q.deed q.went));
+        crew_is =
+            set ∙ ap (λ i. slice_set others i n) (sym p.count_is) ∙ ap (λ ss. slice_set ss (length p.deeds) n) p.crew_is
+            ∙ ap (λ x. slice_set (each_after (after_deed now) crew p.deeds) (length p.deeds) x) q.agent
+            ∙ sym (after_more (after_deed now) crew p.deeds m q.deed is);
+        kept = kept_same stands faults s u (λ log. kept_deed now m q.deed (kept_deeds now crew p.deeds log)) (kept_deeds now crew (p.deeds ++ q.deed ∷ []))
+            (λ log. sym (then_more (kept_deed now) crew p.deeds m q.deed log is))
+            (kept_then stands faults s t u (kept_deeds now crew p.deeds) (kept_deed now m q.deed) p.kept q.kept);
+      }
 
--- the next one did
-pub acts_next : (count : ℕ) (a b c : NodeCore) (crew others : List Servant) (now : ℕ) (d n : Servant) → ActsSome count a crew now b others → count < length others → Acts b (get_or others count d) now c n
-    → ActsSome (count + 1) a crew now c (slice_set others count n)
-acts_next count a b c crew others now d n p h q =
-    let f : Servant → Deed → Servant = after_deed now in
-    let is : slice_get crew count ≡ Some (get_or others count d) =
-    sym (ap (λ i. slice_get crew i) p.count_is) ∙ sym (after_next f crew p.deeds) ∙ ap (λ i. slice_get (each_after f crew p.deeds) i) p.count_is
-    ∙ ap (λ x. slice_get x count) (sym p.crew_is) ∙ slice_get-get_or others count d h in
-    acts_more count a b c crew others (slice_set others count n) now (get_or others count d) n p is q refl
+  -- the next one did
+  pub acts_next : (count : ℕ) (a b c : NodeCore) (crew others : List Servant) (s t u : ShelfState B) (now : ℕ) (d n : Servant)
+      → ActsSome stands faults count a crew s now b others t → count < length others
+      → Acts stands faults b (get_or others count d) t now c n u → ActsSome stands faults (count + 1) a crew s now c (slice_set others count n) u
+  acts_next count a b c crew others s t u now d n p h q =
+      let f : Servant → Deed → Servant = after_deed now in
+      let is : slice_get crew count ≡ Some (get_or others count d) =
+      sym (ap (λ i. slice_get crew i) p.count_is) ∙ sym (after_next f crew p.deeds) ∙ ap (λ i. slice_get (each_after f crew p.deeds) i) p.count_is
+      ∙ ap (λ x. slice_get x count) (sym p.crew_is) ∙ slice_get-get_or others count d h in
+      acts_more count a b c crew others (slice_set others count n) s t u now (get_or others count d) n p is q refl
 
--- ---- one deed
+  -- ---- one deed
 
-pub acts_resting : (a : NodeCore) (m n : Servant) (now : ℕ) → n ≡ told_at now m → is_due n ≡ false → Acts a m now a n
-acts_resting a m n now e d = record { deed = rests; is = subst (λ x. is_due x ≡ false) e d; went = refl; agent = e }
+  pub acts_resting : (a : NodeCore) (m n : Servant) (s : ShelfState B) (now : ℕ) → n ≡ told_at now m → is_due n ≡ false → Acts stands faults a m s now a n s
+  acts_resting a m n s now e d = record { deed = rests; is = subst (λ x. is_due x ≡ false) e d; went = refl; agent = e; kept = kept_none stands faults s }
 
-pub acts_calling : (a b : NodeCore) (m t n : Servant) (now : ℕ) (i : Input) (r : Reply) → t ≡ told_at now m → is_due t ≡ true → i ≡ call_of t → GoesOn a (answered 0 i r) b → is_starved r ≡ false
-    → n ≡ after_call now t r → Acts a m now b n
-acts_calling a b m t n now i r e d c g h o = record {
-  deed = calls r;
-  is = (subst (λ x. is_due x ≡ true) e d, h);
-  went = subst (λ x. GoesOn a (answered 0 x r) b) (c ∙ ap (λ x. call_of x) e) g;
-  agent = o ∙ ap (λ x. after_call now x r) e;
-}
+  -- an agent made its call, and its store was asked before it and behind it
+  acts_calling : (a b : NodeCore) (m t n : Servant) (s x y : ShelfState B) (now : ℕ) (i : Input) (r : Reply) → t ≡ told_at now m → is_due t ≡ true
+      → i ≡ call_of t → GoesOn a (answered 0 i r) b
+      → is_starved r ≡ false → n ≡ after_call now t r → KeptOn stands faults s (kept_ahead t) x → KeptOn stands faults x (kept_after n) y
+      → Acts stands faults a m s now b n y
+  acts_calling a b m t n s x y now i r e d c g h o ahead behind = record {
+    deed = calls r;
+    is = (subst (λ k. is_due k ≡ true) e d, h);
+    went = subst (λ k. GoesOn a (answered 0 k r) b) (c ∙ ap (λ k. call_of k) e) g;
+    agent = o ∙ ap (λ k. after_call now k r) e;
+    kept = kept_then stands faults s x y (kept_ahead (told_at now m)) (kept_after (after_call now (told_at now m) r))
+        (subst (λ k. KeptOn stands faults s (kept_ahead k) x) e ahead)
+        (subst (λ k. KeptOn stands faults x (kept_after k) y) (o ∙ ap (λ k. after_call now k r) e) behind);
+  }
 
-pub acts_some : (a b : NodeCore) (m n : Servant) (now : ℕ) → Acts a m now b n → GoesSome a b
-acts_some a b m n now p = record { calls = deed_calls now 0 m p.deed; adds = deed_adds a b now 0 m p.deed p.went }
+  -- it did, or it was cut short behind its call
+  pub acts_through : (z : Result (Unit {0}) Cut) (a b : NodeCore) (m t n : Servant) (s x y : ShelfState B) (now : ℕ) (i : Input) (r : Reply)
+      → t ≡ told_at now m → is_due t ≡ true → i ≡ call_of t
+      → GoesOn a (answered 0 i r) b → is_starved r ≡ false → n ≡ after_call now t r → KeptOn stands faults s (kept_ahead t) x → MatchResult z
+      (λ _. KeptOn stands faults x (kept_after n) y) (λ why. IsCut faults x y why)
+      → MatchResult z (λ _. Acts stands faults a m s now b n y) (λ why. CutsOff faults a s why b y)
+  acts_through (Ok u) a b m t n s x y now i r e d c g h o ahead behind = acts_calling a b m t n s x y now i r e d c g h o ahead behind
+  acts_through (Err why) a b m t n s x y now i r e d c g h o ahead behind = record {
+    some = some_step a b (answered 0 i r) g;
+    is = cut_then stands faults s x y (kept_ahead t) why ahead behind;
+  }
 
--- whatever is told of it besides
-pub acts_anyway : (x : Result (Unit {0}) OutOfMemory) (a b : NodeCore) (m n : Servant) (now : ℕ) → Acts a m now b n → MatchResult x (λ _. Acts a m now b n) (λ _. GoesSome a b)
-acts_anyway (Ok u) a b m n now p = p
-acts_anyway (Err e) a b m n now p = acts_some a b m n now p
+  -- ---- all deeds
 
-pub ruleset acting = (some_none, some_step, acts_resting, acts_calling, acts_anyway)
+  pub acts_cut : (count : ℕ) (a b c : NodeCore) (crew others : List Servant) (s t u : ShelfState B) (now : ℕ) (why : Cut)
+      → ActsSome stands faults count a crew s now b others t → CutsOff faults b t why c u
+      → CutsOff faults a s why c u
+  acts_cut count a b c crew others s t u now why p q = record {
+    some = record { calls = each_adds (deed_calls now) 1 crew p.deeds ++ q.some.calls; adds = adds_on a b c _ _ p.adds q.some.adds };
+    is = cut_then stands faults s t u (kept_deeds now crew p.deeds) why p.kept q.is;
+  }
 
--- ---- all deeds
+  pub acts_all : (count : ℕ) (a b : NodeCore) (crew others : List Servant) (s t : ShelfState B) (now : ℕ)
+      → ActsSome stands faults count a crew s now b others t → count ≡ length crew
+      → ActsAll stands faults a crew s now b others t
+  acts_all count a b crew others s t now p e = record {
+    deeds = p.deeds;
+    count = p.count_is ∙ e;
+    each = p.each;
+    adds = p.adds;
+    crew_is = p.crew_is;
+    kept = p.kept;
+  }
 
-pub acts_cut : (count : ℕ) (a b c : NodeCore) (crew others : List Servant) (now : ℕ) → ActsSome count a crew now b others → GoesSome b c → GoesSome a c
-acts_cut count a b c crew others now p q = record { calls = each_adds (deed_calls now) 1 crew p.deeds ++ q.calls; adds = adds_on a b c _ _ p.adds q.adds }
+pub ruleset acting = (some_none, some_step, cut_memory, cut_fault, acts_resting, acts_through)
 
-pub acts_all : (count : ℕ) (a b : NodeCore) (crew others : List Servant) (now : ℕ) → ActsSome count a crew now b others → count ≡ length crew → ActsAll a crew now b others
-acts_all count a b crew others now p e = record { deeds = p.deeds; count = p.count_is ∙ e; each = p.each; adds = p.adds; crew_is = p.crew_is }
+-- the store was asked behind a call, or the round was cut short
+pub ruleset taking = (cut_fault)

@@ -1,10 +1,10 @@
 -- What follows the turn of a round.
 use Rattle.std.proofs.Common.{◌≡◌, ℕ, List, [], ◌++◌, length, sym, ap, ◌∙◌, subst, append_assoc, Bool, filter, Result, Ok, Err}
 use Rattle.std.specs.Prelude.{MatchResult}
-use Rattle.grasp_cbor.specs.declared.memory.OutOfMemory.{OutOfMemory}
 use Rattle.grasp_core.specs.declared.node_core.NodeCore.{NodeCore}
 use Rattle.grasp_crew.specs.Seats.{SeatState, stays}
 use Rattle.grasp_desk.specs.declared.desk.Told.{Told as Line}
+use Rattle.grasp_disk.specs.Calls.{DiskLog}
 use Rattle.grasp_shared.proofs.Adding.{adds_on}
 use Rattle.grasp_shared.specs.Adding.{Adds}
 use Rattle.grasp_service_visits.specs.Calling.{GoesSome}
@@ -14,10 +14,14 @@ use Rattle.grasp_service_visits.specs.Serving.{house_of}
 use Rattle.grasp_service_visits.specs.Tending.{TendsAll, tended, tended_told, tend_calls}
 use Rattle.grasp_service_visits.specs.Visits.{TakesVisits, house_after, all_visit_calls, all_visit_told}
 use Rattle.grasp_service_visits.specs.declared.house.House.{House}
-use Rattle.grasp_service.specs.Deeds.{IsDeed, after_deed, deed_calls, ActsAll}
+use Rattle.grasp_shelf.specs.Shelves.{ShelfState, KeptOn}
+use Rattle.grasp_service.specs.Deeds.{IsDeed, after_deed, deed_calls, kept_deeds, ActsAll}
 use Rattle.grasp_service.specs.Following.{woken_agents, Wakes, ActsIn, ActsOn, seats_stayed, heard_calls, heard_told, HearsVisitors, TakesVisitors, Rests, Follows}
+use Rattle.grasp_service.specs.Keeping.{CutsOff}
 use Rattle.grasp_service.specs.Rounds.{ticks, stirs, woken_crew}
 use Rattle.grasp_service.specs.States.{ServiceState, state_of, with_crew, events_told}
+use Rattle.grasp_service.specs.declared.cut.Cut.{Cut}
+use Rattle.grasp_service.specs.declared.cut.Cut.TheVariants as cut
 use Rattle.grasp_service.specs.declared.round.Said.{Said}
 use Rattle.grasp_service.specs.declared.service.Service.{Service}
 
@@ -36,31 +40,38 @@ wakes_on a z now came woke w crew ticked core state = record {
       ∙ ap (λ t. record (state_of a) { house = record (state_of a).house { crew = woken_agents a now came }; ticked = t }) ticked;
 }
 
--- they acted
-pub acts_in : (x : Result (Unit {0}) OutOfMemory) (a z : Service) (now : ℕ) → MatchResult x (λ _. ActsAll a.core a.house.crew.items now z.core z.house.crew.items) (λ _. GoesSome a.core z.core)
-    → state_of z ≡ with_crew (state_of a) z.house.crew.items → MatchResult x (λ _. ActsIn a now z) (λ _. GoesSome a.core z.core)
-acts_in (Ok u) a z now p s = record { acts = p; state = s }
-acts_in (Err e) a z now p s = p
+module _ {B : Type 0} (stands : B → DiskLog → Type 0) (faults : B → ℕ) where
+  -- they acted
+  pub acts_in : (x : Result (Unit {0}) Cut) (a z : Service) (s t : ShelfState B) (now : ℕ)
+      → MatchResult x (λ _. ActsAll stands faults a.core a.house.crew.items s now z.core z.house.crew.items t) (λ why. CutsOff faults a.core s why z.core t)
+      → state_of z ≡ with_crew (state_of a) z.house.crew.items → MatchResult x (λ _. ActsIn stands faults a s now z t)
+      (λ why. CutsOff faults a.core s why z.core t)
+  acts_in (Ok u) a z s t now p is = record { acts = p; state = is }
+  acts_in (Err why) a z s t now p is = p
 
--- they were woken, and acted
-acts_on : (a w z : Service) (now : ℕ) (came : Bool) → Wakes a now came w → ActsIn w now z → ActsOn a now came z
-acts_on a w z now came woke p =
-    let crew : w.house.crew.items ≡ woken_agents a now came = ap (λ (t : ServiceState). t.house.crew) woke.state in
-    let acts = p.acts in
-    record {
-      deeds = acts.deeds;
-      count = acts.count ∙ ap (λ l. length l) crew;
-      each = subst (λ l. Each (IsDeed now) l acts.deeds) crew acts.each;
-      adds = subst (λ n. Adds n (each_adds (deed_calls now) 1 (woken_agents a now came) acts.deeds) z.core) woke.core
-          (subst (λ l. Adds w.core (each_adds (deed_calls now) 1 l acts.deeds) z.core) crew acts.adds);
-      state = p.state ∙ ap (λ (t : ServiceState). with_crew t z.house.crew.items) woke.state
-          ∙ ap (λ l. record (state_of a) { house = record (state_of a).house { crew = l }; ticked = ticks (state_of a) now }) (acts.crew_is ∙ ap (λ l. each_after (after_deed now) l acts.deeds) crew);
-    }
+  -- they were woken, and acted
+  acts_on : (a w z : Service) (s t : ShelfState B) (now : ℕ) (came : Bool) → Wakes a now came w → ActsIn stands faults w s now z t
+      → ActsOn stands faults a s now came z t
+  acts_on a w z s t now came woke p =
+      let crew : w.house.crew.items ≡ woken_agents a now came = ap (λ (x : ServiceState). x.house.crew) woke.state in
+      let acts = p.acts in
+      record {
+        deeds = acts.deeds;
+        count = acts.count ∙ ap (λ l. length l) crew;
+        each = subst (λ l. Each (IsDeed now) l acts.deeds) crew acts.each;
+        adds = subst (λ n. Adds n (each_adds (deed_calls now) 1 (woken_agents a now came) acts.deeds) z.core) woke.core
+            (subst (λ l. Adds w.core (each_adds (deed_calls now) 1 l acts.deeds) z.core) crew acts.adds);
+        state = p.state ∙ ap (λ (x : ServiceState). with_crew x z.house.crew.items) woke.state
+            ∙ ap (λ l. record (state_of a) { house = record (state_of a).house { crew = l }; ticked = ticks (state_of a) now })
+            (acts.crew_is ∙ ap (λ l. each_after (after_deed now) l acts.deeds) crew);
+        kept = subst (λ l. KeptOn stands faults s (kept_deeds now l acts.deeds) t) crew acts.kept;
+      }
 
-pub acting : (x : Result (Unit {0}) OutOfMemory) (a w z : Service) (now : ℕ) (came : Bool) → Wakes a now came w → MatchResult x (λ _. ActsIn w now z) (λ _. GoesSome w.core z.core)
-    → MatchResult x (λ _. ActsOn a now came z) (λ _. GoesSome a.core z.core)
-acting (Ok u) a w z now came woke p = acts_on a w z now came woke p
-acting (Err e) a w z now came woke p = subst (λ n. GoesSome n z.core) woke.core p
+  pub acting : (x : Result (Unit {0}) Cut) (a w z : Service) (s t : ShelfState B) (now : ℕ) (came : Bool) → Wakes a now came w
+      → MatchResult x (λ _. ActsIn stands faults w s now z t) (λ why. CutsOff faults w.core s why z.core t)
+      → MatchResult x (λ _. ActsOn stands faults a s now came z t) (λ why. CutsOff faults a.core s why z.core t)
+  acting (Ok u) a w z s t now came woke p = acts_on a w z s t now came woke p
+  acting (Err why) a w z s t now came woke p = subst (λ n. CutsOff faults n s why z.core t) woke.core p
 
 -- ---- visitors
 
@@ -123,12 +134,28 @@ pub ruleset taking = (visitors_taken, heard_cut)
 
 -- ---- all of it
 
-pub follows_all : (a d v z : Service) (k l m : DeskTold) (now : ℕ) (came stops : Bool) (said : Said) → ActsOn a now came d → TakesVisitors d k now said v l → TellsOnly l said.lines m → Rests v now said.some z
-    → stops ≡ z.house.stopping → Follows a k now came stops z m
-follows_all a d v z k l m now came stops said p q r s e = record { acted = d; taken = v; said = said; middle = l; acts = p; takes = q; tells = r; rests = s; stops_is = e }
+module _ {B : Type 0} (stands : B → DiskLog → Type 0) (faults : B → ℕ) where
+  pub follows_all : (a d v z : Service) (s t : ShelfState B) (k l m : DeskTold) (now : ℕ) (came stops : Bool) (said : Said)
+      → ActsOn stands faults a s now came d t → TakesVisitors d k now said v l
+      → TellsOnly l said.lines m → Rests v now said.some z → stops ≡ z.house.stopping → Follows stands faults a s k now came stops z t m
+  follows_all a d v z s t k l m now came stops said p q r u e = record {
+    acted = d;
+    taken = v;
+    said = said;
+    middle = l;
+    acts = p;
+    takes = q;
+    tells = r;
+    rests = u;
+    stops_is = e;
+  }
 
--- the agents acted, and then memory was wanted
-pub acted_cut : (a d : Service) (c : NodeCore) (now : ℕ) (came : Bool) → ActsOn a now came d → GoesSome d.core c → GoesSome a.core c
-acted_cut a d c now came p q = some_some a.core d.core c (record { calls = each_adds (deed_calls now) 1 (woken_agents a now came) p.deeds; adds = p.adds }) q
+  -- the agents acted, and then memory was wanted
+  pub acted_cut : (a d : Service) (c : NodeCore) (s t : ShelfState B) (now : ℕ) (came : Bool) → ActsOn stands faults a s now came d t → GoesSome d.core c
+      → CutsOff faults a.core s cut.OutOfMemory c t
+  acted_cut a d c s t now came p q = record {
+    some = some_some a.core d.core c (record { calls = each_adds (deed_calls now) 1 (woken_agents a now came) p.deeds; adds = p.adds }) q;
+    is = tt;
+  }
 
 pub ruleset following = (follows_all, acted_cut)

@@ -3,6 +3,7 @@ pub mod Deeds
 pub mod Events
 pub mod Exchanging
 pub mod Following
+pub mod Kept
 pub mod Making
 pub mod Openings
 pub mod Rounds

@@ -3,14 +3,16 @@ use Rattle.std.specs.Prelude.{◌≡◌, ℕ, Bool, List, ◌++◌, length, filt
 use Rattle.grasp_crew.specs.Seats.{SeatState, stays}
 use Rattle.grasp_crew.specs.declared.servant.Servant.{Servant}
 use Rattle.grasp_desk.specs.declared.desk.Told.{Told as Line}
+use Rattle.grasp_disk.specs.Calls.{DiskLog}
 use Rattle.grasp_shared.specs.Adding.{Adds}
 use Rattle.grasp_shared.specs.History.{History}
+use Rattle.grasp_shelf.specs.Shelves.{ShelfState, KeptOn}
 use Rattle.grasp_types.specs.declared.reply.Reply.{Reply}
 use Rattle.grasp_service_visits.specs.Desks.{DeskTold, VisitsAll, TellsOnly}
 use Rattle.grasp_service_visits.specs.Each.{each_after, each_adds, Each}
 use Rattle.grasp_service_visits.specs.Tending.{tended, tended_told, tend_calls}
 use Rattle.grasp_service_visits.specs.Visits.{Visited, AllMean, visitings, has_some, seats_after, house_after, all_visit_calls, all_visit_told}
-use Rattle.grasp_service.specs.Deeds.{Deed, IsDeed, after_deed, deed_calls, ActsAll}
+use Rattle.grasp_service.specs.Deeds.{Deed, IsDeed, after_deed, deed_calls, kept_deeds, ActsAll}
 use Rattle.grasp_service.specs.Rounds.{ticks, stirs, woken_crew}
 use Rattle.grasp_service.specs.States.{ServiceState, state_of, with_crew, events_told}
 use Rattle.grasp_service.specs.declared.round.Said.{Said}
@@ -26,12 +28,14 @@ pub record Wakes (old : Service) (now : ℕ) (came : Bool) (new : Service) : Typ
   pub state : state_of new ≡ record (state_of old) { house = record (state_of old).house { crew = woken_agents old now came }; ticked = ticks (state_of old) now }
 
 -- each agent did what was due
-pub record ActsIn (old : Service) (now : ℕ) (new : Service) : Type 0 where
-  pub acts : ActsAll old.core old.house.crew.items now new.core new.house.crew.items
+pub record ActsIn {B : Type 0} (stands : B → DiskLog → Type 0) (faults : B → ℕ) (old : Service) (a : ShelfState B) (now : ℕ) (new : Service)
+    (b : ShelfState B) : Type 0 where
+  pub acts : ActsAll stands faults old.core old.house.crew.items a now new.core new.house.crew.items b
   pub state : state_of new ≡ with_crew (state_of old) new.house.crew.items
 
 -- the agents were woken where something may have come for them, and each did what was due
-pub record ActsOn (old : Service) (now : ℕ) (came : Bool) (new : Service) : Type 0 where
+pub record ActsOn {B : Type 0} (stands : B → DiskLog → Type 0) (faults : B → ℕ) (old : Service) (a : ShelfState B) (now : ℕ) (came : Bool) (new : Service)
+    (b : ShelfState B) : Type 0 where
   pub deeds : List Deed
   pub count : length deeds ≡ length (woken_agents old now came)
   pub each : Each (IsDeed now) (woken_agents old now came) deeds
@@ -40,6 +44,7 @@ pub record ActsOn (old : Service) (now : ℕ) (came : Bool) (new : Service) : Ty
     house = record (state_of old).house { crew = each_after (after_deed now) (woken_agents old now came) deeds };
     ticked = ticks (state_of old) now;
   }
+  pub kept : KeptOn stands faults a (kept_deeds now (woken_agents old now came) deeds) b
 
 -- the seats once visitors were asked
 abbrev pub seats_then : Service → ℕ → List Visited → List SeatState
@@ -92,12 +97,13 @@ pub record Rests (old : Service) (now : ℕ) (some : Bool) (new : Service) : Typ
   pub state : state_of new ≡ record (state_of old) { stirring = some; reading = now }
 
 -- all this was done
-pub record Follows (old : Service) (desk : DeskTold) (now : ℕ) (came stops : Bool) (new : Service) (later : DeskTold) : Type 0 where
+pub record Follows {B : Type 0} (stands : B → DiskLog → Type 0) (faults : B → ℕ) (old : Service) (a : ShelfState B) (desk : DeskTold) (now : ℕ)
+    (came stops : Bool) (new : Service) (b : ShelfState B) (later : DeskTold) : Type 0 where
   pub acted : Service
   pub taken : Service
   pub said : Said
   pub middle : DeskTold
-  pub acts : ActsOn old now came acted
+  pub acts : ActsOn stands faults old a now came acted b
   pub takes : TakesVisitors acted desk now said taken middle
   pub tells : TellsOnly middle said.lines later
   pub rests : Rests taken now said.some new

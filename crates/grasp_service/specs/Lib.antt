@@ -1,6 +1,7 @@
 pub mod Deeds
 pub mod Exchanges
 pub mod Following
+pub mod Keeping
 pub mod Openings
 pub mod Plans
 pub mod Rounds

@@ -1,8 +1,9 @@
 -- The agents of a node that serves, as they are planned: the one that manages prefixes, then the beacons, then the readers.
-use Rattle.std.specs.Prelude.{ℕ, ◌+◌, List, [], ◌∷◌, ◌++◌}
+use Rattle.std.specs.Prelude.{ℕ, ◌+◌, List, [], ◌∷◌, ◌++◌, Option, None, Some}
+use Rattle.grasp_agent.specs.States.{AgentState, first_agent}
 use Rattle.grasp_crew.specs.Herald.{first_herald}
 use Rattle.grasp_crew.specs.Listener.{first_listener}
-use Rattle.grasp_crew.specs.Steward.{first_steward}
+use Rattle.grasp_crew.specs.Steward.{steward_of}
 use Rattle.grasp_crew.specs.declared.servant.Servant.{Servant}
 use Rattle.grasp_crew.specs.declared.servant.Servant.TheVariants.{Steward, Herald, Listener}
 use Rattle.grasp_crew.specs.declared.trying.Pace.{Pace}
@@ -30,9 +31,18 @@ abbrev pub listeners_from : ℕ → List (List ℕ) → List Servant
 listeners_from number [] = []
 listeners_from number (name ∷ names) = listener_from number name ∷ listeners_from (number + 1) names
 
--- beacons and readers are numbered from 1, each by themselves
-abbrev pub crew_with : List RootPrefix → List WantPlan → Pace → List HeraldPlan → List (List ℕ) → List Servant
-crew_with roots wants pace heralds readers = Steward (first_steward (pool_of roots) wants pace) ∷ (heralds_from 1 heralds ++ listeners_from 1 readers)
+-- this agent, or one with these roots that has made no call
+abbrev pub agent_or : List RootPrefix → Option AgentState → AgentState
+agent_or roots None = first_agent (pool_of roots)
+agent_or roots (Some agent) = agent
 
+-- beacons and readers are numbered from 1, each by themselves
+abbrev pub crew_from : AgentState → List WantPlan → Pace → List HeraldPlan → List (List ℕ) → List Servant
+crew_from agent wants pace heralds readers = Steward (steward_of agent wants pace) ∷ (heralds_from 1 heralds ++ listeners_from 1 readers)
+
+abbrev pub crew_with : List RootPrefix → List WantPlan → Pace → List HeraldPlan → List (List ℕ) → List Servant
+crew_with roots wants pace heralds readers = crew_from (first_agent (pool_of roots)) wants pace heralds readers
+
+-- where no agent is handed over these are `crew_with` of its roots
 abbrev pub crew_of : ServicePlan → List Servant
-crew_of p = crew_with p.roots p.wants p.pace p.heralds p.readers
+crew_of p = crew_from (agent_or p.roots p.agent) p.wants p.pace p.heralds p.readers

@@ -7,8 +7,10 @@ use Rattle.grasp_crew.specs.declared.servant.Servant.{Servant}
 use Rattle.grasp_desk.specs.declared.desk.Told.{Told as Line}
 use Rattle.grasp_node_main.specs.Tells.{LinksTold, Told, TellsTurn, HandsOnly}
 use Rattle.grasp_node_main.specs.Turns.{Turn, turn_calls, loop_call, outputs_in}
+use Rattle.grasp_disk.specs.Calls.{DiskLog}
 use Rattle.grasp_shared.specs.Adding.{Adds}
 use Rattle.grasp_shared.specs.History.{History}
+use Rattle.grasp_shelf.specs.Shelves.{ShelfState, KeptOn}
 use Rattle.grasp_types.specs.declared.reply.Reply.{Reply}
 use Rattle.grasp_types.specs.declared.traffic.Input.TheVariants as input
 use Rattle.grasp_service_visits.specs.Desks.{DeskTold, VisitsAll, TellsOnly}
@@ -16,7 +18,7 @@ use Rattle.grasp_service_visits.specs.Each.{each_after, each_adds, Each}
 use Rattle.grasp_service_visits.specs.Serving.{HouseState}
 use Rattle.grasp_service_visits.specs.Tending.{tended, tended_told, tend_calls}
 use Rattle.grasp_service_visits.specs.Visits.{Visited, AllMean, visitings, has_some, seats_after, house_after, all_visit_calls, all_visit_told}
-use Rattle.grasp_service.specs.Deeds.{Deed, IsDeed, after_deed, deed_calls}
+use Rattle.grasp_service.specs.Deeds.{Deed, IsDeed, after_deed, deed_calls, kept_deeds}
 use Rattle.grasp_service.specs.Exchanges.{has_come, is_turn_starved}
 use Rattle.grasp_service.specs.States.{ServiceState, state_of, events_told}
 use Rattle.grasp_service.specs.declared.service.Service.{Service}
@@ -92,6 +94,10 @@ visitor_calls s r =
 abbrev pub round_calls : ServiceState → Round → History
 round_calls s r = turn_calls r.turn ++ (agent_calls s r ++ visitor_calls s r)
 
+-- the disk after it: the store was asked around the calls of the agent of prefixes
+abbrev pub kept_round : ServiceState → Round → DiskLog → DiskLog
+kept_round s r log = kept_deeds r.turn.now (crew_in s r.turn) r.deeds log
+
 -- the lines that visitors are told: the answers, and then the events
 abbrev pub round_told : ServiceState → Round → List Line
 round_told s r =
@@ -131,13 +137,15 @@ pub record TellsRound (old : Outside) (s : ServiceState) (r : Round) (new : Outs
 -- ---- rounds
 
 -- a round was made, and a visitor may have stopped the node
-pub record WentOn (old : Service) (before : Outside) (stops : Bool) (new : Service) (after : Outside) : Type 0 where
+pub record WentOn {B : Type 0} (stands : B → DiskLog → Type 0) (faults : B → ℕ) (old : Service) (a : ShelfState B) (before : Outside) (stops : Bool)
+    (new : Service) (b : ShelfState B) (after : Outside) : Type 0 where
   pub round : Round
   pub is : IsRound (state_of old) round
   pub adds : Adds old.core (round_calls (state_of old) round) new.core
   pub state : state_of new ≡ round_after (state_of old) round
   pub tells : TellsRound before (state_of old) round after
   pub stops_is : stops ≡ new.house.stopping
+  pub kept : KeptOn stands faults a (kept_round (state_of old) round) b
 
 -- a round was cut short: its turn was made, and the history went on
 pub record CutShort (old : Service) (before : Told) (new : Service) (after : Told) : Type 0 where
@@ -156,6 +164,10 @@ abbrev pub all_round_calls : ServiceState → List Round → History
 all_round_calls s [] = []
 all_round_calls s (r ∷ rs) = round_calls s r ++ all_round_calls (round_after s r) rs
 
+abbrev pub kept_rounds : ServiceState → List Round → DiskLog → DiskLog
+kept_rounds s [] log = log
+kept_rounds s (r ∷ rs) log = kept_rounds (round_after s r) rs (kept_round s r log)
+
 abbrev pub AreRounds : ServiceState → List Round → Type 0
 AreRounds s [] = Unit {0}
 AreRounds s (r ∷ rs) = IsRound s r × AreRounds (round_after s r) rs
@@ -165,12 +177,14 @@ TellsRounds old s [] new = new ≡ old
 TellsRounds old s (r ∷ rs) new = (middle : Outside) × TellsRound old s r middle × TellsRounds middle (round_after s r) rs new
 
 -- rounds were made
-pub record Went (old : Service) (before : Outside) (new : Service) (after : Outside) : Type 0 where
+pub record Went {B : Type 0} (stands : B → DiskLog → Type 0) (faults : B → ℕ) (old : Service) (a : ShelfState B) (before : Outside) (new : Service)
+    (b : ShelfState B) (after : Outside) : Type 0 where
   pub rounds : List Round
   pub are : AreRounds (state_of old) rounds
   pub adds : Adds old.core (all_round_calls (state_of old) rounds) new.core
   pub state : state_of new ≡ rounds_after (state_of old) rounds
   pub tells : TellsRounds before (state_of old) rounds after
+  pub kept : KeptOn stands faults a (kept_rounds (state_of old) rounds) b
 
 -- the last drain was made, with the last round's reading
 pub record Ends (old : Service) (before : LinksTold) (new : Service) (after : LinksTold) : Type 0 where

@@ -3,14 +3,20 @@
 ghost use Rattle.std.specs.Prelude.{◌≡◌, MatchResult, map};
 ghost use Rattle.grasp_crew.specs.Servants.{after_call, woken};
 ghost use Rattle.grasp_service.specs.Deeds.{Acts, ActsAll};
-ghost use Rattle.grasp_service_visits.specs.Calling.{GoesSome};
+ghost use Rattle.grasp_service.specs.Keeping.{CutsOff, IsCut, kept_after};
+ghost use Rattle.grasp_shelf.specs.Shelves.{KeptOn};
 
+use crate::cut::Cut;
+use crate::keeping::{keep_after, keep_before};
+use crate::pool_events::{Changing, add_changes, change_by};
 use crate::want_events::{Asked, add_end, asked_of};
 use grasp_cbor::{Octets, OutOfMemory};
 use grasp_core::NodeCore;
-use grasp_crew::Servant;
+use grasp_crew::{Servant, Steward};
+use grasp_disk::Disk;
 use grasp_service_visits::is_starved;
 use grasp_shared::step_core;
+use grasp_shelf::Shelf;
 use grasp_types::{List, Reply};
 use std::alloc::Global;
 
@@ -23,47 +29,73 @@ pub(crate) fn wake_all(crew: &mut [Servant])
     }
 }
 
-/// Each agent is told what is due, and makes a call where one is due, in order, at a reading in milliseconds.
+/// Each agent is told what is due, and makes a call where one is due, in order, at a reading in milliseconds. The store is asked
+/// around the calls of the agent of prefixes.
 #[tactic(auto, using(crate::proofs::Deeds::acts_none, crate::proofs::Deeds::acts_all))]
-pub(crate) fn act_all(
+pub(crate) fn act_all<B: Disk>(
     alloc: Global,
     core: &mut NodeCore,
     crew: &mut [Servant],
+    shelf: &mut Shelf<B>,
     events: &mut List<Octets>,
     now: u64,
-) -> Result<(), OutOfMemory>
-    ensures { MatchResult result (λ _. ActsAll core.old crew.old now core.new crew.new) (λ _. GoesSome core.old core.new) }
+) -> Result<(), Cut>
+    ensures { MatchResult result (λ _. ActsAll B.stands B.faults core.old crew.old shelf.old now core.new crew.new shelf.new)
+        (λ cut. CutsOff B.faults core.old shelf.old cut core.new shelf.new) }
 {
     for i in 0..crew.len() {
-        act(alloc, core, &mut crew[i], events, now)?;
+        act(alloc, core, &mut crew[i], shelf, events, now)?;
     }
     Ok(())
 }
 
-/// An agent is told what is due, and makes a call where one is due.
+/// An agent is told what is due, and makes a call where one is due. The store is asked around the call.
 #[tactic(auto, using(crate::proofs::Deeds::acting))]
-fn act(
+fn act<B: Disk>(
     alloc: Global,
     core: &mut NodeCore,
     servant: &mut Servant,
+    shelf: &mut Shelf<B>,
     events: &mut List<Octets>,
     now: u64,
-) -> Result<(), OutOfMemory>
-    ensures { MatchResult result (λ _. Acts core.old servant.old now core.new servant.new) (λ _. GoesSome core.old core.new) }
+) -> Result<(), Cut>
+    ensures { MatchResult result (λ _. Acts B.stands B.faults core.old servant.old shelf.old now core.new servant.new shelf.new)
+        (λ cut. CutsOff B.faults core.old shelf.old cut core.new shelf.new) }
 {
     servant.tell(now)?;
     if !servant.is_due() {
         return Ok(());
     }
     let input = servant.call()?;
+    keep_before(shelf, servant, &input)?;
     let asked = asked_of(servant);
     let reply = step_core(core, 0, input);
     if is_starved(&reply) {
         drop(reply);
-        Err(OutOfMemory)
+        Err(Cut::OutOfMemory)
     } else {
-        hear(alloc, servant, events, now, reply, asked)
+        take_reply(alloc, servant, shelf, events, now, reply, asked)
     }
+}
+
+/// The agent takes the reply, and the store is asked; what it tells besides is an event.
+#[tactic(auto, using(crate::proofs::Deeds::taking))]
+fn take_reply<B: Disk>(
+    alloc: Global,
+    servant: &mut Servant,
+    shelf: &mut Shelf<B>,
+    events: &mut List<Octets>,
+    now: u64,
+    reply: Reply,
+    asked: Option<Asked>,
+) -> Result<(), Cut>
+    ensures takes { servant.new ≡ after_call now servant.old reply }
+    ensures kept { MatchResult result (λ _. KeptOn B.stands B.faults shelf.old (kept_after servant.new) shelf.new)
+        (λ cut. IsCut B.faults shelf.old shelf.new cut) }
+{
+    hear(alloc, servant, events, now, reply, asked)?;
+    keep_after(shelf, servant)?;
+    Ok(())
 }
 
 /// The agent takes the reply, and what it tells besides is an event.
@@ -79,8 +111,9 @@ fn hear(
 {
     match servant {
         Servant::Steward(steward) => {
+            let changing = change_by(steward.agent(), &reply);
             steward.take(now, &reply);
-            let told = add_end(alloc, events, now, steward, asked, &reply);
+            let told = tell_of(alloc, events, now, steward, asked, &changing, &reply);
             drop(reply);
             told
         }
@@ -94,4 +127,18 @@ fn hear(
             Ok(())
         }
     }
+}
+
+/// Adds what a reply has changed of the prefixes of an agent, and that a want ended by it.
+fn tell_of(
+    alloc: Global,
+    events: &mut List<Octets>,
+    now: u64,
+    steward: &Steward,
+    asked: Option<Asked>,
+    changing: &Changing,
+    reply: &Reply,
+) -> Result<(), OutOfMemory> {
+    add_changes(alloc, events, now, steward.agent(), changing)?;
+    add_end(alloc, events, now, steward, asked, reply)
 }

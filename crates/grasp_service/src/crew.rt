@@ -1,10 +1,12 @@
 //! The agents of a node that serves, before any call.
 
 ghost use Rattle.std.specs.Prelude.{◌≡◌, ◌<◌, ◌++◌, [], ◌∷◌, length, IfOk, OnOk};
+ghost use Rattle.grasp_crew.specs.Steward.{steward_of};
 ghost use Rattle.grasp_crew.specs.declared.servant.Servant.TheVariants as servant;
-ghost use Rattle.grasp_service.specs.Plans.{crew_with, herald_from, heralds_from, listener_from, listeners_from};
+ghost use Rattle.grasp_service.specs.Plans.{agent_or, crew_from, herald_from, heralds_from, listener_from, listeners_from};
 
 use crate::plan::HeraldPlan;
+use grasp_agent::PrefixAgent;
 use grasp_cbor::{Chars, OutOfMemory};
 use grasp_crew::{Herald, Listener, Pace, Servant, Steward};
 use grasp_node_main::WantPlan;
@@ -12,9 +14,11 @@ use grasp_pool::RootPrefix;
 use grasp_types::{List, Plain};
 use std::alloc::Global;
 
-/// Agents that have made no call. Roots that `Pool::open` doesn't accept are answered as want of memory.
+/// Agents that have made no call. The one that manages prefixes is this one, or one with these roots, which are answered as want of
+/// memory where `Pool::open` doesn't accept them.
 pub(crate) fn open_crew(
     alloc: Global,
+    agent: Option<PrefixAgent>,
     roots: &[RootPrefix],
     wants: List<WantPlan>,
     pace: Pace,
@@ -23,9 +27,9 @@ pub(crate) fn open_crew(
 ) -> Result<Vec<Servant>, OutOfMemory>
     requires heralds { length heralds.now < 255 }
     requires readers { length readers.now < 255 }
-    ensures { IfOk result (λ crew. crew.items ≡ crew_with roots.now wants pace heralds.now readers.now) }
+    ensures { IfOk result (λ crew. crew.items ≡ crew_from (agent_or roots.now agent) wants pace heralds.now readers.now) }
 {
-    let steward = Steward::open(alloc, roots, wants, pace)?;
+    let steward = open_steward(alloc, agent, roots, wants, pace)?;
     let mut crew = Vec::new(alloc);
     match fill(alloc, &mut crew, steward, heralds, readers) {
         Ok(()) => Ok(crew),
@@ -33,6 +37,22 @@ pub(crate) fn open_crew(
             drop(crew);
             Err(OutOfMemory)
         }
+    }
+}
+
+/// The agent that manages prefixes: this one, or one with these roots.
+fn open_steward(
+    alloc: Global,
+    agent: Option<PrefixAgent>,
+    roots: &[RootPrefix],
+    wants: List<WantPlan>,
+    pace: Pace,
+) -> Result<Steward, OutOfMemory>
+    ensures { IfOk result (λ m. m ≡ steward_of (agent_or roots.now agent) wants pace) }
+{
+    match agent {
+        Some(agent) => Steward::of(alloc, agent, wants, pace),
+        None => Steward::open(alloc, roots, wants, pace),
     }
 }
 

@@ -1,5 +1,6 @@
 //! What a node that serves is opened with.
 
+use grasp_agent::PrefixAgent;
 use grasp_cbor::Chars;
 use grasp_config::LogLevel;
 use grasp_crew::Pace;
@@ -30,6 +31,8 @@ pub struct ServicePlan {
     pub node: NodePlan,
     /// The prefixes that it begins with.
     pub roots: List<RootPrefix>,
+    /// The agent that it begins with in place of one with these roots, where it kept its pool.
+    pub agent: Option<PrefixAgent>,
     /// What the agent that manages prefixes is to want.
     pub wants: List<WantPlan>,
     /// How fast a want is tried again.

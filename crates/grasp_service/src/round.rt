@@ -4,6 +4,7 @@ ghost use Rattle.std.specs.Prelude.{◌≡◌, ◌++◌, filter, MatchResult, On
 ghost use Rattle.grasp_crew.specs.Seats.{stays};
 ghost use Rattle.grasp_node_main.specs.Tells.{links_told, told};
 ghost use Rattle.grasp_service.specs.Following.{Wakes, ActsIn, ActsOn, HearsVisitors, TakesVisitors, Rests, Follows};
+ghost use Rattle.grasp_service.specs.Keeping.{CutsOff, IsCut};
 ghost use Rattle.grasp_service.specs.Rounds.{WentOn, CutShort, Ends, outside, ticks, stirs, woken_crew};
 ghost use Rattle.grasp_service.specs.States.{state_of, heard_event, event_told, events_told};
 ghost use Rattle.grasp_service_visits.specs.Calling.{GoesSome};
@@ -11,6 +12,7 @@ ghost use Rattle.grasp_service_visits.specs.Desks.{desk_told};
 ghost use Rattle.grasp_service_visits.specs.Tending.{TendsAll};
 
 use crate::acting::{act_all, wake_all};
+use crate::cut::Cut;
 use crate::exchange::{Exchange, make_turn};
 use crate::service::Service;
 use grasp_cbor::{Octets, OutOfMemory};
@@ -18,10 +20,12 @@ use grasp_control::NodeEvent;
 use grasp_core::NodeCore;
 use grasp_crew::{Seat, Servant};
 use grasp_desk::{Desk, Told};
+use grasp_disk::Disk;
 use grasp_io::{Clock, Counted, Links, Sink, write_all};
 use grasp_node_main::hand_over;
 use grasp_service_visits::{add_event, take_visits, tell_all, tend_all};
 use grasp_shared::step_core;
+use grasp_shelf::Shelf;
 use grasp_types::{Input, List, Plain};
 use std::alloc::Global;
 
@@ -40,47 +44,51 @@ impl Service {
     /// agent is told what is due and makes a call where one is due, what comes of visitors is taken, and all lines are told.
     /// The answer is whether a visitor stopped the node.
     ///
-    /// Where the node wants memory the round is cut short: its exchange with the links is whole, and the history has the calls
-    /// behind it. The lines of events go to the log, of which nothing is claimed.
+    /// The store is asked around the calls of the agent of prefixes. Where it has a fault, or the node wants memory, the round is
+    /// cut short: its exchange with the links is whole, and the history has the calls behind it. The lines of events go to the
+    /// log, of which nothing is claimed.
     #[tactic(auto, using(crate::proofs::Making::rounding))]
-    pub fn round<K: Sink, L: Links + Counted, D: Desk, C: Clock>(
+    pub fn round<K: Sink, L: Links + Counted, D: Desk, C: Clock, B: Disk>(
         &mut self,
         log: &mut K,
         links: &mut L,
         desk: &mut D,
         clock: &mut C,
-    ) -> Result<bool, OutOfMemory>
+        shelf: &mut Shelf<B>,
+    ) -> Result<bool, Cut>
         ensures { MatchResult result
-            (λ stops. WentOn self.old (outside (told (C.readings clock.old)
-            (links_told L.Links links.old)) (desk_told D.Desk desk.old)) stops self.new (outside (told (C.readings clock.new)
+            (λ stops. WentOn B.stands B.faults self.old shelf.old (outside (told (C.readings clock.old)
+            (links_told L.Links links.old)) (desk_told D.Desk desk.old)) stops self.new shelf.new (outside (told (C.readings clock.new)
             (links_told L.Links links.new)) (desk_told D.Desk desk.new)))
-            (λ _. CutShort self.old (told (C.readings clock.old)
+            (λ cut. CutShort self.old (told (C.readings clock.old)
             (links_told L.Links links.old)) self.new (told (C.readings clock.new)
-            (links_told L.Links links.new))) }
+            (links_told L.Links links.new)) × IsCut B.faults shelf.old shelf.new cut) }
     {
         let wait = self.wait.min(self.tick);
         let turn = make_turn(&mut self.core, wait, links, clock);
         if turn.starved {
-            return Err(OutOfMemory);
+            return Err(Cut::OutOfMemory);
         }
         self.house.counters = links.counters();
-        self.follow(log, desk, &turn)
+        self.follow(log, desk, shelf, &turn)
     }
 
     /// What follows a turn: agents, visitors, and the lines that are told.
     #[tactic(auto, using(crate::proofs::Following::following))]
-    fn follow<K: Sink, D: Desk>(
+    fn follow<K: Sink, D: Desk, B: Disk>(
         &mut self,
         log: &mut K,
         desk: &mut D,
+        shelf: &mut Shelf<B>,
         turn: &Exchange,
-    ) -> Result<bool, OutOfMemory>
+    ) -> Result<bool, Cut>
         ensures { MatchResult result
-            (λ stops. Follows self.old (desk_told D.Desk desk.old) turn.now.reading turn.now.came stops self.new (desk_told D.Desk desk.new))
-            (λ _. GoesSome self.old.core self.new.core) }
+            (λ stops. Follows B.stands B.faults self.old shelf.old (desk_told D.Desk desk.old) turn.now.reading turn.now.came stops self.new shelf.new
+            (desk_told D.Desk desk.new))
+            (λ cut. CutsOff B.faults self.old.core shelf.old cut self.new.core shelf.new) }
     {
         let mut events = List::new(self.alloc);
-        self.act(&mut events, turn)?;
+        self.act(shelf, &mut events, turn)?;
         let said = self.take_visitors(desk, &mut events, turn.reading)?;
         tell_all(desk, said.lines.slice());
         write_events(log, events.slice());
@@ -90,11 +98,17 @@ impl Service {
 
     /// Wakes the agents where something may have come for them, tells each what is due, and has it make its call where one is due.
     #[tactic(auto, using(crate::proofs::Following::acting))]
-    fn act(&mut self, events: &mut List<Octets>, turn: &Exchange) -> Result<(), OutOfMemory>
-        ensures { MatchResult result (λ _. ActsOn self.old turn.now.reading turn.now.came self.new) (λ _. GoesSome self.old.core self.new.core) }
+    fn act<B: Disk>(
+        &mut self,
+        shelf: &mut Shelf<B>,
+        events: &mut List<Octets>,
+        turn: &Exchange,
+    ) -> Result<(), Cut>
+        ensures { MatchResult result (λ _. ActsOn B.stands B.faults self.old shelf.old turn.now.reading turn.now.came self.new shelf.new)
+            (λ cut. CutsOff B.faults self.old.core shelf.old cut self.new.core shelf.new) }
     {
         self.wake(turn);
-        self.act_woken(events, turn.reading)
+        self.act_woken(shelf, events, turn.reading)
     }
 
     /// Wakes the agents where something may have come for them.
@@ -109,13 +123,20 @@ impl Service {
 
     /// Tells each agent what is due, and has it make its call where one is due.
     #[tactic(auto, using(crate::proofs::Following::acts_in))]
-    fn act_woken(&mut self, events: &mut List<Octets>, now: u64) -> Result<(), OutOfMemory>
-        ensures { MatchResult result (λ _. ActsIn self.old now self.new) (λ _. GoesSome self.old.core self.new.core) }
+    fn act_woken<B: Disk>(
+        &mut self,
+        shelf: &mut Shelf<B>,
+        events: &mut List<Octets>,
+        now: u64,
+    ) -> Result<(), Cut>
+        ensures { MatchResult result (λ _. ActsIn B.stands B.faults self.old shelf.old now self.new shelf.new)
+            (λ cut. CutsOff B.faults self.old.core shelf.old cut self.new.core shelf.new) }
     {
         act_all(
             self.alloc,
             &mut self.core,
             &mut self.house.crew,
+            shelf,
             events,
             now,
         )
@@ -193,7 +214,7 @@ impl Service {
         self.wait = if turn.came || turn.full || some || is_busy(&self.house.crew) {
             0
         } else {
-            until_due(&self.house.crew, turn.reading, self.tick)
+            until_due(&self.house.crew, &self.seats, turn.reading, self.tick)
         };
     }
 
@@ -293,13 +314,19 @@ fn is_busy(crew: &[Servant]) -> bool {
     crew.iter().any(|s| s.is_due())
 }
 
-/// The milliseconds until a tick is over, or something is due to be told to an agent before that.
-fn until_due(crew: &[Servant], now: u64, tick: u32) -> u32 {
+/// The milliseconds until a tick is over, or before that something is due to be told to an agent or a visitor has waited long
+/// enough.
+fn until_due(crew: &[Servant], seats: &[Seat], now: u64, tick: u32) -> u32 {
     let tick = tick.max(1);
     let left = tick - (now % u64::from(tick)) as u32;
     let mut least = u64::from(left);
     for servant in crew {
         least = least.min(servant.next_reading().saturating_sub(now));
+    }
+    for seat in seats {
+        if let Some(waits) = seat.awaits() {
+            least = least.min(waits.until.saturating_sub(now));
+        }
     }
     least.min(u64::from(tick)) as u32
 }

@@ -47,6 +47,7 @@ impl Service {
         let ServicePlan {
             node,
             roots,
+            agent,
             wants,
             pace,
             heralds,
@@ -57,6 +58,7 @@ impl Service {
         let core = open_core(alloc, node)?;
         let opened = open_crew(
             alloc,
+            agent,
             roots.slice(),
             wants,
             pace,

@@ -1,5 +1,7 @@
 //! How a node that serves ended.
 
+use grasp_store::KeepFault;
+
 /// How serving ended.
 #[derive(Clone, Copy, Debug, PartialEq, Eq)]
 pub enum ServiceEnd {
@@ -7,6 +9,8 @@ pub enum ServiceEnd {
     Stopped,
     /// There was no memory.
     OutOfMemory,
+    /// The store has a fault. Nothing was sent behind it.
+    StoreFault { fault: KeepFault },
     /// The links couldn't be opened.
     LinkFault,
     /// The desk couldn't be opened.

@@ -1,7 +1,7 @@
 use Rattle.std.proofs.Common.{◌≡◌}
 use Rattle.grasp_io.specs.Faults.{Rose}
 use Rattle.grasp_replay_main.specs.Task.{input_of}
-use Rattle.grasp_replay_main.proofs.Outcomes.{Ends, made_of, ends_as_told, ends_too_large, ends_whole}
+use Rattle.grasp_replay_main.proofs.Outcomes.{Ends, ends_so}
 use Rattle.grasp_replay_main.proofs.program.replay_main.Goals as goal
 
 -- how the program ends, as `run` tells it
@@ -13,9 +13,8 @@ ends g c = record {
   read_fault = c.run.ensures.read_fault;
   write_fault = c.run.ensures.write_fault;
   too_large = c.run.ensures.too_large;
-  small = c.run.ensures.small;
   bad_script = c.run.ensures.bad_script;
-  done = c.run.ensures.done;
+  made = c.run.ensures.made;
 }
 
 pub returns-in-Some-clause-small : goal.returns-in-Some-clause-small
@@ -26,14 +25,4 @@ returns-in-Some-clause-small g c = λ task e.
 pub returns-in-Some-clause-complete : goal.returns-in-Some-clause-complete
 returns-in-Some-clause-complete g c = λ task e.
     let same : c.in-Some.task ≡ task = cc (c.in-Some.ensures, e) in
-    rw (← same) (ends_as_told _ _ _ c.in-Some.task 2048 _ _ _ _ c.run.result (made_of c.in-Some.task 2048 _ _ _) (ends g c))
-
-pub returns-in-Some-clause-complete_large : goal.returns-in-Some-clause-complete_large
-returns-in-Some-clause-complete_large g c = λ task e.
-    let same : c.in-Some.task ≡ task = cc (c.in-Some.ensures, e) in
-    rw (← same) (ends_too_large _ _ _ c.in-Some.task 2048 _ _ _ _ c.run.result (ends g c))
-
-pub returns-in-Some-clause-complete_whole : goal.returns-in-Some-clause-complete_whole
-returns-in-Some-clause-complete_whole g c = λ task e.
-    let same : c.in-Some.task ≡ task = cc (c.in-Some.ensures, e) in
-    rw (← same) (ends_whole _ _ _ c.in-Some.task 2048 _ _ _ _ c.run.result (made_of c.in-Some.task 2048 _ _ _) (ends g c) c.run.ensures.whole)
+    rw (← same) (ends_so _ _ _ c.in-Some.task 2048 _ _ _ c.run.result (ends g c))

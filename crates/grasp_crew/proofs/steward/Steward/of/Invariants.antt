@@ -1,6 +1,6 @@
 use Rattle.std.proofs.Common.{◌≡◌, map, take}
 use Rattle.grasp_crew.specs.Trying.{untried}
-use Rattle.grasp_crew.proofs.steward.Steward.open.Given as goal
+use Rattle.grasp_crew.proofs.steward.Steward.of.Given as goal
 
 -- a want that was looked at has its tries
 abbrev pub invariant-loop-want : goal.invariant-loop-want

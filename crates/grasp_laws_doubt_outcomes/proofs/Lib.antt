@@ -1,0 +1,4 @@
+mod Calls
+mod Events
+mod Fitting
+mod Scripts

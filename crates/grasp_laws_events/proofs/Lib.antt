@@ -1,0 +1,16 @@
+mod Acting
+mod Dialling
+mod Doubting
+mod Following
+mod Keeping
+mod Numbered
+mod OneLoop
+mod Parts
+mod Posting
+mod QueuedWays
+mod Reporting
+mod Scripts
+mod Sides
+mod Steps
+mod Stopping
+mod Ways

@@ -1,0 +1,10 @@
+pub mod Acting
+pub mod Dialling
+pub mod Doubting
+pub mod Following
+pub mod Reporting
+pub mod Scripts
+pub mod Sides
+pub mod Steps
+pub mod Stopping
+pub mod Ways

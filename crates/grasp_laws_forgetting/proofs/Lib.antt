@@ -1,0 +1,2 @@
+mod Forgetting
+mod Replies
