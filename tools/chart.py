@@ -11,6 +11,7 @@ are at most two, one link joins nodes 1 and 2.
 
 --lines draws the reports from line A to line B alone, --nodes what has to do with these nodes alone; what happened before and
 elsewhere is reckoned all the same. Calls that are answered `notyet`, one behind the other, are one row, unless --all is given.
+A chart of 1,000 lines is about 48,000 pixels high and repeats its heads. Browsers show it; rsvg-convert takes 32,767.
 
 Each node has a lifeline, and time goes downwards. Arrows are drawn where something is delivered: solid for a datagram and
 for bytes of a stream, dashed for the arrival of a stream that was dialled. A box is an agent's call with its answer, a

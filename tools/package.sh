@@ -113,7 +113,8 @@ put README.md $doc
 for page in docs/*.md docs/*.svg; do
     put "$page" $doc/docs
 done
-find examples -type f ! -path '*/out/*' | while read -r file; do
+# Of a checkout the files that it has under git, so that nothing of its user's own is packed.
+{ git ls-files examples 2>/dev/null || find examples -type f ! -path '*/out/*'; } | while read -r file; do
     mode=644
     [ ! -x "$file" ] || mode=755
     put "$file" "$doc/$(dirname "$file")" $mode

@@ -3,13 +3,14 @@
 
 usage: readable.py < LINES                    lines in, readable text out
        readable.py --back < TEXT              readable text in, lines out
-       readable.py --check [--back] [FILE]    names each fault of a script: its line, word and reason
+       readable.py --check [--as WORD] [--back] [FILE]
+                                              names each fault of a script: its line, word and reason
 
 In the readable text a value is in the diagnostic notation of CBOR (RFC 8949, section 8), an address as RFC 5952 has it, a text between
 quotation marks. Blank lines, indentation and what stands behind # are for the reader: --back leaves them out. A line that is none
 of the programs' stands behind | as it is. --back gives exactly the lines from which the text was made.
---check takes a script as the program does, and with --back in readable text; from standard input where no file is named. Its status is 1
-where there are faults.
+--check takes a script as `grasp_replay replay` does, with --as keep or --as resolve as that word does, and with --back in readable text;
+from standard input where no file is named. Its status is 1 where there are faults.
 """
 import ipaddress
 import re
@@ -17,7 +18,7 @@ import sys
 
 sys.dont_write_bytecode = True
 from cbor_notation import BadItem, BadNotation, Reader, notation_of, quoted  # noqa: E402
-from script_check import check  # noqa: E402
+from script_check import WORDS, check  # noqa: E402
 
 NUMBER = re.compile("0|[1-9][0-9]{0,19}")
 DIGITS = re.compile("[0-9a-f]{32}")
@@ -25,6 +26,7 @@ PREFIX = re.compile("([0-9a-f]{32})/([0-9]{1,3})")
 SHORT = re.compile("[0-9a-f]{8}")
 VALUE = re.compile("x(?:[0-9a-f]{2})+")
 TEXT = re.compile("'(?:[!-$&-~]|%[0-9a-f]{2})*")
+TIME = re.compile("[0-9]{4}-[0-9]{2}-[0-9]{2}T[0-9:.]+Z(?= |$)")
 RAW = "|"
 
 
@@ -144,6 +146,9 @@ def back_line(text):
         start = reader.at
         if awaits_value(words) and not re.compile("(?:x[0-9a-f]*|-)(?: |$)").match(text, start):
             words.append("x" + reader.item().hex())
+        elif not words and (time := TIME.match(text, start)):
+            words.append(time.group())
+            reader.at = time.end()
         elif reader.has('"'):
             words.append(text_word(reader.string()))
         else:
@@ -183,9 +188,11 @@ def filtered(octets, back):
 
 def checked(words):
     """The faults of a script; in readable text the lines that say nothing aren't counted out, so that a fault has the line where it stands."""
+    word = words[1] if words[:1] == ["--as"] and len(words) > 1 else "replay"
+    words = words[2:] if words[:1] == ["--as"] else words
     back = words[:1] == ["--back"]
     names = words[1:] if back else words
-    if len(names) > 1:
+    if len(names) > 1 or word not in WORDS or names and names[0].startswith("--"):
         print("readable.py: unknown words; try --help", file=sys.stderr)
         return 2
     try:
@@ -193,7 +200,7 @@ def checked(words):
         places = None
         if back:
             octets, places = script_of(octets)
-        ok = check(octets, names[0] if names else "standard input", print, places)
+        ok = check(octets, names[0] if names else "standard input", print, places, word)
         return 0 if ok else 1
     except BadText as why:
         print(f"{names[0] if names else 'standard input'}: {why}")

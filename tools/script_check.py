@@ -1,10 +1,14 @@
-"""Every fault of a script for `grasp_replay replay`: its line, its word and the reason. The first one is in the line that the program names."""
+"""Every fault of a script: its line, its word and the reason. The first one is in the line that grasp_replay names.
+
+A script is one of a word of the program: of `replay`, of `keep`, in which nodes crash, or of `resolve`, in which they ask of prefixes in doubt.
+"""
 import re
 
 from cbor_notation import BadItem, notation_of
 
 MOST_LINES = 200_000
 MOST_BYTES = 16_777_216
+WORDS = ("replay", "keep", "resolve")
 U8, U16, U32, U64 = (2 ** bits - 1 for bits in (8, 16, 32, 64))
 
 
@@ -203,10 +207,15 @@ def prefix(words, what):
     return first, first + (1 << 128 - length)
 
 
-class Script:
-    """What the lines so far say."""
+# The events of scripts of one word alone.
+OWN = {"keep": ("crash",), "resolve": ("ask", "doubter")}
 
-    def __init__(self):
+
+class Script:
+    """What the lines so far say, in a script of this word of the program."""
+
+    def __init__(self, word):
+        self.word = word
         self.nodes = 64
         self.roots = []
         self.links = {}
@@ -282,6 +291,8 @@ class Script:
             asa = words.number("the agent", U32)
             if asa == 1:
                 words.fail("agent 1 is the agent of prefixes: nobody speaks for it", 1)
+            if asa == 2 and self.word == "resolve":
+                words.fail("agent 2 is the one that asks of prefixes in doubt: nobody speaks for it", 1)
             call(words, self.nodes, asa)
         elif kind in ("datagram", "arrive"):
             words.number("the number", U64)
@@ -293,17 +304,30 @@ class Script:
         elif kind == "drain":
             self.node(words)
             words.number("the count", U32)
+        elif kind in OWN.get(self.word, ()):
+            self.own_event(kind, words)
         else:
-            words.fail(f"no event {kind}", 1)
+            word = next((word for word, kinds in OWN.items() if kind in kinds), None)
+            words.fail(f"{kind} stands in a script of {word} alone" if word else f"no event {kind}", 1)
         words.end()
 
+    def own_event(self, kind, words):
+        """The events of scripts that aren't for `replay`."""
+        self.node(words)
+        if kind == "crash":
+            words.number("the count of the disk's calls", U64)
+            words.one_of("what is left", ["old", "new", "torn"])
+        elif kind == "ask":
+            prefix(words, "the prefix")
+            self.node(words, "the peer")
 
-def faults_of(octets):
-    """The faults of a script, each with its line, its word (0 for the whole line) and the reason."""
+
+def faults_of(octets, word="replay"):
+    """The faults of a script of this word of the program, each with its line, its word (0 for the whole line) and the reason."""
     lines = octets.split(b"\n")
     if lines[-1] == b"":
         lines.pop()
-    out, script = [], Script()
+    out, script = [], Script(word)
     for at, line in enumerate(lines, 1):
         try:
             if any(not 0x20 <= byte <= 0x7e for byte in line):
@@ -323,12 +347,12 @@ def faults_of(octets):
     return out
 
 
-def check(octets, name, tell, places=None):
+def check(octets, name, tell, places=None, word="replay"):
     """Tells each fault; whether there is none. `places` has the line at which each line of the script stands, where that is another one."""
     if len(octets) > MOST_BYTES:
         tell(f"{name}: more than {MOST_BYTES:,} bytes")
         return False
-    faults = faults_of(octets)
+    faults = faults_of(octets, word)
     if octets.count(b"\n") + (not octets.endswith(b"\n")) > MOST_LINES:
         faults.append((MOST_LINES + 1, 0, f"a script has at most {MOST_LINES:,} lines"))
     for line, word, why in faults:

@@ -399,7 +399,8 @@ class Pictures(unittest.TestCase):
         self.assertIn(">a &lt;b&gt; &amp; c</text>", chart.chart(written_out(LAST_LOOP), None, "a <b> & c"))
 
     def test_picture_in_docs(self):
-        drawn = chart.chart(written_out(AGREEMENT), None, "examples/agreement.script")
+        script = (HERE.parent / "examples" / "agreement.script").read_bytes()
+        drawn = chart.chart(written_out(AGREEMENT), script, "examples/agreement.script")
         self.assertEqual((HERE.parent / "docs" / "agreement.svg").read_text(), drawn)
 
     def test_agreement_is_the_example(self):

@@ -15,7 +15,7 @@ sys.dont_write_bytecode = True
 sys.path.insert(0, str(HERE))
 from cbor_notation import BadNotation, item_of, notation_of  # noqa: E402
 from readable import filtered, readable_line  # noqa: E402
-from script_check import faults_of  # noqa: E402
+from script_check import WORDS, faults_of  # noqa: E402
 
 TOP = HERE.parent
 DRAWN = 10_000
@@ -41,6 +41,9 @@ LINES = [
     ("flood 12345678 c0000201 12345678 obj 'f 5 4 x1818 none", 'flood 12345678 192.0.2.1 12345678 obj "f" 5 4 24 none'),
     ("want 2 56 64 1 = busy 56 64", "want 2 56 64 1 = busy 56 64"),
     ("api 1 0 asa 'prefix%20\"agent%c3%bc", 'api 1 0 asa "prefix \\"agentü"'),
+    ("2026-11-30T07:10:29.828Z fd000000000000000000000000000001 sent message 1 negotiate 7 obj 'f 3 5 x811838",
+     '2026-11-30T07:10:29.828Z fd00::1 sent message 1 negotiate 7 obj "f" 3 5 [56]'),
+    ("2026-11-30T07:10:29.828Z taker received opening 1 7f000002", "2026-11-30T07:10:29.828Z taker received opening 1 127.0.0.2"),
     ("invalid 7 -", "invalid 7 -"), ("invalid 7 x20", "invalid 7 -1"),
     ("", "|"), ("# a", "|# a"), ("|", "||"), ("a  b", "|a  b"), ("state 1 ", "|state 1 "), ("asa 'a%41", "asa 'a%41"), ("x \"y", "|x \"y"),
 ]
@@ -133,6 +136,13 @@ class Lines(unittest.TestCase):
             self.assertNotIn(b"\n|", text, path)
             self.assertIsNone(re.search(rb"(?m)(?:^| )x[0-9a-f]+(?: |$)", text), path)
 
+    def test_readable_examples(self):
+        """Beside each script of examples/ stands its readable form, with a comment at its head."""
+        for path in sorted((TOP / "examples").glob("*.script")):
+            text = path.with_suffix(".readable").read_bytes()
+            self.assertEqual(filtered(text, True), path.read_bytes(), path)
+            self.assertTrue(text.startswith(b"# "), path)
+
     def test_rows(self):
         for name in ["grasp_tests_replay", "grasp_tests_node"]:
             octets = (TOP / "crates" / name / "stdin").read_bytes()
@@ -160,24 +170,34 @@ class Scripts(unittest.TestCase):
         for script, wanted in FAULTS:
             self.assertEqual([fault[:2] for fault in faults_of(script.encode())], wanted, script)
 
+    def test_words_of_their_own(self):
+        """The events of `keep` and of `resolve` are faults in other scripts."""
+        head = "nodes 2\nstart\n"
+        crash = "crash 1 3 torn\ncrash 3 0 old\ncrash 1 x new\ncrash 1 1\nhold crash 1 1 old\n"
+        doubts = f"doubter 2\nask 1 {'0' * 32}/1 2\nask 1 1 1\napi 1 2 unasa\n"
+        for word, lines, wanted in [("keep", crash, [(4, 2), (5, 3), (6, 4), (7, 2)]), ("resolve", doubts, [(5, 3), (6, 3)]),
+                                    ("replay", crash, [(3, 1), (4, 1), (5, 1), (6, 1), (7, 2)]), ("keep", doubts, [(3, 1), (4, 1), (5, 1)])]:
+            self.assertEqual([fault[:2] for fault in faults_of((head + lines).encode(), word)], wanted, (word, lines))
+
     def test_rows(self):
         """Of each row that runs a script the program's answer names the first line that is told here, and none where it ran."""
-        rows = replay_rows()
-        self.assertGreater(len(rows), 30)
-        for name, script, line in rows:
-            faults = faults_of(script)
-            self.assertEqual(faults[0][0] if faults else None, line, name)
+        for word in WORDS:
+            rows = script_rows(word)
+            self.assertGreater(len(rows), {"replay": 30, "keep": 90}.get(word, -1))
+            for name, script, line in rows:
+                faults = faults_of(script, word)
+                self.assertEqual(faults[0][0] if faults else None, line, name)
 
 
-def replay_rows():
-    """The rows of scripts that were run or found bad: name, script, and the line that is told bad or None."""
+def script_rows(word):
+    """The rows of scripts of this word that were run or found bad: name, script, and the line that is told bad or None."""
     out = []
     text = (TOP / "crates" / "grasp_tests_replay" / "stdin").read_text()
     for part in re.split("(?m)^row ", text)[1:]:
         head, *lines = part.split("\n")
         fault = [line[len("fault "):] for line in lines if line.startswith("fault ")]
         bad = re.fullmatch("bad script in line ([0-9]+)", fault[0]) if fault else None
-        if head.split(" ")[1:] == ["replay"] and (bad or not fault):
+        if head.split(" ")[1:] == [word] and (bad or not fault):
             out.append((head, b"".join(script_part(line) for line in lines), int(bad.group(1)) if bad else None))
     return out
 
@@ -196,7 +216,7 @@ def script_part(line):
         return int(count) * bytes.fromhex(digits)
     if word == "=":
         event = rest.partition(" = ")[0].split(" ")
-        agent = event.index("agent") if event[0] == "agent" or event[:2] == ["hold", "agent"] else None
+        agent = next((at for at, kind in enumerate(event[:2]) if kind in ("agent", "doubter") and event[:at] in ([], ["hold"])), None)
         return " ".join(event if agent is None else event[:agent + 2]).encode() + b"\n"
     return b""
 
@@ -209,6 +229,9 @@ class Words(unittest.TestCase):
         self.assertEqual(self.run_it(["--help"], b"").returncode, 0)
         self.assertEqual(self.run_it(["--nothing"], b"").returncode, 2)
         self.assertEqual(self.run_it(["--check"], b"nodes 1\nstart\n").returncode, 0)
+        self.assertEqual(self.run_it(["--check", "--as", "keep"], b"nodes 1\nstart\ncrash 1 0 old\n").returncode, 0)
+        self.assertEqual(self.run_it(["--check", "--as", "show"], b"").returncode, 2)
+        self.assertEqual(self.run_it(["--check", "--keep"], b"").returncode, 2)
         bad = self.run_it(["--check", "--back"], b"# first\nnodes 1\n\nstart\nstate 2\n")
         self.assertEqual((bad.returncode, bad.stdout), (1, b"standard input:5: word 2: the node is from 1 to 1\n"))
         bad = self.run_it(["--back"], b"ok\nstep 1 [1\n")

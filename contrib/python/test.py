@@ -32,9 +32,11 @@ guests = "{own}.guests"
 forget = true
 retry = 100
 tick = 100
-visitors = 8
+streams = 64
+visitors = 20
 log = "quiet"
 """
+MANY = 16
 checks = failed = 0
 
 
@@ -53,7 +55,7 @@ def refused(call, *words):
         return str(error)
 
 
-def until(condition, seconds=10):
+def until(condition, seconds=30):
     end = time.monotonic() + seconds
     while not condition() and time.monotonic() < end:
         time.sleep(0.02)
@@ -180,6 +182,72 @@ def try_agent(asker_node, answerer_node):
         check("its crash ends it", asker.request_negotiate(bandwidth._replace(value=1), peer, 2000)[1].kind != "turn")
 
 
+def answer_one(node, ready, number, count):
+    """An agent that accepts what it is asked for, so many times. It listens before anybody asks."""
+    objective = grasp.Objective(f"number{number}", neg=True)
+    with grasp.Agent(node.guests) as agent:
+        agent.register_asa(f"answerer{number}")
+        agent.register_objective(objective)
+        check("nobody asks yet", agent.listen_negotiate(objective, 0) is None)
+        ready.wait(60)
+        for _ in range(count):
+            session, asked = agent.listen_negotiate(objective)
+            check("what is asked of one of many", asked.value == number)
+            agent.end_negotiate(session, True)
+
+
+def ask_one(node, ready, peer, number, count, ends):
+    objective = grasp.Objective(f"number{number}", neg=True, value=number)
+    with grasp.Agent(node.guests) as agent:
+        agent.register_asa(f"asker{number}")
+        agent.register_objective(objective)
+        ready.wait(60)
+        check("one of many is found", until(lambda: agent.discover(objective, 500)))
+        for _ in range(count):
+            ends.append(agent.request_negotiate(objective, peer)[1].kind)
+
+
+def try_many(asker_node, answerer_node, count=20):
+    """As many agents at once at each of two nodes, each pair of which negotiates."""
+    peer, ends, ready = GIVER if answerer_node.file == "1.toml" else TAKER, [], threading.Barrier(2 * MANY)
+    calls = [threading.Thread(target=answer_one, args=(answerer_node, ready, number, count)) for number in range(MANY)]
+    calls += [threading.Thread(target=ask_one, args=(asker_node, ready, peer, number, count, ends)) for number in range(MANY)]
+    begin = time.monotonic()
+    for call in calls:
+        call.start()
+    for call in calls:
+        call.join(60)
+    check("all agents are done", not any(call.is_alive() for call in calls))
+    check("all are agreed", ends == ["agreed"] * (MANY * count))
+    print(f"{MANY * count} negotiations of {MANY} pairs of agents at once: {time.monotonic() - begin:.2f} s")
+
+
+def try_deaf(node):
+    """A visitor that asks for events and reads none of them is sent away, and holds up nobody."""
+    deaf = socket.socket(socket.AF_UNIX)
+    deaf.connect(node.control)
+    deaf.sendall(b"events\n")
+    most, seen = 0, b""
+    with grasp.Agent(node.control) as agent:
+        for _ in range(400):
+            agent.socket.sendall(b"asa 'x\nunasa\n" * 100)
+            for _ in range(200):
+                agent._line()
+            begin = time.monotonic()
+            agent.ask("state")
+            most = max(most, time.monotonic() - begin)
+    deaf.settimeout(10)
+    try:
+        while piece := deaf.recv(1 << 20):
+            seen = piece
+    except ConnectionResetError:
+        pass
+    except TimeoutError:
+        check("who reads no events is sent away", False)
+    check("it was told some before", seen)
+    check("and holds up nobody", most < 1)
+
+
 def try_strangers(node):
     """Visitors that don't read, write endless lines, or are too many."""
     slow, endless = socket.socket(socket.AF_UNIX), socket.socket(socket.AF_UNIX)
@@ -198,7 +266,7 @@ def try_strangers(node):
         check("an endless line is sent away", False)
     except (BrokenPipeError, ConnectionResetError):
         pass
-    many = [socket.socket(socket.AF_UNIX) for _ in range(20)]
+    many = [socket.socket(socket.AF_UNIX) for _ in range(32)]
     for visitor in many:
         visitor.connect(node.control)
         visitor.settimeout(0.3)
@@ -210,7 +278,7 @@ def try_strangers(node):
         except OSError:
             pass
         visitor.close()
-    check("eight visitors at once", here == 8)
+    check("twenty visitors at once", here == 20)
     check("then there is room again", until(node.answers))
     with grasp.Agent(node.control) as agent:
         agent.socket.sendall(b"\xff\x00\n")
@@ -225,13 +293,19 @@ def main():
         try_calls(giver, taker)
         try_agent(taker, giver)
         before = giver.memory()
+        try_many(taker, giver)
+        try_many(giver, taker)
+        try_deaf(giver)
         try_strangers(giver)
         check("memory", giver.memory() < before + 8192)
         taker.end(signal.SIGKILL)
+        giver.end(signal.SIGKILL)
         check("a socket is left behind", os.path.exists(taker.control))
         taker.start()
         with grasp.Agent(taker.control) as agent:
-            check("the want is held anew", until(lambda: agent.state()["held"]))
+            check("a want of a giver that is gone is tried again", until(lambda: int(agent.ask("wants")[8]) > 3))
+            giver.start()
+            check("the want is held when it has come again", until(lambda: agent.state()["held"]))
             log = pathlib.Path("events")
             hook = subprocess.Popen([HERE / "on_event.py", taker.control, "sh", "-c", 'echo "$@" >> events', "sh"])
             check("the hook hears", until(lambda: agent.want(64, 64, GIVER) and log.exists() and " held " in log.read_text()))
