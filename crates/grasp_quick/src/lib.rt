@@ -1,10 +1,12 @@
-//! Lines straight from the bytes of messages, for what most senders write. Whatever is unusual is left to the readers of messages.
+//! Lines straight from the bytes of messages, and bytes straight from lines, for what most senders write. Whatever is unusual is left
+//! to the readers of messages.
 #![tactic(auto)]
 
 mod first;
 mod kinds;
 mod line;
 mod locators;
+mod packed;
 mod parts;
 mod places;
 mod room;
@@ -12,4 +14,5 @@ mod shown;
 
 pub use first::first_message;
 pub use line::{front_line, quick_line};
+pub use packed::{packed_line, quick_bytes};
 pub use room::Room;

@@ -1,10 +1,13 @@
 //! A room for the bytes of one line or message.
 
-ghost use Rattle.std.specs.Prelude.{◌≡◌, ◌≤◌, ℕ, List, [], ◌∷◌, ◌++◌, IfSome, decimal, take};
+ghost use Rattle.std.specs.Prelude.{◌≡◌, ◌≤◌, ℕ, List, [], ◌∷◌, ◌++◌, ◌+◌, ◌<◌, length, drop, IfSome, decimal, take};
 ghost use Rattle.hex.specs.Hex.{encode_lower};
 ghost use Rattle.grasp_text.specs.Line.{text_word, escaped, all_escaped};
 ghost use Rattle.grasp_text.specs.Words.{spaced};
+ghost use Rattle.grasp_cbor.specs.Head.{shortest_head};
+ghost use Rattle.grasp_quick.specs.Packed.{Unhexes};
 
+use grasp_text::front_bytes;
 use itoa::Buffer;
 use std::marker::Model;
 
@@ -132,5 +135,67 @@ impl Room {
                 DIGITS[(byte % 16) as usize],
             ])
         }
+    }
+
+    /// How many bytes there are.
+    #[inline(always)]
+    pub(crate) fn len(&self) -> usize
+        ensures { result ≡ length self.now }
+    {
+        self.len
+    }
+
+    /// Appends the shortest head of a major type and an argument of 32 bits.
+    #[inline(always)]
+    #[tactic(auto, unfolding(grasp_cbor::specs::Head::shortest_head, grasp_cbor::specs::Head::shortest_size))]
+    pub(crate) fn put_head(&mut self, major: u8, n: u64) -> Option<()>
+        requires { major < 8 }
+        ensures { IfSome result (λ _. self.new ≡ self.old ++ shortest_head major n) }
+    {
+        let first = 32 * major;
+        if n < 24 {
+            self.put(&[first + n as u8])
+        } else if n < 0x100 {
+            self.put(&[first + 24, n as u8])
+        } else if n < 0x1_0000 {
+            let [a, b] = (n as u16).to_be_bytes();
+            self.put(&[first + 25, a, b])
+        } else if n < 0x1_0000_0000 {
+            let [a, b, c, d] = (n as u32).to_be_bytes();
+            self.put(&[first + 26, a, b, c, d])
+        } else {
+            None
+        }
+    }
+
+    /// Appends a string of this major type.
+    #[inline(always)]
+    pub(crate) fn put_string(&mut self, major: u8, content: &[u8]) -> Option<()>
+        requires { major < 8 }
+        ensures { IfSome result (λ _. self.new ≡ self.old ++ (shortest_head major (length content.now) ++ content.now)) }
+    {
+        self.put_head(major, content.len() as u64)?;
+        self.put(content)
+    }
+
+    /// Puts the head of an array of so many parts in place of the byte at this place.
+    #[inline(always)]
+    pub(crate) fn set_array_head(&mut self, at: usize, count: u8) -> Option<()>
+        ensures { IfSome result (λ _. self.new ≡ take at self.old ++ (shortest_head 4 count ++ drop (at + 1) self.old)) }
+    {
+        if count >= 24 || at >= self.len {
+            return None;
+        }
+        self.bytes[at] = 128 + count;
+        Some(())
+    }
+
+    /// Appends the bytes of the lower-case hexadecimal digits at the front, and tells how many.
+    pub(crate) fn put_front_bytes(&mut self, digits: &[u8]) -> usize
+        ensures { Unhexes digits.now result self.old self.new }
+    {
+        let count = front_bytes(digits, &mut self.bytes[self.len..]);
+        self.len += count;
+        count
     }
 }

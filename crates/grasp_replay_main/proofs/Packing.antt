@@ -17,6 +17,7 @@ use Rattle.grasp_text.specs.Line.{line_of, IsLineOf}
 use Rattle.grasp_text.specs.Reading.{Parsed}
 use Rattle.grasp_text.specs.Words.{words_of}
 use Rattle.grasp_text.proofs.Lines.{line_only, line_none, line_place}
+use Rattle.grasp_quick.specs.Packed.{IsPackedLine}
 use Rattle.grasp_script.specs.Scripts.{text_lines}
 use Rattle.grasp_script.proofs.Splitting.{no_line}
 use Rattle.grasp_wire.specs.Laws.{encoded}
@@ -190,6 +191,10 @@ next_packed : (limit : ℕ) (input rest text others output old bytes piece : Lis
 next_packed limit input rest text others output old bytes piece count h lines none p same =
     let encoding : piece ≡ shortest (item_of p.message) = same ∙ p.appended ∙ ap (λ o. o ++ shortest (item_of p.message)) none in
     more_packed limit input rest text others output (output ++ piece) count h lines (record { message = p.message; is_line = p.is_line; sendable = p.sendable; appended = ap (λ b. output ++ b) encoding })
+
+-- a line that was packed straight
+pub quick_packed : (limit : ℕ) (text bytes : List ℕ) → IsPackedLine limit text bytes → IsPacked limit text [] bytes
+quick_packed limit text bytes h = record { message = h.message; is_line = h.is_line; sendable = (h.is_line.whole, h.fits); appended = h.packed }
 
 pub more_packing : (limit : ℕ) (input rest text others : List ℕ) (start now later : Option (List ℕ)) (held more old bytes piece : List ℕ) (count : ℕ) → IsPacking limit input rest start now held count
     → text_lines rest ≡ text ∷ text_lines others → old ≡ [] → IsPacked limit text old bytes → piece ≡ bytes → Passes now later more (held ++ piece)

@@ -14,6 +14,7 @@ use crate::lines::split_line;
 use crate::unfinished::Unfinished;
 use grasp_cbor::OutOfMemory;
 use grasp_io::{Sink, WriteBuffer};
+use grasp_quick::{Room, packed_line};
 use grasp_text::{TextFault, message_of};
 use grasp_types::Message;
 use grasp_wire::{EncodeFault, encode};
@@ -34,18 +35,23 @@ pub fn pack<K: Sink>(
 {
     let mut buffer = WriteBuffer::new();
     let mut bytes = Vec::new(alloc);
+    let mut room = Room::new();
     let mut rest = input;
     let mut line = 0;
     while !rest.is_empty() {
         let (text, after) = split_line(rest);
         line += 1;
+        rest = after;
+        if let Some(()) = packed_line(text, limit, &mut room) {
+            buffer.put(sink, room.bytes())?;
+            continue;
+        }
         bytes.clear();
         if let Some(finding) = pack_line(alloc, &mut bytes, text, line, limit)? {
             buffer.flush(sink)?;
             return Ok(Status::Finding(finding));
         }
         buffer.put(sink, &bytes)?;
-        rest = after;
     }
     buffer.flush(sink)?;
     Ok(Status::Ok)

@@ -1,0 +1,7 @@
+use Rattle.grasp_quick.proofs.Spelled.{found_is}
+use Rattle.grasp_quick.proofs.PackedLines.{synch_packs}
+use Rattle.grasp_quick.proofs.packed.kinds.pack_synch.Goals as goal
+
+pub returns : goal.returns
+returns c = found_is _ _ c.pack_told.result c.pack_told.ensures (λ rest h.
+    synch_packs c.args.line.now c.in_ok-rest.rest.now rest.now c.args.bytes.now c.pack_told.new.bytes c.in_ok-rest.ensures h)
