@@ -1,5 +1,5 @@
 #!/usr/bin/env python3
-"""Draws what `grasp_replay replay` wrote as a message sequence chart: SVG on standard output.
+"""Draws what `grasp_replay replay`, `resolve` or `keep` wrote as a message sequence chart: SVG on standard output.
 
 usage: chart.py [--script SCRIPT] [--title TITLE] [--lines A-B] [--nodes A,B..] [--all] [REPORTS]
        chart.py [--title TITLE] [--lines A-B] [--nodes A,B..] [TRACE..]
@@ -78,7 +78,7 @@ def marks_of(network, reports):
 
 def mark_of(network, report):
     """Carries a report out, and answers what is drawn for it."""
-    if report.kind in ("api", "agent"):
+    if report.asa or report.kind == "api":
         mark = call_mark(network, report)
     elif report.kind == "datagram":
         mark = datagram_mark(network, report)
@@ -95,7 +95,7 @@ def mark_of(network, report):
 
 def call_mark(network, report):
     network.call(report)
-    front = f"asa {report.asa}: " if report.kind == "api" and report.asa else ""
+    front = f"asa {report.asa}: " if report.kind == "api" and report.asa else "doubter: " if report.kind == "doubter" else ""
     words = " ".join(short(word) for word in report.words)
     answer = " ".join(short(word) for word in report.answer)
     return Mark(report, "call", report.node, 0, wrapped(front + words) + wrapped(f"= {answer}"),
@@ -169,6 +169,13 @@ def node_mark(network, report):
     if report.kind == "return":
         prefix, peer = report.words[1:]
         return Mark(report, "return", report.node, 0, wrapped(f"return {short(prefix)} to {peer} = {answer}"))
+    if report.kind == "ask":
+        prefix, peer = report.words[1:]
+        return Mark(report, "ask", report.node, 0, wrapped(f"ask {peer} about {short(prefix)} = {answer}"))
+    if report.kind == "crash":
+        network.restart(report.node)
+        calls, left = report.words[1:]
+        return Mark(report, "crash", report.node, 0, wrapped(f"crash behind {calls} calls of the disk, {left} = {answer}"))
     return Mark(report, "state", report.node, 0, wrapped(f"state: {answer}"))
 
 
@@ -263,7 +270,7 @@ SIDE = 44           # where readings, and what has no lifeline, stand at the lef
 STYLE = """text{font:11px monospace;fill:#1a1a1a;paint-order:stroke;stroke:#fff;stroke-width:2px}
 .head{font-weight:bold;font-size:13px}.title{font:bold 16px sans-serif}
 .number,.faint text,.under{fill:#707070}.life{stroke:#9a9a9a}.box{fill:#fff;stroke:#5a5a5a}.faint .box{stroke:#b0b0b0}
-.state .box,.want .box,.return .box{fill:#eef4ea}.call .box{fill:#f2f5fb}.drain .box{fill:#f6f6f6}
+.state .box,.want .box,.return .box,.ask .box{fill:#eef4ea}.crash .box{fill:#fbeaea;stroke:#b00020}.call .box{fill:#f2f5fb}.drain .box{fill:#f6f6f6}
 .shaft{stroke:#1a1a1a;stroke-width:1.3;fill:none}.datagram .shaft,.datagram .tip{stroke:#8a4b00}.datagram .tip{fill:#8a4b00}
 .arrival .shaft{stroke-dasharray:6 4}.bytes .shaft,.bytes .tip{stroke:#0b4f9c}.bytes .tip{fill:#0b4f9c}
 .faint .shaft{stroke-dasharray:2 3}.cross{stroke:#b00020;stroke-width:2.5}.tick{stroke:#9a9a9a;stroke-dasharray:1 4}"""
@@ -448,6 +455,8 @@ def chart(octets, script=None, title=None, choice=None):
     choice = choice or Choice()
     count, links, reports = read_all(octets, script)
     network = Network(count, links)
+    if any(report.kind in ("doubter", "ask") for report in reports):
+        network.add_doubters()
     marks = chosen_marks(marks_of(network, reports), choice.lines, choice.nodes)
     nodes = drawn_nodes(count, marks, choice)
     over = left_over(network) if choice.lines is None and choice.nodes is None else []

@@ -1,4 +1,4 @@
-"""The report lines of `grasp_replay replay`, and what they tell of the network that they speak of.
+"""The report lines of `grasp_replay replay`, `resolve` and `keep`, and what they tell of the network that they speak of.
 
 `read_all` reads lines. `Network` follows them: `call` and the two `hear_` calls queue what a node sends, and `drain` sends it.
 What the reports don't tell is reckoned by the rules of a node; chart.py says which.
@@ -58,6 +58,8 @@ EVENTS = {
     "clock": (f"{NODE} {NUMBER}", NUMBER),
     "want": (f"{NODE} {BYTE} {BYTE} {NODE}", f"ok|busy {BYTE} {BYTE}|full"),
     "return": (f"{NODE} {PREFIX} {NODE}", f"ok|busy {PREFIX}|notfree|full"),
+    "ask": (f"{NODE} {PREFIX} {NODE}", f"ok|busy {PREFIX}|notdoubtful|notgiven"),
+    "crash": (f"{NODE} {NUMBER} (?:old|new|torn)", f"restarted held{PREFIXES} doubt{PREFIXES}"),
     "datagram": (NUMBER, "taken|nothing"),
     "arrive": (NUMBER, "taken|turned|nothing"),
     "bytes": (f"{NUMBER} (?:near|far) {NUMBER}", "taken|nothing"),
@@ -68,6 +70,9 @@ EVENTS = {
 HELD = ("agent", "api", "datagram", "arrive", "bytes", "cut")
 NODE_ADDRESS = re.compile("fd0{28}([0-9a-f]{2})")
 MANAGER = "'PrefixManager"
+DOUBT = "'PrefixDoubt"
+# The events that are an agent's next call, and whose: the agent of prefixes is agent 1, a doubter agent 2.
+NEXT_CALLS = {"agent": 1, "doubter": 2}
 
 
 class Refused(Exception):
@@ -117,7 +122,7 @@ def read_report(at, text):
     split = words.index("=")
     event, answer = words[int(hold):split], words[split + 1:]
     kind = event[0] if event else ""
-    if kind not in EVENTS and kind not in ("api", "agent") or hold and kind not in HELD:
+    if kind not in EVENTS and kind != "api" and kind not in NEXT_CALLS or hold and kind not in HELD:
         raise Refused(f"unknown event in line {at}")
     if any(word.isdigit() and int(word) >= 2 ** 64 for word in words):
         raise Refused(f"too large a number in line {at}")
@@ -127,13 +132,13 @@ def read_report(at, text):
         rest = event[1:]
         if not re.fullmatch(form, " ".join(rest)):
             raise Refused(f"bad event in line {at}")
-        if kind in ("clock", "want", "return", "drain", "state"):
+        if kind in ("clock", "want", "return", "ask", "crash", "drain", "state"):
             node = int(rest[0])
     else:
         front = 3 if kind == "api" else 2
         if not re.fullmatch(f"{NODE} {NUMBER}" if kind == "api" else NODE, " ".join(event[1:front])):
             raise Refused(f"bad event in line {at}")
-        node, asa, rest = int(event[1]), int(event[2]) if kind == "api" else 1, event[front:]
+        node, asa, rest = int(event[1]), int(event[2]) if kind == "api" else NEXT_CALLS[kind], event[front:]
         if not rest or rest[0] not in CALLS:
             raise Refused(f"unknown call in line {at}")
         form, answers = CALLS[rest[0]]
@@ -148,7 +153,7 @@ def read_report(at, text):
 def named_nodes(report):
     """The numbers of the nodes that a report names."""
     named = [report.node]
-    if report.kind in ("want", "return") or report.kind in ("api", "agent") and report.words[0] in ("request", "synchronize", "expire"):
+    if report.kind in ("want", "return", "ask") or report.asa and report.words[0] in ("request", "synchronize", "expire"):
         named.append(int(report.words[-1]))
     for word in report.answer:
         found = NODE_ADDRESS.fullmatch(word)
@@ -334,6 +339,16 @@ class Network:
         self.datagrams = []
         self.streams = []
         self.tokens = 0
+
+    def add_doubters(self):
+        """Each node has a doubter, which has registered its objective and listens for it."""
+        for node in self.nodes.values():
+            node.objectives[DOUBT] = (2, 2)
+            node.listening.add(DOUBT)
+
+    def restart(self, number):
+        """The node begins anew: it has no session and no memory, and what it had queued isn't sent."""
+        self.nodes[number] = Node(number)
 
     # -- Queues.
 

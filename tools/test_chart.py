@@ -410,8 +410,7 @@ class Pictures(unittest.TestCase):
     def test_examples(self):
         """Each example is drawn with its script's header, line by line, and no arrow or delivery is left untold."""
         scripts = sorted((HERE.parent / "examples").glob("*.script"))
-        scripts.remove(HERE.parent / "examples" / "doubt_resolved.script")     # its lines of doubters aren't drawn
-        self.assertEqual(len(scripts), 8)
+        self.assertEqual(len(scripts), 9)
         for script in scripts:
             head, lines = script.read_text().split("start\n")
             reports = script.with_suffix(".reports").read_bytes()
@@ -421,6 +420,25 @@ class Pictures(unittest.TestCase):
                 self.assertTrue(title.startswith(line + " "), title)
             picture = chart.chart(reports, head.encode() + b"start\n")
             self.assertNotIn('class="untold', picture)
+
+    def test_doubters(self):
+        """A doubter's calls send as those of other agents do, and a question stands at the node that asks."""
+        reports = (HERE.parent / "examples" / "doubt_resolved.reports").read_text()
+        front = reports[:reports.index("ask 1 ")]
+        found = [group for group in groups_of(reports) if int(group.get("data-line")) > len(front.splitlines())]
+        self.assertEqual([(group.get("data-from"), group.get("data-to")) for group in found if group.get("data-from")],
+                         [("1", "2"), ("1", "2"), ("2", "1")])
+        self.assertEqual((found[0].get("class"), found[0].get("data-node"), found[0].get("data-words")), ("ask", "1", "ask 2 about 20010db8../56 = ok"))
+        self.assertIn("doubter: accept 2 | = done | sends on stream 2", [group.get("data-words") for group in found])
+
+    def test_crashes(self):
+        """A node that begins anew has forgotten its sessions, so it sends nothing on the streams that it had."""
+        front = POOLS + LOST_ACCEPTANCE[len(POOLS):].split("agent 1 step")[0]
+        crash = "crash 1 0 old = restarted held 20010db8000000000000000000000000/48 doubt\n"
+        step = "agent 1 step 1 x8218385020010db8000000000000000000000000 = done\n"
+        self.assertEqual(groups_of(front + step)[-1].get("data-words").split(" | ")[-1], "sends on stream 1")
+        self.assertNotIn("sends", groups_of(front + crash + step)[-1].get("data-words"))
+        self.assertEqual(of_kind(front + crash, "crash")[0].get("data-words"), "crash behind 0 calls of the disk, old = | restarted held 20010db8../48 doubt")
 
     def test_lines_of_the_script(self):
         """Where the script is known, a row has the number of its line there."""
@@ -646,6 +664,9 @@ class Refusals(unittest.TestCase):
         self.refuses(front + b"arrive 01 = taken\n", "bad event in line 6")
         self.refuses(front + b"arrives 1 = taken\n", "unknown event in line 6")
         self.refuses(front + b"hold clock 1 7 = 7\n", "unknown event in line 6")
+        self.refuses(front + b"hold doubter 1 listen 'PrefixDoubt = notyet\n", "unknown event in line 6")
+        self.refuses(front + b"crash 1 0 lost = restarted held doubt\n", "bad event in line 6")
+        self.refuses(front + b"ask 1 20010db8000000000000000000000000/56 2 = no\n", "bad answer in line 6")
         self.refuses(front + b"api 1 2 steps 1 x02 = done\n", "unknown call in line 6")
         self.refuses(front + b"api 1 2 step 1 x2 = done\n", "bad event in line 6")
         self.refuses(front + b"api 1 2 step 1 x02 = refused 13 LoopsSpent\n", "bad answer in line 6")

@@ -12,7 +12,7 @@ use Rattle.grasp_replay_main.specs.declared.exit.Finding.{Finding}
 use Rattle.grasp_replay_main.specs.declared.exit.Status.{Status}
 use Rattle.grasp_replay_main.specs.declared.exit.Status.TheVariants as status
 use Rattle.grasp_replay_main.specs.declared.task.Task.{Task}
-use Rattle.grasp_replay_main.specs.declared.task.Task.TheVariants.{Show, Pack, Replay, Keep, Gen, Draw}
+use Rattle.grasp_replay_main.specs.declared.task.Task.TheVariants.{Show, Pack, Replay, Keep, Resolve, Gen, Draw}
 use Rattle.grasp_replay_main.proofs.Tasks.{no_bad_input, stops_too_far, whole_runs}
 
 -- ---- inputs
@@ -33,6 +33,7 @@ large_by_bytes Show input reads more = inl more
 large_by_bytes Pack input reads more = inl more
 large_by_bytes Replay input reads more = inl more
 large_by_bytes Keep input reads more = inl more
+large_by_bytes Resolve input reads more = inl more
 large_by_bytes (Gen number) input reads more = absurd reads
 large_by_bytes (Draw number) input reads more = absurd reads
 
@@ -51,6 +52,7 @@ known_left Show left P reads x = x
 known_left Pack left P reads x = x
 known_left Replay left P reads x = x
 known_left Keep left P reads x = x
+known_left Resolve left P reads x = x
 known_left (Gen number) left P reads x = absurd reads
 known_left (Draw number) left P reads x = absurd reads
 
@@ -109,6 +111,7 @@ cut_off Show limit left before after t = cut_as_read Show limit left before afte
 cut_off Pack limit left before after t = cut_as_read Pack limit left before after tt t
 cut_off Replay limit left before after t = cut_as_read Replay limit left before after tt t
 cut_off Keep limit left before after t = cut_as_read Keep limit left before after tt t
+cut_off Resolve limit left before after t = cut_as_read Resolve limit left before after tt t
 cut_off (Gen number) limit left before after t =
     record { input = []; told = refl; holds = record { small = t.small; output = t.output; makes = t.makes } }
 cut_off (Draw number) limit left before after t =

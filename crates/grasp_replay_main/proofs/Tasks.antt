@@ -17,8 +17,12 @@ use Rattle.grasp_script.proofs.ScriptLaws.{one_script, no_bad_line}
 use Rattle.grasp_model_script.specs.Laws.{TextsAgree, RunsOrStops}
 use Rattle.grasp_model_script.specs.ScriptRuns.{Replays}
 use Rattle.grasp_model_script.specs.Stops.{IsStoppedText, SendsTooMuch, TextSendsTooMuch}
+use Rattle.grasp_model_script_doubts.specs.ScriptRuns.{DoubtsSendTooMuch, ResolvesTooMuch}
+use Rattle.grasp_model_script_doubts.proofs.OneRun.{doubt_runs_or_stop, doubt_texts_agree}
 use Rattle.grasp_model_script_kept.specs.ScriptRuns.{KeepsReporting, KeepsTooMuch, KeptSendsTooMuch, StopsKeeping}
 use Rattle.grasp_model_script_kept.proofs.OneRun.{kept_runs_or_stop, kept_texts_agree}
+use Rattle.grasp_script_doubts.specs.declared.line.DoubtLine.{DoubtLine}
+use Rattle.grasp_script_doubts.proofs.ScriptLaws.{one_script as one_doubt_script}
 use Rattle.grasp_script_kept.specs.declared.line.KeptLine.{KeptLine}
 use Rattle.grasp_script_kept.proofs.ScriptLaws.{one_script as one_kept_script}
 use Rattle.grasp_wire.specs.Laws.{encoded}
@@ -32,16 +36,16 @@ use Rattle.grasp_replay_main.specs.Laws.{AreLines, IsWholeInput, TasksAreFunctio
 use Rattle.grasp_replay_main.specs.Pack.{CanPack, IsRefused, StopsAt, Packs}
 use Rattle.grasp_replay_main.specs.Ending.{status_of}
 use Rattle.grasp_replay_main.specs.Gen.{Summarizes, Overruns}
-use Rattle.grasp_replay_main.specs.Replay.{Stops, IsShortKeptScript, IsShortScript}
+use Rattle.grasp_replay_main.specs.Replay.{Settles, Stops, StopsSettling, IsShortDoubtScript, IsShortKeptScript, IsShortScript}
 use Rattle.grasp_replay_main.specs.Show.{Shows, shown, rest_finding}
-use Rattle.grasp_replay_main.specs.Task.{ShowMakes, PackMakes, ReplayMakes, KeepMakes, GenMakes, DrawMakes, Makes, RunsTooFar, IsBadScript}
+use Rattle.grasp_replay_main.specs.Task.{ShowMakes, PackMakes, ReplayMakes, KeepMakes, ResolveMakes, GenMakes, DrawMakes, Makes, RunsTooFar, IsBadScript}
 use Rattle.grasp_replay_main.specs.Written.{Writes}
 use Rattle.grasp_replay_main.specs.declared.exit.Finding.{Finding}
 use Rattle.grasp_replay_main.specs.declared.exit.Finding.TheVariants.{Cut, Truncated, BadText, TooLong}
 use Rattle.grasp_replay_main.specs.declared.exit.Status.{Status}
 use Rattle.grasp_replay_main.specs.declared.exit.Status.TheVariants as status
 use Rattle.grasp_replay_main.specs.declared.task.Task.{Task}
-use Rattle.grasp_replay_main.specs.declared.task.Task.TheVariants.{Show, Pack, Replay, Keep, Gen, Draw}
+use Rattle.grasp_replay_main.specs.declared.task.Task.TheVariants.{Show, Pack, Replay, Keep, Resolve, Gen, Draw}
 use Rattle.grasp_replay_main.specs.declared.unfinished.Unfinished.{Unfinished}
 
 -- a stream divides in one way
@@ -162,6 +166,11 @@ keep_end input output status.Ok x = inl (refl, x)
 keep_end input output status.TooLarge x = inr (refl, x)
 keep_end input output _ x = absurd x
 
+resolve_end : (input output : List ℕ) (s : Status) → ResolveMakes input output s → EndsOrStops (Settles input) (StopsSettling input) output s
+resolve_end input output status.Ok x = inl (refl, x)
+resolve_end input output status.TooLarge x = inr (refl, x)
+resolve_end input output _ x = absurd x
+
 -- what is written of a drawn script whose run is cut off: nothing
 abbrev NothingOf : ℕ → List ℕ → Type 0
 NothingOf number output = (output ≡ []) × Overruns number
@@ -185,6 +194,10 @@ too_much input output x = record { plan = x.plan; lines = x.lines; script = x.sc
 
 pub keeps_too_much : (input output : List ℕ) → StopsKeeping input output → KeepsTooMuch input
 keeps_too_much input output x = record { plan = x.plan; lines = x.lines; script = x.script; stops = x.stopped.stops }
+
+pub resolves_too_much : (input output : List ℕ) → StopsSettling input output → ResolvesTooMuch input
+resolves_too_much input output x =
+    record { plan = x.stops.plan; lines = x.stops.lines; script = x.stops.script; stops = x.stops.stopped.stops }
 
 stopped_one : TextsAgree → (input a b : List ℕ) → Stops input a → Stops input b → a ≡ b
 stopped_one k input a b x y =
@@ -219,6 +232,14 @@ keep_one input a b s t x y =
     ends_one (KeepsReporting input) (StopsKeeping input) a b s t (kept_texts_agree.texts input a b) (kept_texts_agree.stopped input a b)
     (λ ends stops. kept_runs_or_stop.texts input a ends (keeps_too_much input b stops)) (λ ends stops. kept_runs_or_stop.texts input b ends (keeps_too_much input a stops)) (keep_end input a s x) (keep_end input b t y)
 
+resolve_one : (input a b : List ℕ) (s t : Status) → ResolveMakes input a s → ResolveMakes input b t → (a ≡ b) × (s ≡ t)
+resolve_one input a b s t x y =
+    ends_one (Settles input) (StopsSettling input) a b s t (λ p q. doubt_texts_agree.texts input a b p.resolves q.resolves)
+    (λ p q. doubt_texts_agree.stopped input a b p.stops q.stops)
+    (λ ends stops. doubt_runs_or_stop.texts input a ends.resolves (resolves_too_much input b stops))
+    (λ ends stops. doubt_runs_or_stop.texts input b ends.resolves (resolves_too_much input a stops))
+    (resolve_end input a s x) (resolve_end input b t y)
+
 gen_one : TextsAgree → RunsOrStops → (number : ℕ) (a b : List ℕ) (s t : Status) → GenMakes number a s → GenMakes number b t → (a ≡ b) × (s ≡ t)
 gen_one k j number a b s t x y =
     ends_one (Summarizes number) (NothingOf number) a b s t (k.summaries (script_of number) number a b) (λ p q. p.0 ∙ sym q.0) (λ ends stops. j.summaries (script_of number) number a ends stops.1)
@@ -234,6 +255,7 @@ tasks_are_functions k j Show limit input a b s t some bytes x y = show_one limit
 tasks_are_functions k j Pack limit input a b s t some bytes x y = pack_one limit input a b s t x y
 tasks_are_functions k j Replay limit input a b s t some bytes x y = replay_one k j input a b s t x y
 tasks_are_functions k j Keep limit input a b s t some bytes x y = keep_one input a b s t x y
+tasks_are_functions k j Resolve limit input a b s t some bytes x y = resolve_one input a b s t x y
 tasks_are_functions k j (Gen number) limit input a b s t some bytes x y = gen_one k j number a b s t x y
 tasks_are_functions k j (Draw number) limit input a b s t some bytes x y = draw_one number a b s t x y
 
@@ -250,11 +272,18 @@ short_keeps input plan lines short x =
     let at_plan : KeptSendsTooMuch plan x.lines = subst (λ (p : WorldPlan). KeptSendsTooMuch p x.lines) one.0 x.stops in
     short.fits (subst (λ (ls : List KeptLine). KeptSendsTooMuch plan ls) one.1 at_plan)
 
+short_resolves : (input : List ℕ) (plan : WorldPlan) (lines : List DoubtLine) → IsShortDoubtScript input plan lines → ¬ ResolvesTooMuch input
+short_resolves input plan lines short x =
+    let one = one_doubt_script input x.plan plan x.lines lines x.script short.script in
+    let at_plan : DoubtsSendTooMuch plan x.lines = subst (λ (p : WorldPlan). DoubtsSendTooMuch p x.lines) one.0 x.stops in
+    short.fits (subst (λ (ls : List DoubtLine). DoubtsSendTooMuch plan ls) one.1 at_plan)
+
 pub whole_runs : (task : Task) (limit : ℕ) (input : List ℕ) → RunsTooFar task input → ¬ IsWholeInput task limit input
 whole_runs Show limit input far whole = far
 whole_runs Pack limit input far whole = far
 whole_runs Replay limit input far whole = short_runs input whole.0 whole.1 whole.2 far
 whole_runs Keep limit input far whole = short_keeps input whole.0 whole.1 whole.2 far
+whole_runs Resolve limit input far whole = short_resolves input whole.0 whole.1 whole.2 far
 whole_runs (Gen number) limit input far whole = whole far
 whole_runs (Draw number) limit input far whole = far
 
@@ -264,6 +293,7 @@ stops_too_far Show limit input output x = absurd x
 stops_too_far Pack limit input output x = absurd x
 stops_too_far Replay limit input output x = too_much input output x
 stops_too_far Keep limit input output x = keeps_too_much input output x
+stops_too_far Resolve limit input output x = resolves_too_much input output x
 stops_too_far (Gen number) limit input output x = x.1
 stops_too_far (Draw number) limit input output x = x
 
@@ -284,6 +314,9 @@ whole_inputs_end_well Replay limit input output ended some bytes whole x =
     well_unless (Replays input) (Stops input) output ended (replay_end input output ended x) (λ stops. whole_runs Replay limit input (too_much input output stops) whole)
 whole_inputs_end_well Keep limit input output ended some bytes whole x =
     well_unless (KeepsReporting input) (StopsKeeping input) output ended (keep_end input output ended x) (λ stops. whole_runs Keep limit input (keeps_too_much input output stops) whole)
+whole_inputs_end_well Resolve limit input output ended some bytes whole x =
+    well_unless (Settles input) (StopsSettling input) output ended (resolve_end input output ended x)
+    (λ stops. whole_runs Resolve limit input (resolves_too_much input output stops) whole)
 whole_inputs_end_well (Gen number) limit input output ended some bytes whole x =
     well_unless (Summarizes number) (NothingOf number) output ended (gen_end number output ended x) (λ stops. whole stops.1)
 whole_inputs_end_well (Draw number) limit input output ended some bytes whole x = draw_ends number output ended x
@@ -317,4 +350,5 @@ written_whole P task named limit input before after (Err e) some bytes is makes 
 pub no_bad_input : (task : Task) (limit : ℕ) (input : List ℕ) (line : ℕ) → IsBadScript task input line → ¬ IsWholeInput task limit input
 no_bad_input Replay limit input line bad whole = no_bad_line input whole.0 whole.1 line whole.2.script bad.0
 no_bad_input Keep limit input line bad whole = bad.1 whole.0 whole.1 whole.2.script
+no_bad_input Resolve limit input line bad whole = bad.1 whole.0 whole.1 whole.2.script
 no_bad_input _ limit input line bad whole = bad

@@ -41,7 +41,7 @@ finding_line (finding.TooLong line) = numbered (codes "too long in line") line
 abbrev pub fault_line_of : Status → List ℕ
 fault_line_of Ok = []
 fault_line_of (status.Finding f) = finding_line f
-fault_line_of Usage = codes "usage: grasp_replay show|pack|replay|keep|gen N|draw N"
+fault_line_of Usage = codes "usage: grasp_replay show|pack|replay|gen N|draw N|resolve|keep"
 fault_line_of (BadScript line) = numbered (codes "bad script in line") line
 fault_line_of ReadFault = codes "read fault"
 fault_line_of WriteFault = codes "write fault"

@@ -6,12 +6,14 @@ use Rattle.grasp_script.specs.Scripts.{text_lines, IsBadLine, IsNoScript}
 use Rattle.grasp_script_draws.specs.Generator.{script_of}
 use Rattle.grasp_model_script.specs.ScriptRuns.{Replays, BeginsToReplay}
 use Rattle.grasp_model_script.specs.Stops.{TextSendsTooMuch}
+use Rattle.grasp_model_script_doubts.specs.ScriptRuns.{BeginsToResolve, ResolvesTooMuch}
 use Rattle.grasp_model_script_kept.specs.ScriptRuns.{BeginsToKeep, KeepsReporting, KeepsTooMuch, StopsKeeping}
+use Rattle.grasp_script_doubts.specs.Scripts.{IsBadDoubtLine, IsNoDoubtScript}
 use Rattle.grasp_script_kept.specs.Scripts.{IsBadKeptLine, IsNoKeptScript}
 use Rattle.grasp_text.specs.Reading.{number_of}
 use Rattle.grasp_replay_main.specs.Gen.{Summarizes, Overruns}
 use Rattle.grasp_replay_main.specs.Pack.{Packs}
-use Rattle.grasp_replay_main.specs.Replay.{Stops}
+use Rattle.grasp_replay_main.specs.Replay.{Settles, Stops, StopsSettling}
 use Rattle.grasp_replay_main.specs.Show.{Shows}
 use Rattle.grasp_wire.specs.declared.fault.CutFault.TheVariants as cut
 use Rattle.grasp_replay_main.specs.declared.exit.Finding.{Finding}
@@ -20,7 +22,7 @@ use Rattle.grasp_replay_main.specs.declared.exit.Status.{Status}
 use Rattle.grasp_replay_main.specs.declared.exit.Status.TheVariants as status
 use Rattle.grasp_replay_main.specs.Limits.{input_limit, line_limit}
 use Rattle.grasp_replay_main.specs.declared.task.Task.{Task}
-use Rattle.grasp_replay_main.specs.declared.task.Task.TheVariants.{Show, Pack, Replay, Keep, Gen, Draw}
+use Rattle.grasp_replay_main.specs.declared.task.Task.TheVariants.{Show, Pack, Replay, Keep, Resolve, Gen, Draw}
 use Rattle.grasp_replay_main.specs.declared.unfinished.Unfinished.{Unfinished}
 use Rattle.grasp_replay_main.specs.declared.unfinished.Unfinished.TheVariants as unfinished
 
@@ -28,7 +30,7 @@ use Rattle.grasp_replay_main.specs.declared.unfinished.Unfinished.TheVariants as
 abbrev pub task_named : List ℕ → Option Task
 task_named word =
     if bytes_eq word (codes "show") then Some Show else if bytes_eq word (codes "pack") then Some Pack else if bytes_eq word (codes "replay") then Some Replay
-    else if bytes_eq word (codes "keep") then Some Keep else None
+    else if bytes_eq word (codes "keep") then Some Keep else if bytes_eq word (codes "resolve") then Some Resolve else None
 
 -- what a word and a number ask for; the number is decimal, below 2 ^ 64
 abbrev pub task_numbered : List ℕ → List ℕ → Option Task
@@ -49,6 +51,7 @@ ReadsInput Show = ⊤
 ReadsInput Pack = ⊤
 ReadsInput Replay = ⊤
 ReadsInput Keep = ⊤
+ReadsInput Resolve = ⊤
 ReadsInput (Gen number) = ⊥
 ReadsInput (Draw number) = ⊥
 
@@ -58,6 +61,7 @@ input_of Show left = left
 input_of Pack left = left
 input_of Replay left = left
 input_of Keep left = left
+input_of Resolve left = left
 input_of (Gen number) left = Some []
 input_of (Draw number) left = Some []
 
@@ -105,6 +109,11 @@ ReplayMakes input output ended = IsUpToStop (Replays input output) (Stops input 
 abbrev pub KeepMakes : List ℕ → List ℕ → Status → Type 0
 KeepMakes input output ended = IsUpToStop (KeepsReporting input output) (StopsKeeping input output) ended
 
+-- what `resolve` makes of an input: the text of the whole run of its network of doubters, or of the run up to the line that sends too much; each
+-- prefix that was settled until then was asked for, and is accepted never
+abbrev pub ResolveMakes : List ℕ → List ℕ → Status → Type 0
+ResolveMakes input output ended = IsUpToStop (Settles input output) (StopsSettling input output) ended
+
 -- what `gen` makes of a number: the summary of the whole run, or nothing where the run sends too much
 abbrev pub GenMakes : ℕ → List ℕ → Status → Type 0
 GenMakes number output ended = IsUpToStop (Summarizes number output) ((output ≡ []) × Overruns number) ended
@@ -119,6 +128,7 @@ Makes Show limit input output ended = ShowMakes limit input output ended
 Makes Pack limit input output ended = PackMakes limit input output ended
 Makes Replay limit input output ended = ReplayMakes input output ended
 Makes Keep limit input output ended = KeepMakes input output ended
+Makes Resolve limit input output ended = ResolveMakes input output ended
 Makes (Gen number) limit input output ended = GenMakes number output ended
 Makes (Draw number) limit input output ended = DrawMakes number output ended
 
@@ -129,6 +139,7 @@ MayBegin Show limit input output = (ended : Status) × ShowMakes limit input out
 MayBegin Pack limit input output = (ended : Status) × PackMakes limit input output ended
 MayBegin Replay limit input output = BeginsToReplay input output
 MayBegin Keep limit input output = BeginsToKeep input output
+MayBegin Resolve limit input output = BeginsToResolve input output
 MayBegin (Gen number) limit input output = Summarizes number output
 MayBegin (Draw number) limit input output = output ≡ script_of number
 
@@ -138,6 +149,7 @@ HasTooManyLines Show input = ⊥
 HasTooManyLines Pack input = ⊥
 HasTooManyLines Replay input = line_limit < length (text_lines input)
 HasTooManyLines Keep input = line_limit < length (text_lines input)
+HasTooManyLines Resolve input = line_limit < length (text_lines input)
 HasTooManyLines (Gen number) input = ⊥
 HasTooManyLines (Draw number) input = ⊥
 
@@ -147,6 +159,7 @@ HasTooManyBytes Show input = input_limit < length input
 HasTooManyBytes Pack input = input_limit < length input
 HasTooManyBytes Replay input = input_limit < length input
 HasTooManyBytes Keep input = input_limit < length input
+HasTooManyBytes Resolve input = input_limit < length input
 HasTooManyBytes (Gen number) input = ⊥
 HasTooManyBytes (Draw number) input = ⊥
 
@@ -160,6 +173,7 @@ RunsTooFar Show input = ⊥
 RunsTooFar Pack input = ⊥
 RunsTooFar Replay input = TextSendsTooMuch input
 RunsTooFar Keep input = KeepsTooMuch input
+RunsTooFar Resolve input = ResolvesTooMuch input
 RunsTooFar (Gen number) input = Overruns number
 RunsTooFar (Draw number) input = ⊥
 
@@ -169,6 +183,7 @@ IsBadScript Show input line = ⊥
 IsBadScript Pack input line = ⊥
 IsBadScript Replay input line = IsBadLine input line × IsNoScript input
 IsBadScript Keep input line = IsBadKeptLine input line × IsNoKeptScript input
+IsBadScript Resolve input line = IsBadDoubtLine input line × IsNoDoubtScript input
 IsBadScript (Gen number) input line = ⊥
 IsBadScript (Draw number) input line = ⊥
 

@@ -70,7 +70,7 @@ pub fn fault_line(alloc: Global, status: &Status) -> Result<Chars, OutOfMemory>
         Status::Finding(finding) => finding_line(alloc, finding),
         Status::Usage => Chars::of(
             alloc,
-            "usage: grasp_replay show|pack|replay|keep|gen N|draw N",
+            "usage: grasp_replay show|pack|replay|gen N|draw N|resolve|keep",
         ),
         Status::BadScript { line } => numbered(alloc, "bad script in line", *line),
         Status::ReadFault => Chars::of(alloc, "read fault"),

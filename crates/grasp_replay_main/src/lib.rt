@@ -1,7 +1,7 @@
 //! The tasks of the tool for GRASP (RFC 8990): `show` writes a line for each message of a stream, `pack` a message for
-//! each line, `replay` what each line of a script of a network comes to, `keep` that of a network whose nodes crash, and
-//! `gen` what the run of a script came to that is drawn from a number. One call, `replay_main`, does all of it over any
-//! source and sink.
+//! each line, `replay` what each line of a script of a network comes to, `keep` that of a network whose nodes crash,
+//! `resolve` that of a network whose nodes ask each other about doubtful prefixes, and `gen` what the run of a script came to
+//! that is drawn from a number. One call, `replay_main`, does all of it over any source and sink.
 #![tactic(auto)]
 
 mod drawn;
@@ -13,6 +13,7 @@ mod lines;
 mod pack;
 mod program;
 mod replay;
+mod resolve;
 mod show;
 mod task;
 mod unfinished;

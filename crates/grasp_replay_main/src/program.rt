@@ -15,6 +15,7 @@ use crate::exit::Status;
 use crate::keep::keep;
 use crate::pack::pack;
 use crate::replay::replay;
+use crate::resolve::resolve;
 use crate::show::show;
 use crate::task::{Task, task_of};
 use crate::unfinished::Unfinished;
@@ -33,11 +34,12 @@ const MESSAGE_LIMIT: u32 = 2048;
 /// and writes the shortest encoding of the message of each. Where the input is wrong at some place, the status is the
 /// finding, and all that comes before that place was written. `replay` reads a script of a network, runs it, and writes
 /// the report of each of its lines while it goes. Where the input is no script, the status is `BadScript`, and nothing was
-/// written. `keep` does so with a script of a network whose nodes keep their pools on disks, and may crash. `gen` reads
-/// nothing: it runs the script that is drawn from its number, and then writes one line that tells what the run came to;
-/// `draw` writes that script. Where a run sends more than may be sent, the status is `TooLarge`, and of `replay` and `keep`
-/// all reports before that were written. `OutOfMemory` may come wherever memory is wanted: a beginning of the output may be
-/// written then, but not of that of `gen`.
+/// written. `keep` does so with a script of a network whose nodes keep their pools on disks, and may crash, and `resolve`
+/// with one of a network whose nodes ask each other about doubtful prefixes. `gen` reads nothing: it runs the script that is
+/// drawn from its number, and then writes one line that tells what the run came to; `draw` writes that script. Where a run
+/// sends more than may be sent, the status is `TooLarge`, and of `replay`, `keep` and `resolve` all reports before that were
+/// written. `OutOfMemory` may come wherever memory is wanted: a beginning of the output may be written then, but not of that
+/// of `gen`.
 pub fn replay_main<S: Source, K: Sink>(
     alloc: Global,
     words: &[String],
@@ -51,8 +53,8 @@ pub fn replay_main<S: Source, K: Sink>(
     ensures unread_without_input { (task : Task) → task_of (map string_bytes words.now) ≡ Some task → ¬ ReadsInput task → source.new ≡ source.old }
     ensures unfailed_without_input { (task : Task) → task_of (map string_bytes words.now) ≡ Some task → ¬ ReadsInput task → result ≢ Status.ReadFault }
 
-    // Then the input is read to its end, at most 16,777,216 bytes. Then its lines are counted: for `replay` and `keep` they are
-    // at most 200,000.
+    // Then the input is read to its end, at most 16,777,216 bytes. Then its lines are counted: for `replay`, `keep` and `resolve`
+    // they are at most 200,000.
     ensures read_fault { result ≡ Status.ReadFault → Rose (S.faults source.old) (S.faults source.new) }
     ensures small { (task : Task) → task_of (map string_bytes words.now) ≡ Some task → IsAfterInput result
         → SomeInput (input_of task (S.left source.old)) (λ input. ¬ IsTooLarge task input) }
@@ -124,6 +126,7 @@ fn run<S: Source, K: Sink>(alloc: Global, task: Task, source: &mut S, sink: &mut
         Task::Pack => read_and_write(alloc, task, source, sink),
         Task::Replay => read_and_write(alloc, task, source, sink),
         Task::Keep => read_and_write(alloc, task, source, sink),
+        Task::Resolve => read_and_write(alloc, task, source, sink),
     }
 }
 
@@ -199,6 +202,7 @@ fn write_made<K: Sink>(
         Task::Pack => pack(alloc, input, MESSAGE_LIMIT, sink),
         Task::Replay => replay(alloc, input, sink),
         Task::Keep => keep(alloc, input, sink),
+        Task::Resolve => resolve(alloc, input, sink),
         Task::Gen { .. } | Task::Draw { .. } => unreachable!(),
     }
 }

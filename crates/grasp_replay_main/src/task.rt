@@ -15,6 +15,8 @@ pub enum Task {
     Replay,
     /// Run a script in a network whose nodes keep their pools on disks, and may crash, and write what each of its lines comes to.
     Keep,
+    /// Run a script in a network whose nodes ask each other about doubtful prefixes, and write what each of its lines comes to.
+    Resolve,
     /// Run the script that is drawn from the number, and write what it came to.
     Gen { number: u64 },
     /// Write the script that is drawn from the number.
@@ -43,6 +45,8 @@ fn task_named(word: &str) -> Option<Task>
         Some(Task::Replay)
     } else if word == "keep" {
         Some(Task::Keep)
+    } else if word == "resolve" {
+        Some(Task::Resolve)
     } else {
         None
     }

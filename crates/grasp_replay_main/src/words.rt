@@ -6,18 +6,21 @@ const HELP: &str = "\
 Usage: grasp_replay show < STREAM
        grasp_replay pack < LINES
        grasp_replay replay < SCRIPT
-       grasp_replay keep < SCRIPT
        grasp_replay gen N
        grasp_replay draw N
+       grasp_replay resolve < SCRIPT
+       grasp_replay keep < SCRIPT
 
   show       writes a line for each GRASP message (RFC 8990) of the stream
   pack       writes the message of each line, in its shortest encoding
   replay     runs a script of a network, and writes what each line comes to
-  keep       runs a script of a network whose nodes keep pools on disks and may
-             crash and begin anew, and writes what each line comes to
   gen N      runs the script of a network that is drawn from the number N,
              and writes one line that tells what it came to
   draw N     writes the script that is drawn from the number N
+  resolve    runs a script of a network whose nodes ask each other about
+             doubtful prefixes, and writes what each line comes to
+  keep       runs a script of a network whose nodes keep pools on disks and may
+             crash and begin anew, and writes what each line comes to
 
   --help     prints this text
   --version  prints the version
@@ -39,7 +42,7 @@ more than 16,777,216 bytes, a script of more than 200,000 lines, or a script
 whose nodes send more than 268,435,456 bytes.
 ";
 
-const VERSION: &str = "grasp_replay 0.1.0\n";
+const VERSION: &str = "grasp_replay 0.2.0\n";
 
 /// A text of the program's own.
 #[derive(Clone, Copy, Debug, PartialEq, Eq)]
