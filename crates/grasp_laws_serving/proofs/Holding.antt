@@ -71,25 +71,25 @@ module _ (seated : NodesOpenAsSeats) (safe : ServingNodesAreSafe) (serves : ℕ 
     abbrev l : Life
     l = life_of t.plan t.joining t.doors t.before t.after (to_its_end t.serves)
 
-    ended : (went seated t.plan l (lived t.plan t.joining t.doors t.before t.after (to_its_end t.serves)) t.fit t.links).agent ≡ m.agent
+    ended : (went seated t.plan (pool_of t.plan.roots) l (lived t.plan t.joining t.doors t.before t.after (to_its_end t.serves)) t.fit.begins t.fit.heralds t.links).agent ≡ m.agent
     ended =
         sym
-        (crew_agent (went seated t.plan l (lived t.plan t.joining t.doors t.before t.after (to_its_end t.serves)) t.fit t.links).agent m
+        (crew_agent (went seated t.plan (pool_of t.plan.roots) l (lived t.plan t.joining t.doors t.before t.after (to_its_end t.serves)) t.fit.begins t.fit.heralds t.links).agent m
         (rounds_after (opened_state t.plan t.serves.replies) t.serves.rounds).house.crew t.others
-        (went seated t.plan l (lived t.plan t.joining t.doors t.before t.after (to_its_end t.serves)) t.fit t.links).stands.crew t.crew)
+        (went seated t.plan (pool_of t.plan.roots) l (lived t.plan t.joining t.doors t.before t.after (to_its_end t.serves)) t.fit.begins t.fit.heralds t.links).stands.crew t.crew)
 
     begins_as : (first_seat t.member).agent ≡ opened_agent (pool_of t.plan.roots)
     begins_as =
         ap (λ (y : Seat). y.agent)
         (opens seated t.member t.plan.node t.plan.roots
-        (behind seated t.plan l (lived t.plan t.joining t.doors t.before t.after (to_its_end t.serves)) t.fit t.links).node t.plan_is t.roots_are
-        (behind seated t.plan l (lived t.plan t.joining t.doors t.before t.after (to_its_end t.serves)) t.fit t.links).opening)
+        (behind seated t.plan (pool_of t.plan.roots) l (lived t.plan t.joining t.doors t.before t.after (to_its_end t.serves)) t.fit.begins t.fit.heralds t.links).node t.plan_is t.roots_are
+        (behind seated t.plan (pool_of t.plan.roots) l (lived t.plan t.joining t.doors t.before t.after (to_its_end t.serves)) t.fit.begins t.fit.heralds t.links).opening)
 
     stands_as : agent_after (first_seat t.member).agent (acts_at node ms) ≡ m.agent
     stands_as =
         ap (λ (a : AgentState). agent_after a (acts_at node ms)) begins_as
         ∙ (acts_agent (life_happens t.plan l) (acts_at node ms) (opened_agent (pool_of t.plan.roots)) t.happened
-        ∙ ((whole seated t.plan l (lived t.plan t.joining t.doors t.before t.after (to_its_end t.serves)) t.fit t.links).goes.ends ∙ ended))
+        ∙ ((whole seated t.plan (pool_of t.plan.roots) l (lived t.plan t.joining t.doors t.before t.after (to_its_end t.serves)) t.fit.begins t.fit.heralds t.links).goes.ends ∙ ended))
 
     holds : (address : ℕ) → IsFree m.agent.pool address → Holds last (present_life last node) address
     holds address free = record {

@@ -1,14 +1,14 @@
-mod Agents
+pub mod Agents
 mod Beginning
-mod Courses
+pub mod Courses
 mod Going
-mod Happenings
+pub mod Happenings
 mod Holding
-mod Lives
+pub mod Lives
 mod Members
 mod Networks
-mod Numbers
-mod Openings
+pub mod Numbers
+pub mod Openings
 mod Orders
-mod Rounds
-mod Seats
+pub mod Rounds
+pub mod Seats

@@ -8,21 +8,22 @@ use Rattle.grasp_io.specs.declared.links.LinkPlan.{LinkPlan}
 use Rattle.grasp_laws_members.specs.Acts.{AreActs}
 use Rattle.grasp_laws_serving.proofs.Agents.{Gives, IsFit, Part, part_append, part_others}
 use Rattle.grasp_laws_serving.proofs.Happenings.{AreOwn, Made, all_first, all_last, calls_append, calls_called, legal_first, legal_last, made, own_first}
-use Rattle.grasp_laws_serving.proofs.Beginning.{opens}
 use Rattle.grasp_laws_serving.proofs.Numbers.{GivesOthers, HasSome, all_give, opened_has}
 use Rattle.grasp_laws_serving.proofs.Openings.{Begun, Replied, begun, crew_at, openings_first, replied}
 use Rattle.grasp_laws_serving.proofs.Rounds.{AreLoops, Went, calls_give, loops_others, rounds_calls_are, rounds_went, turn_loops}
 use Rattle.grasp_laws_serving.proofs.Seats.{AllGive}
-use Rattle.grasp_laws_serving.specs.Acts.{HadMemory, IsFitPlan, LinksGiveNoCall}
-use Rattle.grasp_laws_serving.specs.Histories.{HasActs, HistoriesHappened, ServicesHaveActs}
+use Rattle.grasp_laws_serving.specs.Acts.{HadMemory, IsHeraldInRange, LinksGiveNoCall}
+use Rattle.grasp_laws_serving.specs.Histories.{HistoriesHappened, ServicesHaveActs}
 use Rattle.grasp_laws_serving.specs.Lives.{Happening, HasServed, Life, all_called, called, calls_in, cut_short, life_happens, life_of, other_openings, rounds_happen, to_its_end, told}
-use Rattle.grasp_model_network.specs.Setting.{Member}
+use Rattle.grasp_model_network.specs.Openings.{opened_seat}
 use Rattle.grasp_model_network.specs.World.{Seat}
 use Rattle.grasp_model_node.specs.Node.{NodeState, first_node}
+use Rattle.grasp_model_node.specs.declared.plan.NodePlan.{NodePlan}
 use Rattle.grasp_node_main.specs.Networks.{NodesOpenAsSeats}
 use Rattle.grasp_node_main.specs.Openings.{opened_agent, openings}
 use Rattle.grasp_pool.specs.Functions.{pool_of}
 use Rattle.grasp_pool.specs.Holdings.{Holding}
+use Rattle.grasp_pool.specs.declared.roots.RootPrefix.{RootPrefix}
 use Rattle.grasp_service.specs.Plans.{crew_of}
 use Rattle.grasp_service.specs.Rounds.{AreRounds, Outside, TellsRounds, all_round_calls, rounds_after}
 use Rattle.grasp_service.specs.Served.{IsOpened, all_opening_calls, opened_state}
@@ -113,12 +114,14 @@ happenings_give [] give = tt
 happenings_give (called e ∷ hs) give = (give.0, happenings_give hs give.1)
 happenings_give (told w ∷ hs) give = (tt, happenings_give hs give)
 
-module _ (seated : NodesOpenAsSeats) (p : ServicePlan) (l : Life) (h : Lived p l) (fit : IsFitPlan p) (links : LinksGiveNoCall l) where
+-- of a node whose agent of prefixes began with this pool
+module _ (seated : NodesOpenAsSeats) (p : ServicePlan) (pool : Holding) (l : Life) (h : Lived p l) (begins : crew_of p ≡ crew_at p pool) (heralds : AllByRecursion IsHeraldInRange p.heralds)
+    (links : LinksGiveNoCall l) where
   abbrev happened : List Happening
   happened = life_happens p l
 
   abbrev a : AgentState
-  a = opened_agent (pool_of p.roots)
+  a = opened_agent pool
 
   -- the node once its agent of prefixes was opened, from which the rest is legal
   pub record Behind : Type 0 where
@@ -127,12 +130,12 @@ module _ (seated : NodesOpenAsSeats) (p : ServicePlan) (l : Life) (h : Lived p l
     pub legal : IsLegalHistory node (calls_in happened ++ h.rest) h.to
 
   pub behind : Behind
-  behind = from (legal_last openings (calls_in happened ++ h.rest) (first_node p.node) h.to (subst (λ (x : History). IsLegalHistory (first_node p.node) x h.to) (life_is p (pool_of p.roots) l h.rest fit.begins h.opened) h.legal)) where
+  behind = from (legal_last openings (calls_in happened ++ h.rest) (first_node p.node) h.to (subst (λ (x : History). IsLegalHistory (first_node p.node) x h.to) (life_is p pool l h.rest begins h.opened) h.legal)) where
     from : (mid : NodeState) × IsLegalHistory (first_node p.node) openings mid × IsLegalHistory mid (calls_in happened ++ h.rest) h.to → Behind
     from f = record { node = f.0; opening = f.1; legal = f.2 }
 
   has : HasSome behind.node
-  has = subst (λ (y : Seat). HasSome y.core) (seated p.node (pool_of p.roots) behind.node behind.opening) (opened_has p.node (pool_of p.roots))
+  has = subst (λ (y : Seat). HasSome y.core) (seated p.node pool behind.node behind.opening) (opened_has p.node pool)
 
   give : AllByRecursion Gives happened
   give = happenings_give happened (all_first (λ (e : Entry). GivesOthers e.reply) (calls_in happened) h.rest (all_give (calls_in happened ++ h.rest) behind.node h.to behind.legal has))
@@ -149,15 +152,15 @@ module _ (seated : NodesOpenAsSeats) (p : ServicePlan) (l : Life) (h : Lived p l
   give_first : AllGive (other_openings p l.replies)
   give_first = calls_give (other_openings p l.replies) (all_first Gives first (rounds ++ ends) give)
 
-  give_rounds : AllByRecursion Gives rounds
+  pub give_rounds : AllByRecursion Gives (rounds_happen (opened_state p l.replies) l.rounds)
   give_rounds = all_first Gives rounds ends (all_last Gives first (rounds ++ ends) give)
 
-  opened_crew : Begun p (pool_of p.roots) l.replies
-  opened_crew = from (replied p (pool_of p.roots) l.replies fit.begins h.opened) where
-    from : Replied p (pool_of p.roots) l.replies → Begun p (pool_of p.roots) l.replies
+  pub opened_crew : Begun p pool l.replies
+  opened_crew = from (replied p pool l.replies begins h.opened) where
+    from : Replied p pool l.replies → Begun p pool l.replies
     from r =
-        subst (Begun p (pool_of p.roots)) (sym r.are)
-        (begun p (pool_of p.roots) r.first r.rest fit.begins fit r.opens (subst (λ (x : List (List Reply)). AllGive (other_openings p x)) r.are give_first))
+        subst (Begun p pool) (sym r.are)
+        (begun p pool r.first r.rest begins heralds r.opens (subst (λ (x : List (List Reply)). AllGive (other_openings p x)) r.are give_first))
 
   pub went : Went a rounds (rounds_after (opened_state p l.replies) l.rounds)
   went = rounds_went l.rounds a (opened_state p l.replies) h.ready h.middle (record { crew = opened_crew.crew; seats = tt }) h.are h.tells links.rounds give_rounds
@@ -180,15 +183,19 @@ module _ (seated : NodesOpenAsSeats) (p : ServicePlan) (l : Life) (h : Lived p l
     pub front_made : Made behind.node a front
     front_made = made front behind.node front_legal.0 a front_legal.1 fed (own_first front back a (subst (AreOwn a) is whole.goes.own))
 
-    pub front_acts : (m : Member) → p.node ≡ m.plan → p.roots ≡ m.roots → HasActs m front
-    front_acts m node roots =
-        let r : Made behind.node a front = front_made in
-        record {
-          acts = r.acts;
-          are = r.are;
-          may = subst (λ (y : Seat). AreActs y.core y.agent r.acts) (sym (opens seated m p.node p.roots behind.node node roots behind.opening)) r.may;
-        }
+    -- they may happen in a life that begins with the pool
+    pub front_may : AreActs (opened_seat p.node pool).core (opened_seat p.node pool).agent front_made.acts
+    front_may = subst (λ (y : Seat). AreActs y.core y.agent front_made.acts) (sym (seated p.node pool behind.node behind.opening)) front_made.may
 
 pub services_have_acts : NodesOpenAsSeats → ServicesHaveActs
 services_have_acts seated p joining doors before after served m node roots fit links front back is fed =
-    front_acts seated p (life_of p joining doors before after served) (lived p joining doors before after served) fit links front back is fed m node roots
+    let l : Life = life_of p joining doors before after served in
+    let h : Lived p l = lived p joining doors before after served in
+    record {
+      acts = (front_made seated p (pool_of p.roots) l h fit.begins fit.heralds links front back is fed).acts;
+      are = (front_made seated p (pool_of p.roots) l h fit.begins fit.heralds links front back is fed).are;
+      may =
+          subst (λ (y : Seat). AreActs y.core y.agent (front_made seated p (pool_of p.roots) l h fit.begins fit.heralds links front back is fed).acts)
+          (ap (λ (n : NodePlan). opened_seat n (pool_of p.roots)) node ∙ ap (λ (rs : List RootPrefix). opened_seat m.plan (pool_of rs)) roots)
+          (front_may seated p (pool_of p.roots) l h fit.begins fit.heralds links front back is fed);
+    }

@@ -20,13 +20,15 @@ use Rattle.grasp_model_network.specs.World.{Seat, present_life, seat_at}
 use Rattle.grasp_model_script.specs.Laws.{EachNetworkIsSafe}
 use Rattle.grasp_model_script.specs.Safe.{IsSafe}
 use Rattle.grasp_node_main.specs.Networks.{NodesOpenAsSeats}
+use Rattle.grasp_pool.specs.Functions.{pool_of}
 
 module _ (take : MembersTakeTurns) (safe : EachNetworkIsSafe) (seated : NodesOpenAsSeats) (serves : ℕ → Bool) (s : Setting) (ms : List Moment) (good : IsGoodSetting s) (are : AreServices serves s ms)
     (course : IsServedCourse serves s (first_world s) ms) where
   fit_at : (node : ℕ) (m : Member) → IsServiceOf m (acts_at node ms) → AreFit (acts_at node ms)
   fit_at node m i =
       acts_fit i.front (acts_at node ms) i.are
-      (front_fit seated i.plan (life_of i.plan i.joining i.doors i.before i.after i.served) (lived i.plan i.joining i.doors i.before i.after i.served) i.fit i.links i.front i.rest i.whole i.fed)
+      (front_fit seated i.plan (pool_of i.plan.roots) (life_of i.plan i.joining i.doors i.before i.after i.served) (lived i.plan i.joining i.doors i.before i.after i.served)
+      i.fit.begins i.fit.heralds i.links i.front i.rest i.whole i.fed)
 
   course_is : IsCourse serves s (first_world s) ms
   course_is = served_course serves s ms (first_world s) (λ node is. let a = are node is in fit_at node a.0 a.2) course

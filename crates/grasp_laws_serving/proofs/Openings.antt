@@ -14,7 +14,7 @@ use Rattle.grasp_laws_serving.proofs.Agents.{AreWants, IsCrew, IsOther, IsOtherE
 use Rattle.grasp_laws_serving.proofs.Happenings.{all_append, all_first, all_last}
 use Rattle.grasp_laws_serving.proofs.Numbers.{GivesOthers}
 use Rattle.grasp_laws_serving.proofs.Seats.{AllGive}
-use Rattle.grasp_laws_serving.specs.Acts.{IsFitPlan, IsHeraldInRange}
+use Rattle.grasp_laws_serving.specs.Acts.{IsHeraldInRange}
 use Rattle.grasp_laws_serving.specs.Lives.{other_openings, others_of}
 use Rattle.grasp_node_main.specs.Openings.{opened_agent, openings}
 use Rattle.grasp_node_main.specs.declared.want_plan.WantPlan.{WantPlan}
@@ -102,8 +102,8 @@ all_listeners : (number : ℕ) (names : List (List ℕ)) → AllByRecursion IsOt
 all_listeners number [] = tt
 all_listeners number (name ∷ names) = (unnumbered 0 refl, all_listeners (number + 1) names)
 
-others_are : (p : ServicePlan) → IsFitPlan p → AllByRecursion IsOther (others_of p)
-others_are p fit = all_append IsOther (heralds_from 1 p.heralds) (listeners_from 1 p.readers) (all_heralds 1 p.heralds fit.heralds) (all_listeners 1 p.readers)
+others_are : (p : ServicePlan) → AllByRecursion IsHeraldInRange p.heralds → AllByRecursion IsOther (others_of p)
+others_are p fit = all_append IsOther (heralds_from 1 p.heralds) (listeners_from 1 p.readers) (all_heralds 1 p.heralds fit) (all_listeners 1 p.readers)
 
 openings_others : (crew : List Servant) (rss : List (List Reply)) (caller : ℕ) → 2 ≤ caller → AllByRecursion IsOther crew → AllGive (each_adds opening_calls caller crew rss)
     → AllByRecursion IsOtherEntry (each_adds opening_calls caller crew rss) × AllByRecursion IsOther (each_after opened crew rss)
@@ -143,8 +143,8 @@ pub record Begun (p : ServicePlan) (pool : Holding) (replies : List (List Reply)
   pub others : AllByRecursion IsOtherEntry (other_openings p replies)
   pub crew : IsCrew (opened_agent pool) (each_after opened (crew_of p) replies)
 
-pub begun : (p : ServicePlan) (pool : Holding) (rs : List Reply) (rss : List (List Reply)) → crew_of p ≡ crew_at p pool → IsFitPlan p → IsOpening (first_of p pool) rs
-    → AllGive (other_openings p (rs ∷ rss)) → Begun p pool (rs ∷ rss)
+pub begun : (p : ServicePlan) (pool : Holding) (rs : List Reply) (rss : List (List Reply)) → crew_of p ≡ crew_at p pool → AllByRecursion IsHeraldInRange p.heralds
+    → IsOpening (first_of p pool) rs → AllGive (other_openings p (rs ∷ rss)) → Begun p pool (rs ∷ rss)
 begun p pool rs rss begins fit o give = record {
   others = all.0;
   crew =

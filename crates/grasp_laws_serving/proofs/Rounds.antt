@@ -121,13 +121,16 @@ module _ (a : AgentState) (s : ServiceState) (r : Round) (stands : Stands a s) (
   tended_all : Heard tending (each_after (tended r.turn.now) (seats_asked s r) r.replies)
   tended_all = tend_heard (seats_asked s r) r.replies agents r.turn.now 0 some (all_last (λ (e : Entry). GivesOthers e.reply) visiting tending give_visitors) heard.are
 
+  pub visitors_others : AllByRecursion IsOtherEntry (visitor_calls s r)
+  visitors_others = all_append IsOtherEntry visiting tending heard.others tended_all.others
+
   pub round_went : Went a (round_happens s r) (round_after s r)
   round_went = record {
     agent = done.agent;
     part =
         part_append turned a a done.agent (acted ++ all_called (visitor_calls s r)) (part_others (turn_calls r.turn) a (loops_others (turn_calls r.turn) (turn_loops r.turn) none))
         (part_append acted a done.agent done.agent (all_called (visitor_calls s r)) done.part
-        (part_others (visiting ++ tending) done.agent (all_append IsOtherEntry visiting tending heard.others tended_all.others)));
+        (part_others (visitor_calls s r) done.agent visitors_others));
     stands = record {
       crew = crew_after r.visits done.agent r.turn.now s.seats (house_acted s r) is.mean done.crew_is;
       seats = staying stays (each_after (tended r.turn.now) (seats_asked s r) r.replies) tended_all.are;
@@ -143,7 +146,7 @@ rounds_went (r ∷ rs) a s old new stands are tells none give =
     let first : List Happening = round_happens s r in
     let rest : List Happening = rounds_happen (round_after s r) rs in
     let f : Went a first (round_after s r) =
-    round_went a s r stands are.0 (numbered_visits r.visits old.desk tells.1.desk.middle tells.1.desk.came) none.0 (all_first Gives first rest give) in
+    round_went a s r stands are.0 (numbered_visits r.visits old.desk tells.1.desk.came.middle tells.1.desk.came.came) none.0 (all_first Gives first rest give) in
     let g : Went f.agent rest (rounds_after (round_after s r) rs) =
     rounds_went rs f.agent (round_after s r) tells.0 new f.stands are.1 tells.2 none.1 (all_last Gives first rest give) in
     record { agent = g.agent; part = part_append first a f.agent g.agent rest f.part g.part; stands = g.stands }

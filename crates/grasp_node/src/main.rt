@@ -72,5 +72,5 @@ fn complain(rt: &HostRuntime, status: u8) -> u8 {
 /// Writes a text of the program's own.
 fn print(rt: &HostRuntime, text: &str) -> u8 {
     let status = print_text(text, &mut StdSink::new(rt.stdout()));
-    finish(rt.alloc(), &status, &mut StdSink::new(rt.stderr()))
+    finish(&status, &mut StdSink::new(rt.stderr()))
 }

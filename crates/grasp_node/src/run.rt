@@ -22,7 +22,7 @@ pub(crate) fn run<R: Threads + Wait + Sync>(
         tell_missing(rt, file);
     }
     let mut errors = StdSink::new(rt.stderr());
-    finish(rt.alloc(), &status, &mut errors)
+    finish(&status, &mut errors)
 }
 
 /// Says why the file can't be read, where that is so.

@@ -64,6 +64,7 @@ ran_going plan opened old new seats o r going = record {
   count = r.count_is;
   loop = r.loop;
   tells = r.tells;
+  rising = r.rising;
   agents = made (crew_of plan) r.history plan.turns seats r.agents;
   ends = (
     all_made (crew_of plan) r.history plan.turns seats r.agents going,
@@ -85,15 +86,16 @@ ran_somehow plan opened old new seats o r = record {
   count = r.count_is;
   loop = r.loop;
   tells = r.tells;
+  rising = r.rising;
   agents = made (crew_of plan) r.history plan.turns seats r.agents;
   ends = tt;
 }
 
 -- what a run answers
-pub runs : (plan : DaemonPlan) (opened : NodeState) (old new : Told) (d : Daemon) (result : Result Daemon OutOfMemory) → IsLegalHistory (first_node plan.node) openings opened → RanSeats opened (crew_of plan) plan.wait plan.turns old d.seats.items new
-    → IfOk result (λ r. r ≡ d) → IfOk result (λ r. AllGoing d.seats.items) → RunsNode plan old result new
-runs plan opened old new d (Ok r) o k same going = subst (λ (x : Daemon). Ran plan old new (Some (workers_of x.seats.items))) (sym same) (ran_going plan opened old new d.seats.items o k going)
-runs plan opened old new d (Err fault) o k same going = inr (ran_somehow plan opened old new d.seats.items o k)
+pub runs : (untouched : Type 0) (plan : DaemonPlan) (opened : NodeState) (old new : Told) (d : Daemon) (result : Result Daemon OutOfMemory) → IsLegalHistory (first_node plan.node) openings opened → RanSeats opened (crew_of plan) plan.wait plan.turns old d.seats.items new
+    → IfOk result (λ r. r ≡ d) → IfOk result (λ r. AllGoing d.seats.items) → RunsNode untouched plan old result new
+runs untouched plan opened old new d (Ok r) o k same going = subst (λ (x : Daemon). Ran plan old new (Some (workers_of x.seats.items))) (sym same) (ran_going plan opened old new d.seats.items o k going)
+runs untouched plan opened old new d (Err fault) o k same going = inr (ran_somehow plan opened old new d.seats.items o k)
 
 -- one more that hasn't stopped
 pub going_more : (xs : List SeatedAgent) (i : ℕ) (x : SeatedAgent) → slice_get xs i ≡ Some x → x.stopped ≡ false → ((place : ℕ) (s : SeatedAgent) → place < i → slice_get xs place ≡ Some s → s.stopped ≡ false)

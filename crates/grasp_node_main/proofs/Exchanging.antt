@@ -1,5 +1,5 @@
 -- The parts of a turn.
-use Rattle.std.proofs.Common.{refl, sym, ap, ◌∙◌, subst, ℕ, ◌+◌, List, [], ◌∷◌, ◌++◌, Option}
+use Rattle.std.proofs.Common.{◌≤◌, refl, sym, ap, ◌∙◌, subst, arith, ℕ, ◌+◌, List, [], ◌∷◌, ◌++◌, Option}
 use Rattle.grasp_cbor.proofs.Facts.Lists.{length_push}
 use Rattle.grasp_io.specs.Told.{Grows}
 use Rattle.grasp_shared.specs.Handles.{IsRootOf}
@@ -10,7 +10,7 @@ use Rattle.grasp_node_main.specs.Steps.{TakesIn, DrainsOut, Exchanges, Looped}
 use Rattle.grasp_node_main.specs.Tells.{LinksTold, Told, told, HandsOnly}
 use Rattle.grasp_node_main.specs.Turns.{closings, asking_calls, loop_call, outputs_in, closed_again, turn_calls, all_turn_calls}
 use Rattle.grasp_types.specs.declared.traffic.Input.TheVariants as input
-use Rattle.grasp_node_main.proofs.Histories.{turns_more, last_more}
+use Rattle.grasp_node_main.proofs.Histories.{turns_more, last_more, rising_more}
 use Rattle.grasp_node_main.proofs.RootMaking.{made_on, made_nothing}
 use Rattle.grasp_node_main.proofs.Told.{hands_on, tells_more}
 
@@ -31,14 +31,15 @@ exchanged shared wait now a b c readings later x y z w away g t d k = record {
 
 -- no turn yet
 pub looped_none : (shared : Shared) (wait : ℕ) (root : Root) (now : Told) → IsRootOf shared root → Looped shared wait 0 root now 0 root now
-looped_none shared wait root now own = record { turns = []; count_is = refl; now_is = refl; made = made_nothing shared root own; tells = refl }
+looped_none shared wait root now own = record { turns = []; count_is = refl; now_is = refl; made = made_nothing shared root own; tells = refl; rising = tt }
 
 -- one more turn
-pub looped_more : (shared : Shared) (wait count before now : ℕ) (a b c : Root) (x y z : Told) → Looped shared wait count a x before b y → Exchanges shared wait b y now c z → Looped shared wait (count + 1) a x now c z
-looped_more shared wait count before now a b c x y z l e = record {
+pub looped_more : (shared : Shared) (wait count before now : ℕ) (a b c : Root) (x y z : Told) → before ≤ now → Looped shared wait count a x before b y → Exchanges shared wait b y now c z → Looped shared wait (count + 1) a x now c z
+looped_more shared wait count before now a b c x y z later l e = record {
   turns = l.turns ++ e.turn ∷ [];
   count_is = length_push l.turns e.turn ∙ ap (λ n. n + 1) l.count_is;
   now_is = sym e.now_is ∙ sym (last_more 0 l.turns e.turn);
   made = subst (λ h. RootMade shared a h c) (sym (turns_more l.turns e.turn)) (made_on shared a b c (all_turn_calls l.turns) (turn_calls e.turn) l.made e.made);
   tells = tells_more wait x y z l.turns e.turn l.tells e.tells;
+  rising = rising_more 0 l.turns e.turn l.rising (omega (arith, later, l.now_is, e.now_is));
 }

@@ -94,6 +94,7 @@ module _ (shared : Shared) (wait count now : ℕ) (r₀ r₁ r₂ r₃ r₄ : Ro
     last = drain.drained;
     count_is = loop.count_is;
     tells = record { middle = y; turns = loop.tells; readings = refl; hands = drain.hands };
+    rising = loop.rising;
     own = drain.made.own;
     none = no_pass_out;
     mine = loop_made;
@@ -214,5 +215,6 @@ module _ (shared : Shared) (wait count : ℕ) (x y : Told) (r₀ r₄ : Root) (s
         count_is = r.count_is;
         loop = own_loop ∙ r.mine;
         tells = r.tells;
+        rising = r.rising;
         agents = record { same = r.same ∙ stand.same; each = stands_now };
       }

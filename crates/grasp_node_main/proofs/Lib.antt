@@ -16,4 +16,6 @@ pub mod Pushed
 pub mod Reading
 pub mod RootMaking
 pub mod Seating
+pub mod Telling
 pub mod Told
+pub mod WantLines

@@ -76,7 +76,7 @@ handed_alone a b f g o w = (b, g, w, (stays_same b, omega arith))
 
 -- nothing
 pub hands_nothing : (x : LinksTold) → HandsOnly x [] x
-hands_nothing x = record { is_open = refl; plans = stays_same x.plans; asks = stays_at_same x.asks; waits = stays_same x.waits; given = stays_same x.given; handed = (stays_same x.handed, omega arith) }
+hands_nothing x = record { is_open = refl; plans = stays_same x.plans; asks = stays_at_same x.asks; waits = stays_same x.waits; given = stays_same x.given; handed = (stays_same x.handed, omega arith); opened = refl }
 
 -- where links are only handed some outputs and then only handed others, they are only handed all of these
 pub hands_on : (x y z : LinksTold) (os ps : List Output) → HandsOnly x os y → HandsOnly y ps z → HandsOnly x (os ++ ps) z
@@ -87,11 +87,12 @@ hands_on x y z os ps v w = record {
   waits = stays_on x.waits y.waits z.waits v.waits w.waits;
   given = stays_on x.given y.given z.given v.given w.given;
   handed = hands_more x.handed y.handed z.handed x.faults y.faults z.faults os ps v.handed w.handed;
+  opened = w.opened ∙ v.opened;
 }
 
 -- one send
-pub one_sent : (x y : LinksTold) (s : Sent) (o : Output) → y.is_open ≡ x.is_open → Stays x.plans y.plans → StaysAt x.asks y.asks → Stays x.waits y.waits → Stays x.given y.given → Hands x.handed y.handed s o → IsAnswer o s x.faults y.faults → x.faults ≤ y.faults → HandsOnly x (o ∷ []) y
-one_sent x y s o is p a w g h i l = record { is_open = is; plans = p; asks = a; waits = w; given = g; handed = handed_alone x.handed y.handed x.faults y.faults o (handed_one x.handed y.handed x.faults y.faults s o h i l) }
+pub one_sent : (x y : LinksTold) (s : Sent) (o : Output) → y.is_open ≡ x.is_open → Stays x.plans y.plans → StaysAt x.asks y.asks → Stays x.waits y.waits → Stays x.given y.given → Hands x.handed y.handed s o → y.opened ≡ x.opened → IsAnswer o s x.faults y.faults → x.faults ≤ y.faults → HandsOnly x (o ∷ []) y
+one_sent x y s o is p a w g h n i l = record { is_open = is; plans = p; asks = a; waits = w; given = g; handed = handed_alone x.handed y.handed x.faults y.faults o (handed_one x.handed y.handed x.faults y.faults s o h i l); opened = n }
 
 -- ---- turns
 

@@ -1,6 +1,7 @@
 -- How the program ends: the number that it exits with, and the line that it prints on standard error.
-use Rattle.std.specs.Prelude.{ℕ, List, [], ◌++◌, codes}
+use Rattle.std.specs.Prelude.{◌≡◌, ◌⊎◌, ℕ, List, [], ◌++◌, codes}
 use Rattle.grasp_config.specs.Faults.{key_word}
+use Rattle.grasp_config.specs.declared.fault.ConfigKey.{ConfigKey}
 use Rattle.grasp_node_main.specs.declared.exit.Status.{Status}
 use Rattle.grasp_node_main.specs.declared.exit.Status.TheVariants.{Ok, Usage, BadConfig, ReadFault, WriteFault, OutOfMemory, TooLarge, LinkFault}
 
@@ -24,3 +25,8 @@ fault_line_of WriteFault = codes "write fault"
 fault_line_of OutOfMemory = codes "out of memory"
 fault_line_of TooLarge = codes "too large"
 fault_line_of LinkFault = codes "link fault"
+
+-- each status is told by its own line, and by its own number but for the key that is bad
+pub record StatusesAreTold : Type 0 where
+  pub line : (a b : Status) → fault_line_of a ≡ fault_line_of b → a ≡ b
+  pub number : (a b : Status) → number_of a ≡ number_of b → (a ≡ b) ⊎ ((j k : ConfigKey) × (a ≡ BadConfig j) × (b ≡ BadConfig k))

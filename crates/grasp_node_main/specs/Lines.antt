@@ -1,11 +1,11 @@
 -- What a node writes at the end: what its agents hold, want and read. The layout is this project's own.
-use Rattle.std.specs.Prelude.{ℕ, zero, suc, List, [], ◌∷◌, ◌++◌, Option, None, Some, map, codes, decimal}
+use Rattle.std.specs.Prelude.{◌≡◌, ⊤, ℕ, zero, suc, List, [], ◌∷◌, ◌++◌, Option, None, Some, map, codes, decimal}
 use Rattle.grasp_types.specs.Refusal.{refusal_number}
 use Rattle.grasp_types.specs.declared.flood.FloodRead.{FloodRead}
 use Rattle.grasp_agent.specs.Announcing.{ReaderState}
 use Rattle.grasp_agent.specs.declared.want.WantEnd.{WantEnd}
 use Rattle.grasp_agent.specs.declared.want.WantEnd.TheVariants as end
-use Rattle.grasp_types.specs.Prefix.{AddressBlock}
+use Rattle.grasp_types.specs.Prefix.{AddressBlock, IsPrefix}
 use Rattle.grasp_node_main.specs.declared.lines.PoolList.{PoolList}
 use Rattle.grasp_node_main.specs.declared.lines.PoolList.TheVariants.{Held, Reserved, Doubt}
 use Rattle.grasp_pool.specs.Holdings.{Holding}
@@ -82,3 +82,14 @@ worker_text (Reader r) = line_text (codes "read") (read_words r)
 abbrev pub crew_text : List Worker → List ℕ
 crew_text [] = []
 crew_text (w ∷ ws) = worker_text w ++ crew_text ws
+
+-- ---- what the lines tell
+
+-- a prefix that a want ended with is one
+abbrev pub IsEnd : Option WantEnd → Type 0
+IsEnd (Some (end.Held prefix)) = IsPrefix prefix.address prefix.length
+IsEnd _ = ⊤
+
+-- each way in which a want ends, and that it hasn't ended, is told by a line of its own
+abbrev pub WantEndsAreTold : Type 0
+WantEndsAreTold = (w : WantPlan) (a b : Option WantEnd) → IsEnd a → IsEnd b → line_text (codes "want") (want_words w a) ≡ line_text (codes "want") (want_words w b) → a ≡ b

@@ -1,8 +1,9 @@
 -- The program's one call: its words, what it reads, and what it makes of that.
-use Rattle.std.specs.Prelude.{◌≡◌, ◌≤◌, ◌⊎◌, ℕ, Bool, false, List, [], ◌∷◌, Option, None, Some, IfSome, IsTrue, codes, bytes_eq}
+use Rattle.std.specs.Prelude.{◌≡◌, ◌≤◌, ◌<◌, ◌⊎◌, ℕ, Bool, false, List, [], ◌∷◌, length, Option, None, Some, IfSome, IsTrue, codes, bytes_eq}
 use Rattle.std.specs.Io.KnownBytes.{Appends}
-use Rattle.grasp_config.specs.Config.{HasConfig}
+use Rattle.grasp_config.specs.Config.{HasConfig, IsBadText}
 use Rattle.grasp_config.specs.declared.config.NodeConfig.{NodeConfig}
+use Rattle.grasp_config.specs.declared.fault.ConfigKey.{ConfigKey}
 use Rattle.grasp_io.specs.Counted.{StaysAt}
 use Rattle.grasp_io.specs.Known.{AppendsFront}
 use Rattle.grasp_io.specs.Told.{Stays, Grows}
@@ -25,6 +26,41 @@ is_run [] = false
 is_run (word ∷ []) = false
 is_run (word ∷ file ∷ []) = bytes_eq word (codes "run")
 is_run (word ∷ file ∷ other ∷ words) = false
+
+-- ---- what was read
+
+-- what was left to read is this input, where that is known
+abbrev pub IsInput : Option (List ℕ) → List ℕ → Type 0
+IsInput left input = IfSome left (λ all. input ≡ all)
+
+-- some input has P; where it is known what was left to read, it is this one
+pub record SomeInput (left : Option (List ℕ)) (P : List ℕ → Type 0) : Type 0 where
+  pub input : List ℕ
+  pub told : IsInput left input
+  pub holds : P input
+
+-- the text has a configuration
+pub record IsConfigured (text : List ℕ) : Type 0 where
+  pub config : NodeConfig
+  pub has : HasConfig text config
+
+-- it has at most so many bytes as a configuration may have
+abbrev pub IsSmall : List ℕ → Type 0
+IsSmall input = length input ≤ config_limit
+
+-- it has more
+abbrev pub IsLarge : List ℕ → Type 0
+IsLarge input = config_limit < length input
+
+-- the input isn't too large, and has a configuration
+pub record IsConfiguredWithin (input : List ℕ) : Type 0 where
+  pub small : IsSmall input
+  pub is : IsConfigured input
+
+-- the input isn't too large, and this is the first of its keys that is bad
+pub record IsBadWithin (key : ConfigKey) (input : List ℕ) : Type 0 where
+  pub small : IsSmall input
+  pub bad : IsBadText input key
 
 -- ---- how far the program came
 
@@ -96,12 +132,13 @@ IsOkOrMemory (BadConfig key) = ⊥
 
 -- ---- what it did
 
--- nothing was asked of the links, and nothing was given to them; whether they were opened isn't said
+-- nothing was asked of the links, nothing was given to them, and no peer opened a stream; whether they were opened isn't said
 pub record NothingPassed (old new : LinksTold) : Type 0 where
   pub asks : StaysAt old.asks new.asks
   pub waits : Stays old.waits new.waits
   pub given : Stays old.given new.given
   pub handed : Stays old.handed new.handed
+  pub opened : new.opened ≡ old.opened
   pub faults : old.faults ≤ new.faults
 
 -- the links were opened once, with the plan of this configuration, and nothing passed
@@ -124,22 +161,14 @@ pub record RunsConfig (config : NodeConfig) (seed : List ℕ) (old new : Told) (
   pub opens : OpensLinks config old.links opened
   pub runs : RunsPlan plan (record { readings = old.readings; links = opened }) new before after
 
--- what was left to read is this input, where that is known
-abbrev pub IsInput : Option (List ℕ) → List ℕ → Type 0
-IsInput left input = IfSome left (λ all. input ≡ all)
-
--- the input has a configuration, and its node ran
+-- the input isn't too large and has a configuration, and its node ran
 pub record RunsInput (left : Option (List ℕ)) (seed : List ℕ) (old new : Told) (before after : Option (List ℕ)) : Type 0 where
   pub input : List ℕ
   pub told : IsInput left input
+  pub small : IsSmall input
   pub config : NodeConfig
   pub has : HasConfig input config
   pub runs : RunsConfig config seed old new before after
-
--- the text has a configuration
-pub record IsConfigured (text : List ℕ) : Type 0 where
-  pub config : NodeConfig
-  pub has : HasConfig text config
 
 -- ---- where it ended with a fault of writing, or for want of memory
 
@@ -157,34 +186,31 @@ pub record BeginsConfig (config : NodeConfig) (seed : List ℕ) (old new : Told)
   pub opens : OpensLinks config old.links opened
   pub begins : BeginsPlan plan (record { readings = old.readings; links = opened }) new before after
 
--- the input has a configuration, whose node did so
+-- the input isn't too large and has a configuration, whose node did so
 pub record BeginsInput (left : Option (List ℕ)) (seed : List ℕ) (old new : Told) (before after : Option (List ℕ)) : Type 0 where
   pub input : List ℕ
   pub told : IsInput left input
+  pub small : IsSmall input
   pub config : NodeConfig
   pub has : HasConfig input config
   pub begins : BeginsConfig config seed old new before after
 
--- the links were opened, and no turn was made: the clock wasn't read
-pub record OpensConfig (config : NodeConfig) (old new : Told) : Type 0 where
-  pub readings : new.readings ≡ old.readings
-  pub links : OpensLinks config old.links new.links
+-- Inside: no turn was made: the clock is unread, and the links are untouched, or they were opened
+abbrev pub NoTurn : Type 0 → Type 0 → NodeConfig → LinksTold → LinksTold → Type 0
+NoTurn untouched unread config old new = unread × (untouched ⊎ OpensLinks config old new)
 
--- Inside: no turn was made: nothing was touched, or the links were opened
-abbrev pub NoTurn : NodeConfig → Told → Told → Type 0
-NoTurn config old new = (new ≡ old) ⊎ OpensConfig config old new
-
--- the input has a configuration, whose links were opened
-pub record OpensInput (left : Option (List ℕ)) (old new : Told) : Type 0 where
+-- the input isn't too large and has a configuration, whose links were opened
+pub record OpensInput (left : Option (List ℕ)) (old new : LinksTold) : Type 0 where
   pub input : List ℕ
   pub told : IsInput left input
+  pub small : IsSmall input
   pub config : NodeConfig
   pub has : HasConfig input config
-  pub opens : OpensConfig config old new
+  pub opens : OpensLinks config old new
 
--- no turn was made: nothing was touched, or the links of the input's configuration were opened
-abbrev pub NoTurnOfInput : Option (List ℕ) → Told → Told → Type 0
-NoTurnOfInput left old new = (new ≡ old) ⊎ OpensInput left old new
+-- no turn was made: the clock is unread, and the links are untouched, or those of the input's configuration were opened
+abbrev pub NoTurnOfInput : Type 0 → Type 0 → Option (List ℕ) → LinksTold → LinksTold → Type 0
+NoTurnOfInput untouched unread left old new = unread × (untouched ⊎ OpensInput left old new)
 
 -- the links were opened, and then the node of the configuration made its turns, in which agents may have stopped
 pub record TurnsOfConfig (config : NodeConfig) (seed : List ℕ) (old new : Told) : Type 0 where
@@ -194,14 +220,31 @@ pub record TurnsOfConfig (config : NodeConfig) (seed : List ℕ) (old new : Told
   pub opens : OpensLinks config old.links opened
   pub ran : Ran plan (record { readings = old.readings; links = opened }) new None
 
--- the input has a configuration, whose node did so
+-- the input isn't too large and has a configuration, whose node did so
 pub record TurnsOfInput (left : Option (List ℕ)) (seed : List ℕ) (old new : Told) : Type 0 where
   pub input : List ℕ
   pub told : IsInput left input
+  pub small : IsSmall input
   pub config : NodeConfig
   pub has : HasConfig input config
   pub turns : TurnsOfConfig config seed old new
 
 -- no turn was made, or all turns of the input's node were
-abbrev pub NoneOrAllTurns : Option (List ℕ) → List ℕ → Told → Told → Type 0
-NoneOrAllTurns left seed old new = NoTurnOfInput left old new ⊎ TurnsOfInput left seed old new
+abbrev pub NoneOrAllTurns : Type 0 → Type 0 → Option (List ℕ) → List ℕ → Told → Told → Type 0
+NoneOrAllTurns untouched unread left seed old new = NoTurnOfInput untouched unread left old.links new.links ⊎ TurnsOfInput left seed old new
+
+-- ---- how it ends where no read fails
+
+-- an input that is too large is refused, unless memory is wanted
+abbrev pub EndsLarge : Status → List ℕ → Type 0
+EndsLarge ended input = IsLarge input → (ended ≡ TooLarge) ⊎ (ended ≡ OutOfMemory)
+
+-- so is one with a bad key, which is told
+abbrev pub EndsBadly : Status → List ℕ → Type 0
+EndsBadly ended input = (key : ConfigKey) → IsSmall input → IsBadText input key → (ended ≡ BadConfig key) ⊎ (ended ≡ OutOfMemory)
+
+-- one that has a configuration is run to the end of its node, unless memory is wanted; and the others are refused
+pub record EndsSo (ended : Status) (input : List ℕ) : Type 0 where
+  pub large : EndsLarge ended input
+  pub bad : EndsBadly ended input
+  pub well : IsSmall input → IsConfigured input → IsOkOrMemory ended

@@ -8,7 +8,7 @@ use Rattle.grasp_node_main.specs.Crew.{crew_of, AgentsMade, AllMade, crew_after}
 use Rattle.grasp_shared.specs.History.{History, IsLegalHistory, own_calls}
 use Rattle.grasp_node_main.specs.Openings.{openings}
 use Rattle.grasp_node_main.specs.Tells.{Told, TellsRun}
-use Rattle.grasp_node_main.specs.Turns.{Turn, loop_calls}
+use Rattle.grasp_node_main.specs.Turns.{Turn, loop_calls, NeverFall}
 use Rattle.grasp_node_main.specs.declared.daemon.Daemon.{Daemon}
 use Rattle.grasp_node_main.specs.declared.plan.DaemonPlan.{DaemonPlan}
 use Rattle.grasp_node_main.specs.declared.seated_agent.SeatedAgent.{SeatedAgent}
@@ -22,7 +22,7 @@ EndsAs plan history (Some workers) = AllMade (crew_of plan) history plan.turns �
 -- The node of the plan was opened and made all its turns. Its history begins with the opening calls, before which nothing came in
 -- and no other agent called. Of what follows, which is legal too, each entry is a call of the loop or of an agent. The loop's own
 -- calls are those of the turns and the last drain; and what the links and the clock told before and tell afterwards is that of these
--- turns. Each agent's own calls are the first that it makes once the node is opened, at most one in each turn.
+-- turns, whose readings never fall. Each agent's own calls are the first that it makes once the node is opened, at most one in each turn.
 pub record Ran (plan : DaemonPlan) (old new : Told) (workers : Option (List Worker)) : Type 0 where
   pub opened : NodeState
   pub opening : IsLegalHistory (first_node plan.node) openings opened
@@ -35,6 +35,7 @@ pub record Ran (plan : DaemonPlan) (old new : Told) (workers : Option (List Work
   pub count : length turns ≡ plan.turns
   pub loop : own_calls 0 history ≡ loop_calls turns last
   pub tells : TellsRun plan.wait old turns last new
+  pub rising : NeverFall 0 turns
   pub agents : AgentsMade (crew_of plan) history plan.turns
   pub ends : EndsAs plan history workers
 
@@ -46,7 +47,7 @@ workers_of seats = map (λ s. s.worker) seats
 abbrev pub AllGoing : List SeatedAgent → Type 0
 AllGoing seats = (place : ℕ) (s : SeatedAgent) → slice_get seats place ≡ Some s → s.stopped ≡ false
 
--- the node ran, and its agents are now so; or memory was wanted, before the first turn or later
-abbrev pub RunsNode : DaemonPlan → Told → Result Daemon OutOfMemory → Told → Type 0
-RunsNode plan old (Ok d) new = Ran plan old new (Some (workers_of d.seats.items))
-RunsNode plan old (Err fault) new = (new ≡ old) ⊎ Ran plan old new None
+-- the node ran, and its agents are now so; or memory was wanted, before the first turn, where nothing is touched, or later
+abbrev pub RunsNode : Type 0 → DaemonPlan → Told → Result Daemon OutOfMemory → Told → Type 0
+RunsNode untouched plan old (Ok d) new = Ran plan old new (Some (workers_of d.seats.items))
+RunsNode untouched plan old (Err fault) new = untouched ⊎ Ran plan old new None

@@ -14,7 +14,7 @@ use Rattle.grasp_node_main.specs.Roots.{RootMade}
 use Rattle.grasp_node_main.specs.Seats.{SeatsStand}
 use Rattle.grasp_node_main.specs.Sharing.{Went, IsLeft, keeps}
 use Rattle.grasp_node_main.specs.Tells.{LinksTold, Told, AsksOnce, asked_in, HandsOnly, TellsTurn, TellsTurns, TellsRun}
-use Rattle.grasp_node_main.specs.Turns.{Asking, got, Turn, turn_calls, all_turn_calls, loop_calls, loop_call, asking_calls, closed_again, outputs_in, closings, last_reading}
+use Rattle.grasp_node_main.specs.Turns.{Asking, got, Turn, turn_calls, all_turn_calls, loop_calls, loop_call, asking_calls, closed_again, outputs_in, closings, last_reading, NeverFall}
 use Rattle.grasp_node_main.specs.declared.daemon.Daemon.{Daemon}
 use Rattle.grasp_node_main.specs.declared.seated_agent.SeatedAgent.{SeatedAgent}
 use Rattle.grasp_node_main.specs.declared.worker.Worker.{Worker}
@@ -56,6 +56,7 @@ pub record Looped (shared : Shared) (wait count : ℕ) (root : Root) (old : Told
   pub now_is : now ≡ last_reading 0 turns
   pub made : RootMade shared root (all_turn_calls turns) root_after
   pub tells : TellsTurns wait old turns new
+  pub rising : NeverFall 0 turns
 
 -- the node made all its turns, and its agents are now so
 pub record RanSeats (from : NodeState) (crew : List Worker) (wait count : ℕ) (old : Told) (seats : List SeatedAgent) (new : Told) : Type 0 where
@@ -68,12 +69,13 @@ pub record RanSeats (from : NodeState) (crew : List Worker) (wait count : ℕ) (
   pub count_is : length turns ≡ count
   pub loop : own_calls 0 history ≡ loop_calls turns last
   pub tells : TellsRun wait old turns last new
+  pub rising : NeverFall 0 turns
   pub agents : SeatsStand crew history count seats
 
--- the node made all its turns, and its agents are now so; or there was no memory, and what links and clock report is unchanged
-abbrev pub RunsSeats : NodeState → List Worker → ℕ → ℕ → Told → Result Daemon OutOfMemory → Told → Type 0
-RunsSeats from crew wait count old (Ok d) new = RanSeats from crew wait count old d.seats.items new
-RunsSeats from crew wait count old (Err fault) new = new ≡ old
+-- the node made all its turns, and its agents are now so; or there was no memory, and nothing is touched
+abbrev pub RunsSeats : Type 0 → NodeState → List Worker → ℕ → ℕ → Told → Result Daemon OutOfMemory → Told → Type 0
+RunsSeats untouched from crew wait count old (Ok d) new = RanSeats from crew wait count old d.seats.items new
+RunsSeats untouched from crew wait count old (Err fault) new = untouched
 
 -- Inside: The same, as the root tells it once all passes were given back and the last drain was made. The passes were those of
 -- `ready`.
@@ -82,6 +84,7 @@ pub record RanShared (shared : Shared) (wait count : ℕ) (old : Told) (before :
   pub last : Reply
   pub count_is : length turns ≡ count
   pub tells : TellsRun wait old turns last new
+  pub rising : NeverFall 0 turns
   pub own : IsRootOf shared after
   pub none : out_of after ≡ 0
   pub mine : (root_view after).mine ≡ loop_calls turns last

@@ -3,7 +3,7 @@ use Rattle.std.specs.Prelude.{◌≡◌, ◌≤◌, ◌⊎◌, ℕ, Bool, List, 
 use Rattle.grasp_io.specs.Counted.{StaysAt, CountsOne}
 use Rattle.grasp_io.specs.Faults.{Rose}
 use Rattle.grasp_io.specs.Told.{Stays, Grows}
-use Rattle.grasp_io.specs.Links.{Waits, Gives}
+use Rattle.grasp_io.specs.Links.{Waits, Gives, IsNext}
 use Rattle.grasp_io.specs.declared.links.Asked.{Asked}
 use Rattle.grasp_io.specs.declared.links.Asked.TheVariants as asked
 use Rattle.grasp_io.specs.declared.links.LinkPlan.{LinkPlan}
@@ -13,7 +13,7 @@ use Rattle.grasp_types.specs.declared.traffic.Input.{Input}
 use Rattle.grasp_types.specs.declared.traffic.Output.{Output}
 use Rattle.grasp_node_main.specs.Turns.{Asking, got, nothing, no_memory, Turn, turn_outputs, outputs_in}
 
--- what links tell: whether they are open, the plans that they were opened with, how often they were asked, the waits of the asks, the inputs given and the outputs handed over so far, and how often they failed
+-- what links tell: whether they are open, the plans that they were opened with, how often they were asked, the waits of the asks, the inputs given and the outputs handed over so far, how many streams peers have opened, and how often they failed
 pub record LinksTold : Type 0 where
   pub is_open : Bool
   pub plans : Option (List LinkPlan)
@@ -21,6 +21,7 @@ pub record LinksTold : Type 0 where
   pub waits : Option (List ℕ)
   pub given : Option (List Input)
   pub handed : Option (List Output)
+  pub opened : ℕ
   pub faults : ℕ
 
 -- what the links report, and the readings that the clock gave so far
@@ -37,6 +38,7 @@ links_told ghosts l = record {
   waits = ghosts.waits l;
   given = ghosts.given l;
   handed = ghosts.handed l;
+  opened = ghosts.opened l;
   faults = ghosts.faults l;
 }
 
@@ -58,7 +60,8 @@ asked_in (got i r) = asked.Got i
 asked_in nothing = asked.Nothing
 asked_in no_memory = asked.OutOfMemory
 
--- the links were asked once, with this wait, and that came of it; nothing was opened or handed over
+-- the links were asked once, with this wait, and that came of it: no call and no drain, and a stream that a peer opened has the next odd
+-- number; nothing was opened or handed over
 pub record AsksOnce (wait : ℕ) (old : LinksTold) (came : Asked) (new : LinksTold) : Type 0 where
   pub is_open : new.is_open ≡ old.is_open
   pub plans : Stays old.plans new.plans
@@ -66,6 +69,7 @@ pub record AsksOnce (wait : ℕ) (old : LinksTold) (came : Asked) (new : LinksTo
   pub waits : Waits old.waits new.waits came wait
   pub given : Gives old.given new.given came
   pub handed : Stays old.handed new.handed
+  pub next : IsNext old.opened new.opened came
   pub faults : old.faults ≤ new.faults
 
 -- the links were handed these outputs, and nothing was opened or asked
@@ -76,6 +80,7 @@ pub record HandsOnly (old : LinksTold) (outputs : List Output) (new : LinksTold)
   pub waits : Stays old.waits new.waits
   pub given : Stays old.given new.given
   pub handed : HandsAll old.handed old.faults outputs new.handed new.faults
+  pub opened : new.opened ≡ old.opened
 
 -- in a turn the clock was read once, then the links were asked once, and then the turn's outputs were handed over
 pub record TellsTurn (wait : ℕ) (old : Told) (t : Turn) (new : Told) : Type 0 where

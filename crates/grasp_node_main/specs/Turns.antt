@@ -1,5 +1,5 @@
 -- The turns of a node's network loop: its calls, and what it hands to the links.
-use Rattle.std.specs.Prelude.{ℕ, Bool, true, false, if◌then◌else◌, List, [], ◌∷◌, ◌++◌, Option, None, Some}
+use Rattle.std.specs.Prelude.{◌≤◌, ℕ, Bool, true, false, if◌then◌else◌, List, [], ◌∷◌, ◌++◌, Option, None, Some}
 use Rattle.grasp_types.specs.declared.reply.Reply.{Reply}
 use Rattle.grasp_types.specs.declared.reply.Reply.TheVariants as reply
 use Rattle.grasp_types.specs.declared.traffic.Input.{Input}
@@ -43,6 +43,11 @@ all_turn_calls (t ∷ ts) = turn_calls t ++ all_turn_calls ts
 abbrev pub last_reading : ℕ → List Turn → ℕ
 last_reading now [] = now
 last_reading now (t ∷ ts) = last_reading t.now ts
+
+-- the readings of the turns never fall, and the first isn't before this one
+abbrev pub NeverFall : ℕ → List Turn → Type 0
+NeverFall now [] = Unit {0}
+NeverFall now (t ∷ ts) = (now ≤ t.now) × NeverFall t.now ts
 
 -- the calls of the turns, and then a drain of at most 320 outputs with the last reading
 abbrev pub loop_calls : List Turn → Reply → History

@@ -45,8 +45,8 @@ impl Daemon {
     ) -> Result<Daemon, OutOfMemory>
         requires { length self.seats.items < 4294967294 }
         ensures { (from : NodeState) (crew : List Worker) → Reaches from [] self.core → SeatsStand crew [] 0 self.seats.items
-            → RunsSeats from crew wait turns (told (C.readings clock.old) (links_told L.Links links.old)) result
-            (told (C.readings clock.new) (links_told L.Links links.new)) }
+            → RunsSeats ((links.new ≡ links.old) × (clock.new ≡ clock.old)) from crew wait turns
+            (told (C.readings clock.old) (links_told L.Links links.old)) result (told (C.readings clock.new) (links_told L.Links links.new)) }
     {
         let Daemon { core, mut seats } = self;
         match Shared::open(alloc, core) {

@@ -1,6 +1,6 @@
 //! What a turn exchanges with the links.
 
-ghost use Rattle.std.specs.Prelude.{◌≡◌};
+ghost use Rattle.std.specs.Prelude.{◌≡◌, ◌≤◌};
 ghost use Rattle.grasp_shared.specs.Handles.{IsRootOf, out_of};
 ghost use Rattle.grasp_node_main.specs.Steps.{TakesIn, GivesIn, DrainsOut, Exchanges};
 ghost use Rattle.grasp_node_main.specs.Tells.{links_told, told};
@@ -27,8 +27,10 @@ pub(crate) fn exchange<R: Wait, L: Links, C: Clock>(
     clock: &mut C,
 ) -> u64
     requires { IsRootOf shared.now root.old }
-    ensures { Exchanges shared.now wait root.old (told (C.readings clock.old) (links_told L.Links links.old)) result root.new
+    ensures exchanges { Exchanges shared.now wait root.old (told (C.readings clock.old) (links_told L.Links links.old)) result root.new
         (told (C.readings clock.new) (links_told L.Links links.new)) }
+    ensures later { C.latest clock.old ≤ result }
+    ensures latest { C.latest clock.new ≡ result }
 {
     let now = clock.now();
     let away = take_in(rt, shared, now, wait, root, links);

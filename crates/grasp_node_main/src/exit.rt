@@ -5,7 +5,7 @@ ghost use Rattle.grasp_config.specs.Faults.{key_word};
 ghost use Rattle.grasp_node_main.specs.Exits.{number_of, fault_line_of};
 
 use grasp_cbor::{Chars, OutOfMemory};
-use grasp_config::{ConfigKey, key_word};
+use grasp_config::ConfigKey;
 use std::alloc::Global;
 
 /// How a call of the program ended.
@@ -48,26 +48,44 @@ impl Status {
 }
 
 /// The line for standard error, without a line end. It is empty for `Ok`.
-pub fn fault_line(alloc: Global, status: &Status) -> Result<Chars, OutOfMemory>
-    ensures { IfOk result (λ line. line ≡ fault_line_of status.now) }
+pub fn fault_text(status: &Status) -> &'static str
+    ensures { result.now ≡ fault_line_of status.now }
 {
     match status {
-        Status::Ok => Ok(Chars::new(alloc)),
-        Status::Usage => Chars::of(alloc, "usage: grasp_node run FILE"),
-        Status::BadConfig { key } => key_line(alloc, *key),
-        Status::ReadFault => Chars::of(alloc, "read fault"),
-        Status::WriteFault => Chars::of(alloc, "write fault"),
-        Status::OutOfMemory => Chars::of(alloc, "out of memory"),
-        Status::TooLarge => Chars::of(alloc, "too large"),
-        Status::LinkFault => Chars::of(alloc, "link fault"),
+        Status::Ok => "",
+        Status::Usage => "usage: grasp_node run FILE",
+        Status::BadConfig { key } => key_text(*key),
+        Status::ReadFault => "read fault",
+        Status::WriteFault => "write fault",
+        Status::OutOfMemory => "out of memory",
+        Status::TooLarge => "too large",
+        Status::LinkFault => "link fault",
     }
 }
 
 /// The line of a bad key.
-fn key_line(alloc: Global, key: ConfigKey) -> Result<Chars, OutOfMemory>
-    ensures { IfOk result (λ line. line ≡ codes "bad config: " ++ key_word key) }
+fn key_text(key: ConfigKey) -> &'static str
+    ensures { result.now ≡ codes "bad config: " ++ key_word key }
 {
-    let mut line = Chars::of(alloc, "bad config: ")?;
-    line.append(key_word(key))?;
-    Ok(line)
+    match key {
+        ConfigKey::Address => "bad config: address",
+        ConfigKey::Listen => "bad config: listen",
+        ConfigKey::Turns => "bad config: turns",
+        ConfigKey::Wait => "bad config: wait",
+        ConfigKey::Size => "bad config: size",
+        ConfigKey::Roots => "bad config: roots",
+        ConfigKey::Link => "bad config: link",
+        ConfigKey::Want => "bad config: want",
+        ConfigKey::Beacon => "bad config: beacon",
+        ConfigKey::Reader => "bad config: reader",
+        ConfigKey::Unknown => "bad config: unknown",
+        ConfigKey::Toml => "bad config: toml",
+    }
+}
+
+/// A copy of that line.
+pub fn fault_line(alloc: Global, status: &Status) -> Result<Chars, OutOfMemory>
+    ensures { IfOk result (λ line. line ≡ fault_line_of status.now) }
+{
+    Chars::of(alloc, fault_text(status))
 }

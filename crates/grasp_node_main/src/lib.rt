@@ -30,11 +30,11 @@ mod words;
 mod worker;
 
 pub use daemon::Daemon;
-pub use exit::{Status, fault_line};
+pub use exit::{Status, fault_line, fault_text};
 pub use first_calls::open_agent;
 pub use gate::{Gate, OpenGate};
 pub use handing::{ask_once, away_of, close_again, hand_over, opened, send_all};
-pub use laws::nodes_open_as_seats;
+pub use laws::{nodes_open_as_seats, statuses_are_told, want_ends_are_told};
 pub use lines::text_of;
 pub use manager::Manager;
 pub use named_reader::NamedReader;

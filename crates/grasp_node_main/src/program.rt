@@ -1,17 +1,16 @@
 //! The program's one call.
 
-ghost use Rattle.std.specs.Prelude.{◌≡◌, ◌≢◌, ◌≤◌, ◌<◌, ◌⊎◌, true, false, [], length, map, string_bytes, None, Some, IfSome};
+ghost use Rattle.std.specs.Prelude.{◌≡◌, ◌≢◌, ◌<◌, ◌⊎◌, true, false, [], length, map, string_bytes, None, Some, IfSome};
 ghost use Rattle.std.specs.Io.KnownBytes.{Appends};
-ghost use Rattle.grasp_config.specs.Config.{IsBadText};
 ghost use Rattle.grasp_config.specs.Laws.{IsInRange};
 ghost use Rattle.grasp_config.specs.declared.fault.ConfigKey.{ConfigKey};
 ghost use Rattle.grasp_io.specs.Faults.{Rose};
-ghost use Rattle.grasp_io.specs.Known.{AppendsFront};
+ghost use Rattle.grasp_io.specs.Known.{AppendsFront, IsEndOf};
 ghost use Rattle.grasp_io.specs.Told.{Stays};
 ghost use Rattle.grasp_node_main.specs.Lines.{crew_text};
-ghost use Rattle.grasp_node_main.specs.Program.{config_limit, is_run, IsBeforeLinks, IsAfterConfig, IsAfterInput, IsOfConfig, IsOfTurns};
-ghost use Rattle.grasp_node_main.specs.Program.{IsOkOrMemory, NothingPassed, RunsPlan, RunsConfig, RunsInput, BeginsPlan, BeginsConfig, BeginsInput};
-ghost use Rattle.grasp_node_main.specs.Program.{NoTurn, TurnsOfConfig, NoneOrAllTurns, IsConfigured};
+ghost use Rattle.grasp_node_main.specs.Program.{is_run, SomeInput, IsSmall, IsLarge, IsBadWithin, IsConfiguredWithin, IsBeforeLinks, IsAfterConfig};
+ghost use Rattle.grasp_node_main.specs.Program.{IsAfterInput, IsOfConfig, IsOfTurns, NothingPassed, RunsPlan, RunsConfig, RunsInput, BeginsPlan};
+ghost use Rattle.grasp_node_main.specs.Program.{BeginsConfig, BeginsInput, NoTurn, TurnsOfConfig, NoneOrAllTurns, EndsSo, EndsBadly, EndsLarge};
 ghost use Rattle.grasp_node_main.specs.Runs.{Ran, workers_of};
 ghost use Rattle.grasp_node_main.specs.Tells.{links_told, told};
 
@@ -57,13 +56,15 @@ pub fn node_main<R: Threads + Wait + Sync, S: Source, K: Sink, L: Links, C: Cloc
     ensures no_usage { is_run (map string_bytes words.now) ≡ true → result ≢ Status.Usage }
     ensures unread { result ≡ Status.Usage → source.new ≡ source.old }
 
-    // Then the configuration is read to its end, at most 65,536 bytes.
+    // Then the configuration is read to its end, at most 65,536 bytes. What is so of it is so of some input; where the source tells
+    // what it has left to read, it is that one.
     ensures read_fault { result ≡ Status.ReadFault → Rose (S.faults source.old) (S.faults source.new) }
-    ensures too_large { result ≡ Status.TooLarge → IfSome (S.left source.old) (λ input. config_limit < length input) }
-    ensures small { IsAfterInput result → IfSome (S.left source.old) (λ input. length input ≤ config_limit) }
+    ensures too_large { result ≡ Status.TooLarge → SomeInput (S.left source.old) IsLarge }
+    ensures small { IsAfterInput result → SomeInput (S.left source.old) IsSmall }
     ensures read_to_end { IsAfterInput result → IfSome (S.left source.old) (λ _. S.left source.new ≡ Some []) }
-    ensures bad_config { (key : ConfigKey) → result ≡ Status.BadConfig key → IfSome (S.left source.old) (λ input. IsBadText input key) }
-    ensures configured { IsAfterConfig result → IfSome (S.left source.old) (λ input. IsConfigured input) }
+    ensures rest { IsEndOf (S.left source.old) (S.left source.new) }
+    ensures bad_config { (key : ConfigKey) → result ≡ Status.BadConfig key → SomeInput (S.left source.old) (IsBadWithin key) }
+    ensures configured { IsAfterConfig result → SomeInput (S.left source.old) IsConfiguredWithin }
     ensures untouched { IsBeforeLinks result → links.new ≡ links.old }
     ensures clock_untouched { IsBeforeLinks result → clock.new ≡ clock.old }
 
@@ -81,18 +82,17 @@ pub fn node_main<R: Threads + Wait + Sync, S: Source, K: Sink, L: Links, C: Cloc
     ensures begun { result ≡ Status.WriteFault → BeginsInput (S.left source.old) seed (told (C.readings clock.old) (links_told L.Links links.old))
         (told (C.readings clock.new) (links_told L.Links links.new)) (K.written sink.old) (K.written sink.new) }
     ensures unwritten { result ≢ Status.Ok → result ≢ Status.WriteFault → sink.new ≡ sink.old }
-    ensures memory { result ≡ Status.OutOfMemory → NoneOrAllTurns (S.left source.old) seed (told (C.readings clock.old) (links_told L.Links links.old))
-        (told (C.readings clock.new) (links_told L.Links links.new)) }
+    ensures memory { result ≡ Status.OutOfMemory → NoneOrAllTurns (links.new ≡ links.old) (clock.new ≡ clock.old) (S.left source.old) seed
+        (told (C.readings clock.old) (links_told L.Links links.old)) (told (C.readings clock.new) (links_told L.Links links.new)) }
 
     // Where nothing outside fails, the input alone decides, unless memory is wanted.
     ensures complete { is_run (map string_bytes words.now) ≡ true → ¬ Rose (S.faults source.old) (S.faults source.new)
         → ¬ Rose (L.faults links.old) (L.faults links.new) → ¬ Rose (K.faults sink.old) (K.faults sink.new)
-        → IfSome (S.left source.old) (λ input. length input ≤ config_limit → IsConfigured input → IsOkOrMemory result) }
-    ensures complete_bad { (key : ConfigKey) → is_run (map string_bytes words.now) ≡ true → ¬ Rose (S.faults source.old) (S.faults source.new)
-        → IfSome (S.left source.old) (λ input. length input ≤ config_limit → IsBadText input key
-        → (result ≡ Status.BadConfig key) ⊎ (result ≡ Status.OutOfMemory)) }
+        → SomeInput (S.left source.old) (EndsSo result) }
+    ensures complete_bad { is_run (map string_bytes words.now) ≡ true → ¬ Rose (S.faults source.old) (S.faults source.new)
+        → SomeInput (S.left source.old) (EndsBadly result) }
     ensures complete_large { is_run (map string_bytes words.now) ≡ true → ¬ Rose (S.faults source.old) (S.faults source.new)
-        → IfSome (S.left source.old) (λ input. config_limit < length input → (result ≡ Status.TooLarge) ⊎ (result ≡ Status.OutOfMemory)) }
+        → SomeInput (S.left source.old) (EndsLarge result) }
 {
     node_run(
         rt, alloc, words, source, sink, links, clock, seed, &OpenGate,
@@ -116,13 +116,15 @@ pub fn node_run<R: Threads + Wait + Sync, S: Source, K: Sink, L: Links, C: Clock
     ensures no_usage { is_run (map string_bytes words.now) ≡ true → result ≢ Status.Usage }
     ensures unread { result ≡ Status.Usage → source.new ≡ source.old }
 
-    // Then the configuration is read to its end, at most 65,536 bytes.
+    // Then the configuration is read to its end, at most 65,536 bytes. What is so of it is so of some input; where the source tells
+    // what it has left to read, it is that one.
     ensures read_fault { result ≡ Status.ReadFault → Rose (S.faults source.old) (S.faults source.new) }
-    ensures too_large { result ≡ Status.TooLarge → IfSome (S.left source.old) (λ input. config_limit < length input) }
-    ensures small { IsAfterInput result → IfSome (S.left source.old) (λ input. length input ≤ config_limit) }
+    ensures too_large { result ≡ Status.TooLarge → SomeInput (S.left source.old) IsLarge }
+    ensures small { IsAfterInput result → SomeInput (S.left source.old) IsSmall }
     ensures read_to_end { IsAfterInput result → IfSome (S.left source.old) (λ _. S.left source.new ≡ Some []) }
-    ensures bad_config { (key : ConfigKey) → result ≡ Status.BadConfig key → IfSome (S.left source.old) (λ input. IsBadText input key) }
-    ensures configured { IsAfterConfig result → IfSome (S.left source.old) (λ input. IsConfigured input) }
+    ensures rest { IsEndOf (S.left source.old) (S.left source.new) }
+    ensures bad_config { (key : ConfigKey) → result ≡ Status.BadConfig key → SomeInput (S.left source.old) (IsBadWithin key) }
+    ensures configured { IsAfterConfig result → SomeInput (S.left source.old) IsConfiguredWithin }
     ensures untouched { IsBeforeLinks result → links.new ≡ links.old }
     ensures clock_untouched { IsBeforeLinks result → clock.new ≡ clock.old }
 
@@ -140,18 +142,17 @@ pub fn node_run<R: Threads + Wait + Sync, S: Source, K: Sink, L: Links, C: Clock
     ensures begun { result ≡ Status.WriteFault → BeginsInput (S.left source.old) seed (told (C.readings clock.old) (links_told L.Links links.old))
         (told (C.readings clock.new) (links_told L.Links links.new)) (K.written sink.old) (K.written sink.new) }
     ensures unwritten { result ≢ Status.Ok → result ≢ Status.WriteFault → sink.new ≡ sink.old }
-    ensures memory { result ≡ Status.OutOfMemory → NoneOrAllTurns (S.left source.old) seed (told (C.readings clock.old) (links_told L.Links links.old))
-        (told (C.readings clock.new) (links_told L.Links links.new)) }
+    ensures memory { result ≡ Status.OutOfMemory → NoneOrAllTurns (links.new ≡ links.old) (clock.new ≡ clock.old) (S.left source.old) seed
+        (told (C.readings clock.old) (links_told L.Links links.old)) (told (C.readings clock.new) (links_told L.Links links.new)) }
 
     // Where nothing outside fails, the input alone decides, unless memory is wanted.
     ensures complete { is_run (map string_bytes words.now) ≡ true → ¬ Rose (S.faults source.old) (S.faults source.new)
         → ¬ Rose (L.faults links.old) (L.faults links.new) → ¬ Rose (K.faults sink.old) (K.faults sink.new)
-        → IfSome (S.left source.old) (λ input. length input ≤ config_limit → IsConfigured input → IsOkOrMemory result) }
-    ensures complete_bad { (key : ConfigKey) → is_run (map string_bytes words.now) ≡ true → ¬ Rose (S.faults source.old) (S.faults source.new)
-        → IfSome (S.left source.old) (λ input. length input ≤ config_limit → IsBadText input key
-        → (result ≡ Status.BadConfig key) ⊎ (result ≡ Status.OutOfMemory)) }
+        → SomeInput (S.left source.old) (EndsSo result) }
+    ensures complete_bad { is_run (map string_bytes words.now) ≡ true → ¬ Rose (S.faults source.old) (S.faults source.new)
+        → SomeInput (S.left source.old) (EndsBadly result) }
     ensures complete_large { is_run (map string_bytes words.now) ≡ true → ¬ Rose (S.faults source.old) (S.faults source.new)
-        → IfSome (S.left source.old) (λ input. config_limit < length input → (result ≡ Status.TooLarge) ⊎ (result ≡ Status.OutOfMemory)) }
+        → SomeInput (S.left source.old) (EndsLarge result) }
 {
     if is_run(words) {
         configs_have_no_bad_key();
@@ -186,11 +187,12 @@ fn run_input<R: Threads + Wait + Sync, S: Source, K: Sink, L: Links, C: Clock, G
 ) -> Status
     ensures no_usage { result ≢ Status.Usage }
     ensures read_fault { result ≡ Status.ReadFault → Rose (S.faults source.old) (S.faults source.new) }
-    ensures too_large { result ≡ Status.TooLarge → IfSome (S.left source.old) (λ input. config_limit < length input) }
-    ensures small { IsAfterInput result → IfSome (S.left source.old) (λ input. length input ≤ config_limit) }
+    ensures too_large { result ≡ Status.TooLarge → SomeInput (S.left source.old) IsLarge }
+    ensures small { IsAfterInput result → SomeInput (S.left source.old) IsSmall }
     ensures read_to_end { IsAfterInput result → IfSome (S.left source.old) (λ _. S.left source.new ≡ Some []) }
-    ensures bad_config { (key : ConfigKey) → result ≡ Status.BadConfig key → IfSome (S.left source.old) (λ input. IsBadText input key) }
-    ensures configured { IsAfterConfig result → IfSome (S.left source.old) (λ input. IsConfigured input) }
+    ensures rest { IsEndOf (S.left source.old) (S.left source.new) }
+    ensures bad_config { (key : ConfigKey) → result ≡ Status.BadConfig key → SomeInput (S.left source.old) (IsBadWithin key) }
+    ensures configured { IsAfterConfig result → SomeInput (S.left source.old) IsConfiguredWithin }
     ensures untouched { IsBeforeLinks result → links.new ≡ links.old }
     ensures clock_untouched { IsBeforeLinks result → clock.new ≡ clock.old }
     ensures link_fault { result ≡ Status.LinkFault → Rose (L.faults links.old) (L.faults links.new) }
@@ -203,8 +205,8 @@ fn run_input<R: Threads + Wait + Sync, S: Source, K: Sink, L: Links, C: Clock, G
     ensures begun { result ≡ Status.WriteFault → BeginsInput (S.left source.old) seed (told (C.readings clock.old) (links_told L.Links links.old))
         (told (C.readings clock.new) (links_told L.Links links.new)) (K.written sink.old) (K.written sink.new) }
     ensures unwritten { result ≢ Status.Ok → result ≢ Status.WriteFault → sink.new ≡ sink.old }
-    ensures memory { result ≡ Status.OutOfMemory → NoneOrAllTurns (S.left source.old) seed (told (C.readings clock.old) (links_told L.Links links.old))
-        (told (C.readings clock.new) (links_told L.Links links.new)) }
+    ensures memory { result ≡ Status.OutOfMemory → NoneOrAllTurns (links.new ≡ links.old) (clock.new ≡ clock.old) (S.left source.old) seed
+        (told (C.readings clock.old) (links_told L.Links links.old)) (told (C.readings clock.new) (links_told L.Links links.new)) }
 {
     let input = match read_all(alloc, source, CONFIG_LIMIT) {
         Ok(input) => input,
@@ -244,8 +246,8 @@ fn run_config<R: Threads + Wait + Sync, K: Sink, L: Links, C: Clock, G: Gate + S
     ensures begun { result ≡ Status.WriteFault → BeginsConfig config seed (told (C.readings clock.old) (links_told L.Links links.old))
         (told (C.readings clock.new) (links_told L.Links links.new)) (K.written sink.old) (K.written sink.new) }
     ensures unwritten { result ≢ Status.Ok → result ≢ Status.WriteFault → sink.new ≡ sink.old }
-    ensures memory { result ≡ Status.OutOfMemory → NoTurn config (told (C.readings clock.old) (links_told L.Links links.old))
-        (told (C.readings clock.new) (links_told L.Links links.new)) ⊎ TurnsOfConfig config seed (told (C.readings clock.old) (links_told L.Links links.old))
+    ensures memory { result ≡ Status.OutOfMemory → NoTurn (links.new ≡ links.old) (clock.new ≡ clock.old) config (links_told L.Links links.old)
+        (links_told L.Links links.new) ⊎ TurnsOfConfig config seed (told (C.readings clock.old) (links_told L.Links links.old))
         (told (C.readings clock.new) (links_told L.Links links.new)) }
 {
     let Ok(joining) = link_plan(&config) else {
@@ -280,9 +282,8 @@ fn run_plan<R: Threads + Wait + Sync, K: Sink, L: Links, C: Clock, G: Gate + Syn
     ensures begun { result ≡ Status.WriteFault → BeginsPlan plan (told (C.readings clock.old) (links_told L.Links links.old))
         (told (C.readings clock.new) (links_told L.Links links.new)) (K.written sink.old) (K.written sink.new) }
     ensures unwritten { result ≡ Status.OutOfMemory → sink.new ≡ sink.old }
-    ensures memory { result ≡ Status.OutOfMemory → ((told (C.readings clock.new) (links_told L.Links links.new)) ≡
-        (told (C.readings clock.old) (links_told L.Links links.old))) ⊎ Ran plan (told (C.readings clock.old) (links_told L.Links links.old))
-        (told (C.readings clock.new) (links_told L.Links links.new)) None }
+    ensures memory { result ≡ Status.OutOfMemory → ((links.new ≡ links.old) × (clock.new ≡ clock.old))
+        ⊎ Ran plan (told (C.readings clock.old) (links_told L.Links links.old)) (told (C.readings clock.new) (links_told L.Links links.new)) None }
 {
     match run_node(rt, alloc, plan, links, clock, gate) {
         Ok(daemon) => write_lines(alloc, &daemon, sink),

@@ -4,11 +4,10 @@ ghost use Rattle.std.specs.Io.KnownBytes.{Appends};
 ghost use Rattle.grasp_io.specs.Faults.{Rose};
 ghost use Rattle.grasp_io.specs.Known.{AppendsFront};
 ghost use Rattle.grasp_node_main.specs.Exits.{number_of, fault_line_of};
-ghost use Rattle.grasp_node_main.specs.Finish.{told_line, AppendsAllOrNothing};
+ghost use Rattle.grasp_node_main.specs.Finish.{told_line};
 
-use crate::exit::{Status, fault_line};
+use crate::exit::{Status, fault_text};
 use grasp_io::{Sink, write_all};
-use std::alloc::Global;
 
 /// Writes a text.
 pub fn print_text<K: Sink>(text: &str, sink: &mut K) -> Status
@@ -24,17 +23,15 @@ pub fn print_text<K: Sink>(text: &str, sink: &mut K) -> Status
 }
 
 /// Ends the program: writes the status's fault line with a line feed where it has one, and gives the number to exit with.
-/// Where memory for the line is wanted, nothing is written. A fault of this sink changes no number.
-pub fn finish<K: Sink>(alloc: Global, status: &Status, errors: &mut K) -> u8
+/// It takes no memory. A fault of this sink changes no number.
+pub fn finish<K: Sink>(status: &Status, errors: &mut K) -> u8
     ensures number { result ≡ number_of status.now }
     ensures quiet { fault_line_of status.now ≡ [] → errors.new ≡ errors.old }
     ensures front { AppendsFront (K.written errors.old) (K.written errors.new) (told_line (fault_line_of status.now)) }
-    ensures told { AppendsAllOrNothing (K.written errors.old) (K.written errors.new) (told_line (fault_line_of status.now))
+    ensures told { Appends (K.written errors.old) (K.written errors.new) (told_line (fault_line_of status.now))
         ⊎ Rose (K.faults errors.old) (K.faults errors.new) }
 {
-    if let Ok(line) = fault_line(alloc, status) {
-        tell(line.bytes(), errors);
-    }
+    tell(fault_text(status).as_bytes(), errors);
     status.number()
 }
 

@@ -28,7 +28,8 @@ pub fn run_node<R: Threads + Wait + Sync, L: Links, C: Clock, G: Gate + Sync>(
 ) -> Result<Daemon, OutOfMemory>
     requires beacons { length plan.beacons < 255 }
     requires readers { length plan.readers < 255 }
-    ensures { RunsNode plan (told (C.readings clock.old) (links_told L.Links links.old)) result (told (C.readings clock.new) (links_told L.Links links.new)) }
+    ensures { RunsNode ((links.new ≡ links.old) × (clock.new ≡ clock.old)) plan (told (C.readings clock.old) (links_told L.Links links.old)) result
+        (told (C.readings clock.new) (links_told L.Links links.new)) }
 {
     let DaemonPlan {
         node,

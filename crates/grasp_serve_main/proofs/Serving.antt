@@ -1,5 +1,5 @@
 -- What the program did, from what its parts did.
-use Rattle.std.proofs.Common.{◌≡◌, ◌≢◌, ◌≤◌, inl, inr, refl, sym, subst, true, ℕ, List, length, Option, None, Some, IfSome, is_some}
+use Rattle.std.proofs.Common.{◌≡◌, ◌≢◌, ◌≤◌, ◌<◌, ◌∙◌, inl, inr, refl, sym, ap, subst, arith, true, false, ℕ, zero, suc, List, [], ◌∷◌, length, Option, None, Some, IfSome, is_some}
 use Rattle.std.proofs.lemmas.Option.{none-some}
 use Rattle.grasp_agent.specs.States.{AgentState}
 use Rattle.grasp_config.specs.Laws.{IsInRange}
@@ -12,23 +12,23 @@ use Rattle.grasp_disk.specs.Calls.{DiskLog, bytes_of, disk_size}
 use Rattle.grasp_io.proofs.Facts.{rose_before}
 use Rattle.grasp_io.specs.Faults.{Rose}
 use Rattle.grasp_io.specs.declared.links.LinkPlan.{LinkPlan}
-use Rattle.grasp_node_main.proofs.MainRuns.{so_of_input}
 use Rattle.grasp_node_main.specs.Plans.{link_plan_of}
-use Rattle.grasp_node_main.specs.Program.{IsInput}
+use Rattle.grasp_node_main.specs.Program.{IsInput, config_limit}
+use Rattle.grasp_service.proofs.Faults.{stops_rose, stops_stopped}
 use Rattle.grasp_service.specs.Rounds.{Outside}
-use Rattle.grasp_service.specs.Served.{ServesKept, ServesShort, StopsShort, kept_life}
+use Rattle.grasp_service.specs.Served.{ServesKept, ServesShort, StopsShort}
+use Rattle.grasp_store.specs.Keeping.{KeeperState}
 use Rattle.grasp_service.specs.declared.cut.Cut.TheVariants as cut
 use Rattle.grasp_service.specs.declared.plan.ServicePlan.{ServicePlan}
 use Rattle.grasp_serve_main.specs.Plans.{desk_plan_of, IsServicePlanOf}
-use Rattle.grasp_shelf.proofs.Keeping.{fault_then}
-use Rattle.grasp_shelf.specs.Opening.{OpensShelf, IsShelfFault, IsOfCalls, IsUnused}
-use Rattle.grasp_shelf.specs.Shelves.{ShelfState, IsClosed, faults_of, IsKeptFault}
+use Rattle.grasp_shelf.specs.Opening.{OpensSaved, OpensShelf, IsShelfFault, IsOfCalls, IsUnused, LeavesClosed}
+use Rattle.grasp_shelf.specs.Shelves.{ShelfState, IsClosed, faults_of, has_stopped, is_stopped, store_of}
 use Rattle.grasp_shelf.specs.declared.fault.ShelfFault.{ShelfFault}
 use Rattle.grasp_shelf.specs.declared.fault.ShelfFault.TheVariants as shelf_fault
 use Rattle.grasp_store.specs.declared.fault.KeepFault.{KeepFault}
 use Rattle.grasp_store.specs.declared.fault.KeepFault.TheVariants as keep_fault
 use Rattle.grasp_serve_main.specs.Program.{ServesInput, ShortConfig, ShortInput, NamesStore, BeginsFrom, KeepsConfig, KeepsInput, StopsConfig}
-use Rattle.grasp_serve_main.specs.Program.{StopsInput, RefusesStore}
+use Rattle.grasp_serve_main.specs.Program.{StopsInput, RefusesStore, IsKeptFault, OpensAgent, SomeInput, IsSmall, IsLarge, IsBadWithin}
 
 -- ---- the node of a configuration
 
@@ -51,13 +51,6 @@ pub forgets_agent : {B : Type 0} (stands : B → DiskLog → Type 0) (store : Op
     → BeginsFrom stands store a m agent → store ≡ None → agent ≡ None
 forgets_agent stands None a m agent begins none = begins.0
 forgets_agent stands (Some path) a m agent begins none = absurd (none-some path (sym none))
-
--- a fault of the store that was opened
-kept_fault : {B : Type 0} (faults : B → ℕ) (a m b : ShelfState B) (fault : KeepFault) → faults_of faults a ≤ faults_of faults m
-    → IsKeptFault faults m b fault → IsKeptFault faults a b fault
-kept_fault faults a m b keep_fault.DiskFault le is = rose_before (faults_of faults a) (faults_of faults m) (faults_of faults b) le is
-kept_fault faults a m b keep_fault.Spent le is = tt
-kept_fault faults a m b keep_fault.Stopped le is = tt
 
 pub stops_config : {B : Type 0} (stands : B → DiskLog → Type 0) (faults : B → ℕ) (c : ServeConfig) (seed : List ℕ) (p : ServicePlan)
     (agent : Option AgentState) (joining : LinkPlan) (doors : DeskPlan) (a m b : ShelfState B) (x y : Outside)
@@ -95,9 +88,10 @@ pub in_range : (text : List ℕ) (config : ServeConfig) → ServesAreInRange →
 in_range text config law has = (law has.table config has.is).0
 
 pub keeps_input : {B : Type 0} (stands : B → DiskLog → Type 0) (faults : B → ℕ) (left : Option (List ℕ)) (seed : List ℕ) (a b : ShelfState B)
-    (x y : Outside) (input : List ℕ) (config : ServeConfig) → IsInput left input
+    (x y : Outside) (input : List ℕ) (config : ServeConfig) → IsInput left input → IsSmall input
     → HasServe input config → KeepsConfig stands faults config seed a x b y → KeepsInput stands faults left seed a x b y
-keeps_input stands faults left seed a b x y input config is has keeps = record { input = input; told = is; config = config; has = has; keeps = keeps }
+keeps_input stands faults left seed a b x y input config is small has keeps =
+    record { input = input; told = is; small = small; config = config; has = has; keeps = keeps }
 
 -- so the node served
 pub serves_input : {B : Type 0} (stands : B → DiskLog → Type 0) (faults : B → ℕ) (left : Option (List ℕ)) (seed : List ℕ) (a b : ShelfState B)
@@ -105,6 +99,7 @@ pub serves_input : {B : Type 0} (stands : B → DiskLog → Type 0) (faults : B 
 serves_input stands faults left seed a b x y k = record {
   input = k.input;
   told = k.told;
+  small = k.small;
   config = k.config;
   has = k.has;
   serves = record { plan = k.keeps.plan; planned = k.keeps.planned; serves = k.keeps.serves.serves };
@@ -112,52 +107,87 @@ serves_input stands faults left seed a b x y k = record {
 
 pub stops_input : {B : Type 0} (stands : B → DiskLog → Type 0) (faults : B → ℕ) (left : Option (List ℕ)) (seed : List ℕ) (a b : ShelfState B)
     (x y : Outside) (fault : KeepFault) (input : List ℕ) (config : ServeConfig)
-    → IsInput left input → HasServe input config → StopsConfig stands faults config seed a x fault b y
+    → IsInput left input → IsSmall input → HasServe input config → StopsConfig stands faults config seed a x fault b y
     → StopsInput stands faults left seed a x fault b y
-stops_input stands faults left seed a b x y fault input config is has stops = record {
+stops_input stands faults left seed a b x y fault input config is small has stops = record {
   input = input;
   told = is;
+  small = small;
   config = config;
   has = has;
   stops = stops;
 }
 
--- so something failed at the store
-stops_fault : {B : Type 0} (stands : B → DiskLog → Type 0) (faults : B → ℕ) (p : ServicePlan) (joining : LinkPlan) (doors : DeskPlan)
-    (m b : ShelfState B) (x y : Outside) (fault : KeepFault)
-    → StopsShort stands faults p joining doors m x (cut.Store fault) b y → IsKeptFault faults m b fault
-stops_fault stands faults p joining doors m b x y fault (inl at_once) = at_once.1
-stops_fault stands faults p joining doors m b x y fault (inr later) = fault_then stands faults m later.shelf b
-    (kept_life p later.falls.replies later.falls.rounds) fault later.kept later.is
+-- ---- why its store has a fault
+
+-- an unused shelf has no keeper that has stopped, also once its store was opened
+open_going : {B : Type 0} (stands : B → DiskLog → Type 0) (keeper : Option (KeeperState B)) (agent : AgentState) (log : DiskLog)
+    → OpensSaved stands keeper agent log → has_stopped keeper ≡ false
+open_going stands None agent log opens = absurd opens
+open_going stands (Some k) agent log opens = opens.0.keeps.going
+
+agent_going : {B : Type 0} (stands : B → DiskLog → Type 0) (a m : ShelfState B) (agent : Option AgentState) (log : DiskLog) → OpensAgent stands a m agent
+    → IsClosed stands a log → length (bytes_of log) ≡ disk_size → is_stopped m ≡ false
+agent_going stands a m None log opens closed size = absurd opens
+agent_going stands a m (Some agent) log opens closed size = open_going stands m.keeper agent log (opens log closed size)
+
+begun_going : {B : Type 0} (stands : B → DiskLog → Type 0) (path : Option (List ℕ)) (a m : ShelfState B) (agent : Option AgentState) (log : DiskLog)
+    → BeginsFrom stands path a m agent → IsUnused a → IsClosed stands a log → length (bytes_of log) ≡ disk_size → is_stopped m ≡ false
+begun_going stands None a m agent log begins unused closed size = ap is_stopped begins.1 ∙ ap has_stopped unused.closed
+begun_going stands (Some path) a m agent log begins unused closed size = agent_going stands a m agent log begins closed size
+
+true_is_false : true ≡ false → ⊥
+true_is_false e = cc
+
+stops_for : {B : Type 0} (stands : B → DiskLog → Type 0) (faults : B → ℕ) (c : ServeConfig) (seed : List ℕ) (a b : ShelfState B) (x y : Outside)
+    (fault : KeepFault) → StopsConfig stands faults c seed a x fault b y → IsKeptFault stands faults a b fault
+stops_for stands faults c seed a b x y keep_fault.DiskFault s =
+    rose_before (faults_of faults a) (faults_of faults s.shelf) (faults_of faults b) s.never_falls
+    (stops_rose stands faults s.plan (link_plan_of c.node) (desk_plan_of c.serve) s.shelf b x y s.stops)
+stops_for stands faults c seed a b x y keep_fault.Spent s = tt
+stops_for stands faults c seed a b x y keep_fault.Stopped s = λ unused log closed size.
+    true_is_false (sym (stops_stopped stands faults s.plan (link_plan_of c.node) (desk_plan_of c.serve) s.shelf b x y s.stops)
+    ∙ begun_going stands c.serve.store a s.shelf s.plan.agent log s.begins unused closed size)
 
 pub fault_told : {B : Type 0} (stands : B → DiskLog → Type 0) (faults : B → ℕ) (left : Option (List ℕ)) (seed : List ℕ) (a b : ShelfState B)
     (x y : Outside) (fault : KeepFault) → StopsInput stands faults left seed a x fault b y
-    → IsKeptFault faults a b fault
-fault_told stands faults left seed a b x y fault s =
-    let c = s.stops in
-    kept_fault faults a c.shelf b fault c.never_falls
-    (stops_fault stands faults c.plan (link_plan_of s.config.node) (desk_plan_of s.config.serve) c.shelf b x y fault c.stops)
+    → IsKeptFault stands faults a b fault
+fault_told stands faults left seed a b x y fault s = stops_for stands faults s.config seed a b x y fault s.stops
 
 pub ruleset keeping = (serves_input, fault_told)
 
-pub short_input : (left : Option (List ℕ)) (seed : List ℕ) (x y : Outside) (input : List ℕ) (config : ServeConfig) → IsInput left input
+pub short_input : (left : Option (List ℕ)) (seed : List ℕ) (x y : Outside) (input : List ℕ) (config : ServeConfig) → IsInput left input → IsSmall input
     → HasServe input config → ShortConfig config seed x y → ShortInput left seed x y
-short_input left seed x y input config is has (inl same) = inl same
-short_input left seed x y input config is has (inr falls) = inr (record { input = input; told = is; config = config; has = has; falls = falls })
+short_input left seed x y input config is small has (inl same) = inl same
+short_input left seed x y input config is small has (inr falls) =
+    inr (record { input = input; told = is; small = small; config = config; has = has; falls = falls })
 
 pub input_untouched : (left : Option (List ℕ)) (seed : List ℕ) (x : Outside) → ShortInput left seed x x
 input_untouched left seed x = inl refl
 
-pub bad_input : (left : Option (List ℕ)) (bytes : List ℕ) (key : ServeKey) → IsInput left bytes → IsBadServe bytes key
-    → IfSome left (λ input. IsBadServe input key)
-bad_input left bytes key is bad = so_of_input left bytes (λ input. IsBadServe input key) is bad
+pub small_input : (left : Option (List ℕ)) (bytes : List ℕ) → IsInput left bytes → IsSmall bytes → SomeInput left IsSmall
+small_input left bytes is small = record { input = bytes; told = is; holds = small }
 
-pub store_named : (left : Option (List ℕ)) (bytes : List ℕ) (config : ServeConfig) → IsInput left bytes → HasServe bytes config
-    → is_some config.serve.store ≡ true → IfSome left (λ input. NamesStore input)
-store_named left bytes config is has names =
-    so_of_input left bytes (λ input. NamesStore input) is (record { config = config; has = has; names = names })
+pub bad_input : (left : Option (List ℕ)) (bytes : List ℕ) (key : ServeKey) → IsInput left bytes → IsSmall bytes → IsBadServe bytes key
+    → SomeInput left (IsBadWithin key)
+bad_input left bytes key is small bad = record { input = bytes; told = is; holds = record { small = small; bad = bad } }
 
-pub ruleset reading = (in_range, keeps_input, stops_input, short_input, input_untouched, bad_input, store_named)
+pub store_named : (left : Option (List ℕ)) (bytes : List ℕ) (config : ServeConfig) → IsInput left bytes → IsSmall bytes → HasServe bytes config
+    → is_some config.serve.store ≡ true → SomeInput left NamesStore
+store_named left bytes config is small has names =
+    record { input = bytes; told = is; holds = record { small = small; config = config; has = has; names = names } }
+
+-- there is an input with more bytes than so many
+some_longer : (n : ℕ) → SomeInput None (λ i. n < length i)
+some_longer zero = record { input = 0 ∷ []; told = tt; holds = omega arith }
+some_longer (suc n) = let shorter = some_longer n in record { input = 0 ∷ shorter.input; told = tt; holds = omega (arith, shorter.holds) }
+
+-- what was left is too large where it is told and has too many bytes
+pub read_too_far : (left : Option (List ℕ)) → IfSome left (λ all. config_limit < length all) → SomeInput left IsLarge
+read_too_far None more = let longer = some_longer config_limit in record { input = longer.input; told = tt; holds = longer.holds }
+read_too_far (Some all) more = record { input = all; told = refl; holds = more }
+
+pub ruleset reading = (in_range, keeps_input, stops_input, short_input, input_untouched, small_input, bad_input, store_named)
 
 -- ---- the opening of its store
 
@@ -173,8 +203,10 @@ begins_forgetting stands path a is = subst (λ p. BeginsFrom stands p a a None) 
 
 pub refuses : {B : Type 0} (stands : B → DiskLog → Type 0) (faults : B → ℕ) (a m : ShelfState B) (fault : ShelfFault) →
     ((log : DiskLog) → IsClosed stands a log → length (bytes_of log) ≡ disk_size → IsShelfFault (bytes_of log) fault)
-    → (IsOfCalls fault → IsUnused a → Rose (faults_of faults a) (faults_of faults m)) → m.fault ≡ Some fault → fault ≢ shelf_fault.OutOfMemory
-    → RefusesStore stands faults a m
-refuses stands faults a m fault is calls why not = record { fault = fault; why = why; of_store = not; is = is; calls = calls }
+    → ((log : DiskLog) → IsClosed stands a log → length (bytes_of log) ≡ disk_size → LeavesClosed (IsClosed stands m) log fault)
+    → (IsOfCalls fault → IsUnused a → Rose (faults_of faults a) (faults_of faults m)) → is_some (store_of m) ≡ is_some (store_of a) → m.fault ≡ Some fault
+    → fault ≢ shelf_fault.OutOfMemory → RefusesStore stands faults a m
+refuses stands faults a m fault is leaves calls there why not =
+    record { fault = fault; why = why; of_store = not; is = is; leaves = leaves; calls = calls; there = there }
 
 pub ruleset opening = (begins_agent, begins_forgetting, refuses)

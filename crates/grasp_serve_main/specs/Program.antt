@@ -1,21 +1,23 @@
 -- The program's one call: its words, what it reads, and what it makes of that.
-use Rattle.std.specs.Prelude.{◌≡◌, ◌≢◌, ◌≤◌, ◌⊎◌, ℕ, Bool, true, false, List, [], ◌∷◌, length, Option, None, Some, is_some, codes, bytes_eq}
+use Rattle.std.specs.Prelude.{◌≡◌, ◌≢◌, ◌≤◌, ◌<◌, ◌⊎◌, ℕ, Bool, true, false, List, [], ◌∷◌, length, Option, None, Some, is_some, codes, bytes_eq}
 use Rattle.grasp_agent.specs.States.{AgentState}
-use Rattle.grasp_config.specs.Serve.{HasServe}
+use Rattle.grasp_config.specs.Serve.{HasServe, IsBadServe}
 use Rattle.grasp_config.specs.declared.serve.ServeConfig.{ServeConfig}
+use Rattle.grasp_config.specs.declared.serve_fault.ServeKey.{ServeKey}
 use Rattle.grasp_disk.specs.Calls.{DiskLog, bytes_of, disk_size}
 use Rattle.grasp_io.specs.Faults.{Rose}
 use Rattle.grasp_node_main.specs.Plans.{link_plan_of}
-use Rattle.grasp_node_main.specs.Program.{IsInput}
+use Rattle.grasp_node_main.specs.Program.{IsInput, config_limit}
 use Rattle.grasp_service.specs.Rounds.{Outside}
 use Rattle.grasp_service.specs.Served.{Serves, FallsShortServing, ServesKept, StopsShort}
 use Rattle.grasp_service.specs.declared.cut.Cut.TheVariants as cut
 use Rattle.grasp_service.specs.declared.plan.ServicePlan.{ServicePlan}
-use Rattle.grasp_shelf.specs.Opening.{OpensShelf, IsShelfFault, IsOfCalls, IsUnused}
-use Rattle.grasp_shelf.specs.Shelves.{ShelfState, IsClosed, faults_of}
+use Rattle.grasp_shelf.specs.Opening.{OpensShelf, IsShelfFault, IsOfCalls, IsUnused, LeavesClosed}
+use Rattle.grasp_shelf.specs.Shelves.{ShelfState, IsClosed, faults_of, store_of}
 use Rattle.grasp_shelf.specs.declared.fault.ShelfFault.{ShelfFault}
 use Rattle.grasp_shelf.specs.declared.fault.ShelfFault.TheVariants as shelf_fault
 use Rattle.grasp_store.specs.declared.fault.KeepFault.{KeepFault}
+use Rattle.grasp_store.specs.declared.fault.KeepFault.TheVariants as keep_fault
 use Rattle.grasp_serve_main.specs.Plans.{desk_plan_of, IsServicePlanOf}
 use Rattle.grasp_serve_main.specs.declared.status.Status.{Status}
 use Rattle.grasp_serve_main.specs.declared.status.Status.TheVariants.{Stopped, Usage, BadServe, ReadFault, OutOfMemory, TooLarge, LinkFault, NoStore}
@@ -41,7 +43,54 @@ is_serve (word ∷ []) = false
 is_serve (word ∷ file ∷ []) = bytes_eq word (codes "serve")
 is_serve (word ∷ file ∷ other ∷ words) = false
 
+-- ---- what was read
+
+-- some input has P; where it is known what was left to read, it is this one
+pub record SomeInput (left : Option (List ℕ)) (P : List ℕ → Type 0) : Type 0 where
+  pub input : List ℕ
+  pub told : IsInput left input
+  pub holds : P input
+
+-- it has at most so many bytes as a configuration may have
+abbrev pub IsSmall : List ℕ → Type 0
+IsSmall input = length input ≤ config_limit
+
+-- it has more
+abbrev pub IsLarge : List ℕ → Type 0
+IsLarge input = config_limit < length input
+
+-- it isn't too large, and this is the first of its keys that is bad
+pub record IsBadWithin (key : ServeKey) (input : List ℕ) : Type 0 where
+  pub small : IsSmall input
+  pub bad : IsBadServe input key
+
 -- ---- how far the program came
+
+-- to the end of its input
+abbrev pub IsAfterInput : Status → Type 0
+IsAfterInput Stopped = Unit {0}
+IsAfterInput (BadServe key) = Unit {0}
+IsAfterInput LinkFault = Unit {0}
+IsAfterInput NoStore = Unit {0}
+IsAfterInput (StoreFault fault) = Unit {0}
+IsAfterInput DeskFault = Unit {0}
+IsAfterInput Usage = ⊥
+IsAfterInput ReadFault = ⊥
+IsAfterInput OutOfMemory = ⊥
+IsAfterInput TooLarge = ⊥
+
+-- to links or a desk that couldn't be opened
+abbrev pub IsOfDoors : Status → Type 0
+IsOfDoors LinkFault = Unit {0}
+IsOfDoors DeskFault = Unit {0}
+IsOfDoors Stopped = ⊥
+IsOfDoors Usage = ⊥
+IsOfDoors (BadServe key) = ⊥
+IsOfDoors ReadFault = ⊥
+IsOfDoors OutOfMemory = ⊥
+IsOfDoors TooLarge = ⊥
+IsOfDoors NoStore = ⊥
+IsOfDoors (StoreFault fault) = ⊥
 
 -- not to the links
 abbrev pub IsBeforeLinks : Status → Type 0
@@ -107,6 +156,7 @@ pub record ServesConfig (config : ServeConfig) (seed : List ℕ) (before after :
 pub record ServesInput (left : Option (List ℕ)) (seed : List ℕ) (before after : Outside) : Type 0 where
   pub input : List ℕ
   pub told : IsInput left input
+  pub small : IsSmall input
   pub config : ServeConfig
   pub has : HasServe input config
   pub serves : ServesConfig config seed before after
@@ -124,6 +174,7 @@ ShortConfig config seed before after = (after ≡ before) ⊎ FallsShortConfig c
 pub record FallsShortInput (left : Option (List ℕ)) (seed : List ℕ) (before after : Outside) : Type 0 where
   pub input : List ℕ
   pub told : IsInput left input
+  pub small : IsSmall input
   pub config : ServeConfig
   pub has : HasServe input config
   pub falls : FallsShortConfig config seed before after
@@ -131,8 +182,9 @@ pub record FallsShortInput (left : Option (List ℕ)) (seed : List ℕ) (before 
 abbrev pub ShortInput : Option (List ℕ) → List ℕ → Outside → Outside → Type 0
 ShortInput left seed before after = (after ≡ before) ⊎ FallsShortInput left seed before after
 
--- the text has a configuration that names a store
+-- the text isn't too large, and has a configuration that names a store
 pub record NamesStore (text : List ℕ) : Type 0 where
+  pub small : IsSmall text
   pub config : ServeConfig
   pub has : HasServe text config
   pub names : is_some config.serve.store ≡ true
@@ -164,6 +216,7 @@ pub record KeepsInput {B : Type 0} (stands : B → DiskLog → Type 0) (faults :
     (before : Outside) (b : ShelfState B) (after : Outside) : Type 0 where
   pub input : List ℕ
   pub told : IsInput left input
+  pub small : IsSmall input
   pub config : ServeConfig
   pub has : HasServe input config
   pub keeps : KeepsConfig stands faults config seed a before b after
@@ -183,6 +236,7 @@ pub record StopsInput {B : Type 0} (stands : B → DiskLog → Type 0) (faults :
     (before : Outside) (fault : KeepFault) (b : ShelfState B) (after : Outside) : Type 0 where
   pub input : List ℕ
   pub told : IsInput left input
+  pub small : IsSmall input
   pub config : ServeConfig
   pub has : HasServe input config
   pub stops : StopsConfig stands faults config seed a before fault b after
@@ -193,4 +247,13 @@ pub record RefusesStore {B : Type 0} (stands : B → DiskLog → Type 0) (faults
   pub why : new.fault ≡ Some fault
   pub of_store : fault ≢ shelf_fault.OutOfMemory
   pub is : (log : DiskLog) → IsClosed stands old log → length (bytes_of log) ≡ disk_size → IsShelfFault (bytes_of log) fault
+  pub leaves : (log : DiskLog) → IsClosed stands old log → length (bytes_of log) ≡ disk_size → LeavesClosed (IsClosed stands new) log fault
   pub calls : IsOfCalls fault → IsUnused old → Rose (faults_of faults old) (faults_of faults new)
+  pub there : is_some (store_of new) ≡ is_some (store_of old)
+
+-- why its store has a fault: something failed at it, or the number of saves is spent. An unused store that tells what stands on it isn't stopped by an
+-- earlier fault
+abbrev pub IsKeptFault : {B : Type 0} → (B → DiskLog → Type 0) → (B → ℕ) → ShelfState B → ShelfState B → KeepFault → Type 0
+IsKeptFault stands faults old new keep_fault.DiskFault = Rose (faults_of faults old) (faults_of faults new)
+IsKeptFault stands faults old new keep_fault.Spent = Unit {0}
+IsKeptFault stands faults old new keep_fault.Stopped = IsUnused old → (log : DiskLog) → IsClosed stands old log → ¬ (length (bytes_of log) ≡ disk_size)

@@ -1,19 +1,18 @@
 //! The program's one call.
 
-ghost use Rattle.std.specs.Prelude.{◌≡◌, ◌≢◌, ◌<◌, ◌≤◌, true, false, length, map, string_bytes, is_some, IfSome, IfOk, IfErr};
+ghost use Rattle.std.specs.Prelude.{◌≡◌, ◌≢◌, ◌<◌, ◌≤◌, [], Some, true, false, length, map, string_bytes, is_some, IfSome, IfOk, IfErr};
 ghost use Rattle.grasp_config.specs.Laws.{IsInRange};
-ghost use Rattle.grasp_config.specs.Serve.{IsBadServe};
 ghost use Rattle.grasp_config.specs.declared.serve_fault.ServeKey.{ServeKey};
 ghost use Rattle.grasp_io.specs.Faults.{Rose};
-ghost use Rattle.grasp_node_main.specs.Program.{config_limit};
 ghost use Rattle.grasp_node_main.specs.Tells.{links_told, told};
 ghost use Rattle.grasp_serve_main.specs.Program.{is_serve, IsBeforeLinks, IsBeforeStore, IsOfConfig, IsOfService, ServesInput, ShortConfig};
+ghost use Rattle.grasp_serve_main.specs.Program.{SomeInput, IsSmall, IsLarge, IsBadWithin, IsAfterInput, IsOfDoors, IsKeptFault};
 ghost use Rattle.grasp_serve_main.specs.Program.{ShortInput, NamesStore, BeginsFrom, KeepsConfig, KeepsInput, StopsConfig, StopsInput, RefusesStore};
 ghost use Rattle.grasp_service.specs.Rounds.{outside};
-ghost use Rattle.grasp_service.specs.Served.{ServesKept, ServesShort, StopsShort};
+ghost use Rattle.grasp_service.specs.Served.{NoRound, ServesKept, ServesShort, StopsShort};
 ghost use Rattle.grasp_service.specs.declared.cut.Cut.TheVariants as cuts;
 ghost use Rattle.grasp_service_visits.specs.Desks.{desk_told};
-ghost use Rattle.grasp_shelf.specs.Shelves.{IsKeptFault, faults_of};
+ghost use Rattle.grasp_shelf.specs.Shelves.{faults_of};
 ghost use Rattle.grasp_store.specs.declared.fault.KeepFault.{KeepFault};
 
 use crate::planning::{desk_plan, service_plan};
@@ -58,11 +57,14 @@ pub fn node_serve<R: Wait, S: Source, K: Sink, L: Links + Counted, D: Desk, C: C
     ensures no_usage { is_serve (map string_bytes words.now) ≡ true → result ≢ Status.Usage }
     ensures unread { result ≡ Status.Usage → source.new ≡ source.old }
 
-    // Then the configuration is read to its end, at most 65,536 bytes.
+    // Then the configuration is read to its end, at most 65,536 bytes. What is so of it is so of some input; where the source tells
+    // what it has left to read, it is that one.
     ensures read_fault { result ≡ Status.ReadFault → Rose (S.faults source.old) (S.faults source.new) }
-    ensures too_large { result ≡ Status.TooLarge → IfSome (S.left source.old) (λ input. config_limit < length input) }
-    ensures bad_config { (key : ServeKey) → result ≡ Status.BadServe key → IfSome (S.left source.old) (λ input. IsBadServe input key) }
-    ensures no_store { result ≡ Status.NoStore → IfSome (S.left source.old) (λ input. NamesStore input) }
+    ensures too_large { result ≡ Status.TooLarge → SomeInput (S.left source.old) IsLarge }
+    ensures small { IsAfterInput result → SomeInput (S.left source.old) IsSmall }
+    ensures read_to_end { IsAfterInput result → IfSome (S.left source.old) (λ _. S.left source.new ≡ Some []) }
+    ensures bad_config { (key : ServeKey) → result ≡ Status.BadServe key → SomeInput (S.left source.old) (IsBadWithin key) }
+    ensures no_store { result ≡ Status.NoStore → SomeInput (S.left source.old) NamesStore }
     ensures links_untouched { IsBeforeLinks result → links.new ≡ links.old }
     ensures desk_untouched { IsBeforeLinks result → desk.new ≡ desk.old }
     ensures clock_untouched { IsBeforeLinks result → clock.new ≡ clock.old }
@@ -71,9 +73,12 @@ pub fn node_serve<R: Wait, S: Source, K: Sink, L: Links + Counted, D: Desk, C: C
     ensures store_untouched { IsBeforeStore result → shelf.new ≡ shelf.old }
     ensures store_refused { result ≡ Status.NoStore → RefusesStore B.stands B.faults shelf.old shelf.new }
 
-    // Then links and desk are opened.
+    // Then links and desk are opened. Where one of them can't be, no round is made.
     ensures link_fault { result ≡ Status.LinkFault → Rose (L.faults links.old) (L.faults links.new) }
     ensures desk_fault { result ≡ Status.DeskFault → Rose (D.faults desk.old) (D.faults desk.new) }
+    ensures no_round { IsOfDoors result → NoRound
+        (outside (told (C.readings clock.old) (links_told L.Links links.old)) (desk_told D.Desk desk.old))
+        (outside (told (C.readings clock.new) (links_told L.Links links.new)) (desk_told D.Desk desk.new)) }
 
     // Then the node serves, until a visitor stops it, or memory is wanted.
     ensures served { result ≡ Status.Stopped → ServesInput (S.left source.old) seed
@@ -91,7 +96,7 @@ pub fn node_serve<R: Wait, S: Source, K: Sink, L: Links + Counted, D: Desk, C: C
     ensures stops { (fault : KeepFault) → result ≡ Status.StoreFault fault → StopsInput B.stands B.faults (S.left source.old) seed
         shelf.old (outside (told (C.readings clock.old) (links_told L.Links links.old)) (desk_told D.Desk desk.old))
         fault shelf.new (outside (told (C.readings clock.new) (links_told L.Links links.new)) (desk_told D.Desk desk.new)) }
-    ensures store_fault { (fault : KeepFault) → result ≡ Status.StoreFault fault → IsKeptFault B.faults shelf.old shelf.new fault }
+    ensures store_fault { (fault : KeepFault) → result ≡ Status.StoreFault fault → IsKeptFault B.stands B.faults shelf.old shelf.new fault }
 {
     if !is_serve(words) {
         return Status::Usage;
@@ -127,14 +132,19 @@ fn serve_input<R: Wait, S: Source, K: Sink, L: Links + Counted, D: Desk, C: Cloc
 ) -> Status
     ensures no_usage { result ≢ Status.Usage }
     ensures read_fault { result ≡ Status.ReadFault → Rose (S.faults source.old) (S.faults source.new) }
-    ensures too_large { result ≡ Status.TooLarge → IfSome (S.left source.old) (λ input. config_limit < length input) }
-    ensures bad_config { (key : ServeKey) → result ≡ Status.BadServe key → IfSome (S.left source.old) (λ input. IsBadServe input key) }
-    ensures no_store { result ≡ Status.NoStore → IfSome (S.left source.old) (λ input. NamesStore input) }
+    ensures too_large { result ≡ Status.TooLarge → SomeInput (S.left source.old) IsLarge }
+    ensures small { IsAfterInput result → SomeInput (S.left source.old) IsSmall }
+    ensures read_to_end { IsAfterInput result → IfSome (S.left source.old) (λ _. S.left source.new ≡ Some []) }
+    ensures bad_config { (key : ServeKey) → result ≡ Status.BadServe key → SomeInput (S.left source.old) (IsBadWithin key) }
+    ensures no_store { result ≡ Status.NoStore → SomeInput (S.left source.old) NamesStore }
     ensures links_untouched { IsBeforeLinks result → links.new ≡ links.old }
     ensures desk_untouched { IsBeforeLinks result → desk.new ≡ desk.old }
     ensures clock_untouched { IsBeforeLinks result → clock.new ≡ clock.old }
     ensures link_fault { result ≡ Status.LinkFault → Rose (L.faults links.old) (L.faults links.new) }
     ensures desk_fault { result ≡ Status.DeskFault → Rose (D.faults desk.old) (D.faults desk.new) }
+    ensures no_round { IsOfDoors result → NoRound
+        (outside (told (C.readings clock.old) (links_told L.Links links.old)) (desk_told D.Desk desk.old))
+        (outside (told (C.readings clock.new) (links_told L.Links links.new)) (desk_told D.Desk desk.new)) }
     ensures store_untouched { IsBeforeStore result → shelf.new ≡ shelf.old }
     ensures store_refused { result ≡ Status.NoStore → RefusesStore B.stands B.faults shelf.old shelf.new }
     ensures kept { result ≡ Status.Stopped → KeepsInput B.stands B.faults (S.left source.old) seed
@@ -185,6 +195,9 @@ fn serve_config<R: Wait, K: Sink, L: Links + Counted, D: Desk, C: Clock, B: Stor
     ensures clock_untouched { IsBeforeLinks result → clock.new ≡ clock.old }
     ensures link_fault { result ≡ Status.LinkFault → Rose (L.faults links.old) (L.faults links.new) }
     ensures desk_fault { result ≡ Status.DeskFault → Rose (D.faults desk.old) (D.faults desk.new) }
+    ensures no_round { IsOfDoors result → NoRound
+        (outside (told (C.readings clock.old) (links_told L.Links links.old)) (desk_told D.Desk desk.old))
+        (outside (told (C.readings clock.new) (links_told L.Links links.new)) (desk_told D.Desk desk.new)) }
     ensures store_refused { result ≡ Status.NoStore → RefusesStore B.stands B.faults shelf.old shelf.new }
     ensures kept { result ≡ Status.Stopped → KeepsConfig B.stands B.faults config seed
         shelf.old (outside (told (C.readings clock.old) (links_told L.Links links.old)) (desk_told D.Desk desk.old))
@@ -252,6 +265,9 @@ fn serve_planned<R: Wait, K: Sink, L: Links + Counted, D: Desk, C: Clock, B: Sto
     ensures ends { IsOfService result }
     ensures link_fault { result ≡ Status.LinkFault → Rose (L.faults links.old) (L.faults links.new) }
     ensures desk_fault { result ≡ Status.DeskFault → Rose (D.faults desk.old) (D.faults desk.new) }
+    ensures no_round { IsOfDoors result → NoRound
+        (outside (told (C.readings clock.old) (links_told L.Links links.old)) (desk_told D.Desk desk.old))
+        (outside (told (C.readings clock.new) (links_told L.Links links.new)) (desk_told D.Desk desk.new)) }
     ensures kept { result ≡ Status.Stopped → ServesKept B.stands B.faults plan joining.now doors.now
         shelf.old (outside (told (C.readings clock.old) (links_told L.Links links.old)) (desk_told D.Desk desk.old))
         shelf.new (outside (told (C.readings clock.new) (links_told L.Links links.new)) (desk_told D.Desk desk.new)) }

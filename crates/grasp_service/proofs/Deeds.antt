@@ -19,11 +19,13 @@ use Rattle.grasp_service_visits.specs.Calling.{is_starved}
 use Rattle.grasp_service_visits.proofs.Going.{some_none, some_step}
 use Rattle.grasp_service_visits.proofs.Each.{after_none, after_next, after_more, adds_more, adds_none, each_more}
 use Rattle.grasp_service_visits.specs.Each.{each_after, each_adds}
-use Rattle.grasp_service.proofs.Kept.{then_none, then_more, kept_same, cut_memory, cut_then, cut_fault}
+use Rattle.grasp_service.proofs.Kept.{then_none, then_more, kept_same, cut_memory, cut_before, cut_asked}
+use Rattle.grasp_service.specs.Cuts.{IsCutAsking, IsCutAround, behind_call, IsCut, CutsAround, CutsOff}
 use Rattle.grasp_service.specs.Deeds.{Deed, rests, calls, told_at, IsDeed, after_deed, deed_calls, kept_deed, kept_deeds, DeedGoes, Acts, ActsSome}
 use Rattle.grasp_service.specs.Deeds.{ActsAll}
-use Rattle.grasp_service.specs.Keeping.{kept_ahead, kept_after, IsCut, CutsOff}
+use Rattle.grasp_service.specs.Keeping.{kept_ahead, kept_after, behind_of}
 use Rattle.grasp_service.specs.declared.cut.Cut.{Cut}
+use Rattle.grasp_service.specs.declared.cut.Cut.TheVariants as cut
 
 -- the calls of one deed
 deed_adds : (a b : NodeCore) (now caller : ℕ) (m : Servant) (d : Deed) → DeedGoes a now m d b → Adds a (deed_calls now caller m d) b
@@ -95,27 +97,56 @@ module _ {B : Type 0} (stands : B → DiskLog → Type 0) (faults : B → ℕ) w
         (subst (λ k. KeptOn stands faults x (kept_after k) y) (o ∙ ap (λ k. after_call now k r) e) behind);
   }
 
+  -- the store has a fault behind the call
+  around_behind : (t n : Servant) (s x y : ShelfState B) (now : ℕ) (r : Reply) (why : Cut) → is_due t ≡ true → is_starved r ≡ false
+      → n ≡ after_call now t r → KeptOn stands faults s (kept_ahead t) x → IsCutAsking stands faults x (behind_of n) why y
+      → IsCutAround stands faults now t s why y
+  around_behind t n s x y now r cut.OutOfMemory d h o ahead fails = tt
+  around_behind t n s x y now r (cut.Store fault) d h o ahead fails =
+      (d, behind_call r x h ahead (subst (λ k. IsCutAsking stands faults x (behind_of k) (cut.Store fault) y) o fails))
+
   -- it did, or it was cut short behind its call
   pub acts_through : (z : Result (Unit {0}) Cut) (a b : NodeCore) (m t n : Servant) (s x y : ShelfState B) (now : ℕ) (i : Input) (r : Reply)
       → t ≡ told_at now m → is_due t ≡ true → i ≡ call_of t
       → GoesOn a (answered 0 i r) b → is_starved r ≡ false → n ≡ after_call now t r → KeptOn stands faults s (kept_ahead t) x → MatchResult z
-      (λ _. KeptOn stands faults x (kept_after n) y) (λ why. IsCut faults x y why)
-      → MatchResult z (λ _. Acts stands faults a m s now b n y) (λ why. CutsOff faults a s why b y)
+      (λ _. KeptOn stands faults x (kept_after n) y) (λ why. IsCutAsking stands faults x (behind_of n) why y)
+      → MatchResult z (λ _. Acts stands faults a m s now b n y) (λ why. CutsAround stands faults a now (told_at now m) s why b y)
   acts_through (Ok u) a b m t n s x y now i r e d c g h o ahead behind = acts_calling a b m t n s x y now i r e d c g h o ahead behind
   acts_through (Err why) a b m t n s x y now i r e d c g h o ahead behind = record {
     some = some_step a b (answered 0 i r) g;
-    is = cut_then stands faults s x y (kept_ahead t) why ahead behind;
+    is = subst (λ k. IsCutAround stands faults now k s why y) e (around_behind t n s x y now r why d h o ahead behind);
   }
 
   -- ---- all deeds
 
-  pub acts_cut : (count : ℕ) (a b c : NodeCore) (crew others : List Servant) (s t u : ShelfState B) (now : ℕ) (why : Cut)
-      → ActsSome stands faults count a crew s now b others t → CutsOff faults b t why c u
-      → CutsOff faults a s why c u
-  acts_cut count a b c crew others s t u now why p q = record {
-    some = record { calls = each_adds (deed_calls now) 1 crew p.deeds ++ q.some.calls; adds = adds_on a b c _ _ p.adds q.some.adds };
-    is = cut_then stands faults s t u (kept_deeds now crew p.deeds) why p.kept q.is;
+  -- so many acted, and the next one was cut short
+  cut_among : (count : ℕ) (a b : NodeCore) (crew others : List Servant) (s t u : ShelfState B) (now : ℕ) (m : Servant) (why : Cut)
+      → ActsSome stands faults count a crew s now b others t → slice_get crew (count) ≡ Some m
+      → IsCutAround stands faults now (told_at now m) t why u → IsCut stands faults now crew s why u
+  cut_among count a b crew others s t u now m cut.OutOfMemory p at is = tt
+  cut_among count a b crew others s t u now m (cut.Store fault) p at is = record {
+    deeds = p.deeds;
+    each = p.each;
+    agent = m;
+    at = subst (λ i. slice_get crew i ≡ Some m) (sym p.count_is) at;
+    due = is.0;
+    middle = t;
+    kept = p.kept;
+    fails = is.1;
   }
+
+  pub acts_cut : (count : ℕ) (a b c : NodeCore) (crew others : List Servant) (s t u : ShelfState B) (now : ℕ) (d : Servant) (why : Cut)
+      → ActsSome stands faults count a crew s now b others t → count < length others
+      → CutsAround stands faults b now (told_at now (get_or others count d)) t why c u → CutsOff stands faults a now crew s why c u
+  acts_cut count a b c crew others s t u now d why p h q =
+      let f : Servant → Deed → Servant = after_deed now in
+      let at : slice_get crew count ≡ Some (get_or others count d) =
+      sym (ap (λ i. slice_get crew i) p.count_is) ∙ sym (after_next f crew p.deeds) ∙ ap (λ i. slice_get (each_after f crew p.deeds) i) p.count_is
+      ∙ ap (λ x. slice_get x count) (sym p.crew_is) ∙ slice_get-get_or others count d h in
+      record {
+        some = record { calls = each_adds (deed_calls now) 1 crew p.deeds ++ q.some.calls; adds = adds_on a b c _ _ p.adds q.some.adds };
+        is = cut_among count a b crew others s t u now (get_or others count d) why p at q.is;
+      }
 
   pub acts_all : (count : ℕ) (a b : NodeCore) (crew others : List Servant) (s t : ShelfState B) (now : ℕ)
       → ActsSome stands faults count a crew s now b others t → count ≡ length crew
@@ -129,7 +160,7 @@ module _ {B : Type 0} (stands : B → DiskLog → Type 0) (faults : B → ℕ) w
     kept = p.kept;
   }
 
-pub ruleset acting = (some_none, some_step, cut_memory, cut_fault, acts_resting, acts_through)
+pub ruleset acting = (some_none, some_step, cut_memory, cut_before, acts_resting, acts_through)
 
 -- the store was asked behind a call, or the round was cut short
-pub ruleset taking = (cut_fault)
+pub ruleset taking = (cut_asked)

@@ -17,7 +17,7 @@ use Rattle.grasp_service_visits.specs.declared.house.House.{House}
 use Rattle.grasp_shelf.specs.Shelves.{ShelfState, KeptOn}
 use Rattle.grasp_service.specs.Deeds.{IsDeed, after_deed, deed_calls, kept_deeds, ActsAll}
 use Rattle.grasp_service.specs.Following.{woken_agents, Wakes, ActsIn, ActsOn, seats_stayed, heard_calls, heard_told, HearsVisitors, TakesVisitors, Rests, Follows}
-use Rattle.grasp_service.specs.Keeping.{CutsOff}
+use Rattle.grasp_service.specs.Cuts.{CutsOff}
 use Rattle.grasp_service.specs.Rounds.{ticks, stirs, woken_crew}
 use Rattle.grasp_service.specs.States.{ServiceState, state_of, with_crew, events_told}
 use Rattle.grasp_service.specs.declared.cut.Cut.{Cut}
@@ -43,9 +43,10 @@ wakes_on a z now came woke w crew ticked core state = record {
 module _ {B : Type 0} (stands : B → DiskLog → Type 0) (faults : B → ℕ) where
   -- they acted
   pub acts_in : (x : Result (Unit {0}) Cut) (a z : Service) (s t : ShelfState B) (now : ℕ)
-      → MatchResult x (λ _. ActsAll stands faults a.core a.house.crew.items s now z.core z.house.crew.items t) (λ why. CutsOff faults a.core s why z.core t)
+      → MatchResult x (λ _. ActsAll stands faults a.core a.house.crew.items s now z.core z.house.crew.items t)
+      (λ why. CutsOff stands faults a.core now a.house.crew.items s why z.core t)
       → state_of z ≡ with_crew (state_of a) z.house.crew.items → MatchResult x (λ _. ActsIn stands faults a s now z t)
-      (λ why. CutsOff faults a.core s why z.core t)
+      (λ why. CutsOff stands faults a.core now a.house.crew.items s why z.core t)
   acts_in (Ok u) a z s t now p is = record { acts = p; state = is }
   acts_in (Err why) a z s t now p is = p
 
@@ -68,10 +69,13 @@ module _ {B : Type 0} (stands : B → DiskLog → Type 0) (faults : B → ℕ) w
       }
 
   pub acting : (x : Result (Unit {0}) Cut) (a w z : Service) (s t : ShelfState B) (now : ℕ) (came : Bool) → Wakes a now came w
-      → MatchResult x (λ _. ActsIn stands faults w s now z t) (λ why. CutsOff faults w.core s why z.core t)
-      → MatchResult x (λ _. ActsOn stands faults a s now came z t) (λ why. CutsOff faults a.core s why z.core t)
+      → MatchResult x (λ _. ActsIn stands faults w s now z t) (λ why. CutsOff stands faults w.core now w.house.crew.items s why z.core t)
+      → MatchResult x (λ _. ActsOn stands faults a s now came z t) (λ why. CutsOff stands faults a.core now (woken_agents a now came) s why z.core t)
   acting (Ok u) a w z s t now came woke p = acts_on a w z s t now came woke p
-  acting (Err why) a w z s t now came woke p = subst (λ n. CutsOff faults n s why z.core t) woke.core p
+  acting (Err why) a w z s t now came woke p =
+      let crew : w.house.crew.items ≡ woken_agents a now came = ap (λ (x : ServiceState). x.house.crew) woke.state in
+      subst (λ n. CutsOff stands faults n now (woken_agents a now came) s why z.core t) woke.core
+      (subst (λ l. CutsOff stands faults w.core now l s why z.core t) crew p)
 
 -- ---- visitors
 
@@ -152,7 +156,7 @@ module _ {B : Type 0} (stands : B → DiskLog → Type 0) (faults : B → ℕ) w
 
   -- the agents acted, and then memory was wanted
   pub acted_cut : (a d : Service) (c : NodeCore) (s t : ShelfState B) (now : ℕ) (came : Bool) → ActsOn stands faults a s now came d t → GoesSome d.core c
-      → CutsOff faults a.core s cut.OutOfMemory c t
+      → CutsOff stands faults a.core now (woken_agents a now came) s cut.OutOfMemory c t
   acted_cut a d c s t now came p q = record {
     some = some_some a.core d.core c (record { calls = each_adds (deed_calls now) 1 (woken_agents a now came) p.deeds; adds = p.adds }) q;
     is = tt;

@@ -1,15 +1,18 @@
 -- What is kept around deeds, one after the other, and rounds that are cut short.
-use Rattle.std.proofs.Common.{◌≡◌, ℕ, List, [], ◌∷◌, ◌++◌, length, refl, ap, ◌∙◌, subst, Some}
-use Rattle.std.specs.Prelude.{slice_get}
+use Rattle.std.proofs.Common.{◌≡◌, ℕ, List, [], ◌∷◌, ◌++◌, length, refl, ap, ◌∙◌, subst, Some, true}
+use Rattle.std.specs.Prelude.{Option, slice_get}
 use Rattle.grasp_core.specs.declared.node_core.NodeCore.{NodeCore}
+use Rattle.grasp_crew.specs.Servants.{is_due}
+use Rattle.grasp_crew.specs.declared.servant.Servant.{Servant}
 use Rattle.grasp_disk.specs.Calls.{DiskLog}
 use Rattle.grasp_service_visits.proofs.Going.{some_none}
 use Rattle.grasp_service_visits.specs.Calling.{GoesSome}
-use Rattle.grasp_shelf.proofs.Keeping.{kept_none, fault_then}
-use Rattle.grasp_shelf.specs.Shelves.{ShelfState, KeepsShelf, KeptOn, IsKeptFault}
+use Rattle.grasp_shelf.proofs.Keeping.{kept_none}
+use Rattle.grasp_shelf.specs.Shelves.{ShelfState, Asking, KeepsShelf, KeptOn}
 use Rattle.grasp_store.specs.declared.fault.KeepFault.{KeepFault}
-use Rattle.grasp_service.specs.Keeping.{each_then, IsCut, CutsOff}
-use Rattle.grasp_service.specs.declared.cut.Cut.{Cut}
+use Rattle.grasp_service.specs.Cuts.{FailsAsked, IsCutAsking, FailsAround, before_call, CutsAround}
+use Rattle.grasp_service.specs.Deeds.{told_at}
+use Rattle.grasp_service.specs.Keeping.{each_then, ahead_of}
 use Rattle.grasp_service.specs.declared.cut.Cut.TheVariants as cut
 
 -- ---- two lists side by side
@@ -34,20 +37,27 @@ module _ {B : Type 0} (stands : B → DiskLog → Type 0) (faults : B → ℕ) w
     keeps = λ log is. subst (λ x. KeepsShelf stands b x) (same log) (p.keeps log is);
     never_falls = p.never_falls;
     forgets = p.forgets;
+    stopped = p.stopped;
   }
-
-  -- it was kept, and then the round was cut short
-  pub cut_then : (a b c : ShelfState B) (f : DiskLog → DiskLog) (why : Cut) → KeptOn stands faults a f b → IsCut faults b c why → IsCut faults a c why
-  cut_then a b c f cut.OutOfMemory p q = tt
-  cut_then a b c f (cut.Store fault) p q = fault_then stands faults a b c f fault p q
 
 -- ---- cut short
 
-pub cut_memory : {B : Type 0} (faults : B → ℕ) (a b : NodeCore) (s t : ShelfState B) → GoesSome a b → CutsOff faults a s cut.OutOfMemory b t
-cut_memory faults a b s t some = record { some = some; is = tt }
+module _ {B : Type 0} (stands : B → DiskLog → Type 0) (faults : B → ℕ) where
+  -- memory was wanted
+  pub cut_memory : (a b : NodeCore) (now : ℕ) (m : Servant) (s t : ShelfState B) → GoesSome a b → CutsAround stands faults a now m s cut.OutOfMemory b t
+  cut_memory a b now m s t some = record { some = some; is = tt }
 
-pub cut_fault : {B : Type 0} (faults : B → ℕ) (a : NodeCore) (s t : ShelfState B) (fault : KeepFault) → IsKeptFault faults s t fault → CutsOff faults a s
-    (cut.Store fault) a t
-cut_fault faults a s t fault is = record { some = some_none a; is = is }
+  -- the store has a fault before a call
+  pub cut_before : (a : NodeCore) (now : ℕ) (m t : Servant) (s x : ShelfState B) (fault : KeepFault) → t ≡ told_at now m → is_due t ≡ true
+      → FailsAsked stands faults s (ahead_of t) fault x → CutsAround stands faults a now (told_at now m) s (cut.Store fault) a x
+  cut_before a now m t s x fault e due fails = record {
+    some = some_none a;
+    is = subst (λ k. (is_due k ≡ true) × FailsAround stands faults now k s fault x) e (due, before_call fails);
+  }
+
+  -- the store was asked, and has a fault
+  pub cut_asked : (asked : Option Asking) (s t : ShelfState B) (fault : KeepFault) → FailsAsked stands faults s asked fault t
+      → IsCutAsking stands faults s asked (cut.Store fault) t
+  cut_asked asked s t fault fails = fails
 
 pub ruleset asking = (kept_none)

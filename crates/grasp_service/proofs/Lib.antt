@@ -2,6 +2,7 @@ pub mod Crews
 pub mod Deeds
 pub mod Events
 pub mod Exchanging
+pub mod Faults
 pub mod Following
 pub mod Kept
 pub mod Making

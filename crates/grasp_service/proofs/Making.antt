@@ -23,8 +23,8 @@ use Rattle.grasp_shelf.specs.Shelves.{ShelfState, KeptOn}
 use Rattle.grasp_service.specs.Deeds.{IsDeed, after_deed, deed_calls, kept_deeds}
 use Rattle.grasp_service.specs.Exchanges.{Exchanged, has_come}
 use Rattle.grasp_service.specs.Following.{ActsOn, TakesVisitors, Rests, Follows, woken_agents}
-use Rattle.grasp_service.specs.Keeping.{CutsOff, IsCut}
-use Rattle.grasp_service.specs.Rounds.{Round, WentOn, CutShort, Ends, outside, crew_in, house_acted, ticks, stirs, woken_crew, round_after, round_calls, agent_calls, visitor_calls}
+use Rattle.grasp_service.specs.Cuts.{CutsOff, IsCut}
+use Rattle.grasp_service.specs.Rounds.{Round, WentOn, CutShort, CutFor, Ends, outside, crew_in, house_acted, ticks, stirs, woken_crew, round_after, round_calls, agent_calls, visitor_calls}
 use Rattle.grasp_service.specs.States.{ServiceState, state_of, events_told}
 use Rattle.grasp_service.specs.declared.cut.Cut.{Cut}
 use Rattle.grasp_service.specs.declared.cut.Cut.TheVariants as cut
@@ -104,26 +104,42 @@ module _ {B : Type 0} (stands : B → DiskLog → Type 0) (faults : B → ℕ) w
       }
 
 -- a turn, and some calls
-cut_made : (a z : Service) (b : NodeCore) (wait : ℕ) (x y : Told) (e : Exchange) → Exchanged wait a.core x e b y → GoesSome b z.core → CutShort a x z y
+abbrev cut_made : (a z : Service) (b : NodeCore) (wait : ℕ) (x y : Told) (e : Exchange) → Exchanged wait a.core x e b y → GoesSome b z.core → CutShort a x z y
 cut_made a z b wait x y e p q = record { wait = wait; turn = p.turn; rest = q.calls; adds = adds_on a.core b z.core _ _ p.adds q.adds; tells = p.tells }
 
 module _ {B : Type 0} (stands : B → DiskLog → Type 0) (faults : B → ℕ) where
   -- a turn for which the node had no memory
   pub cut_at_once : (a z : Service) (b : NodeCore) (v w : ShelfState B) (wait : ℕ) (x y : Told) (e : Exchange) → Exchanged wait a.core x e b y → z.core ≡ b
-      → CutShort a x z y × IsCut faults v w cut.OutOfMemory
+      → CutFor stands faults a v x cut.OutOfMemory z w y
   cut_at_once a z b v w wait x y e p same =
-      (cut_made a z b wait x y e p (record { calls = []; adds = subst (λ n. Adds b [] n) (sym same) (adds_nothing b) }), tt)
+      record { cut = cut_made a z b wait x y e p (record { calls = []; adds = subst (λ n. Adds b [] n) (sym same) (adds_nothing b) }); is = tt }
+
+  -- a turn, and what falls short
+  round_cut : (a c z : Service) (b : NodeCore) (v w : ShelfState B) (wait : ℕ) (x y : Told) (e : Exchange) (why : Cut)
+      → Exchanged wait a.core x e b y → CutsOff stands faults c.core e.reading (woken_agents c e.reading e.came) v why z.core w
+      → c.core ≡ b → state_of c ≡ state_of a → CutFor stands faults a v x why z w y
+  round_cut a c z b v w wait x y e why p f same state =
+      let now : ℕ = p.turn.now in
+      let crew : woken_agents c now (has_come p.turn.asking) ≡ crew_in (state_of a) p.turn =
+      ap (λ (t : ServiceState). woken_crew (stirs t now (has_come p.turn.asking)) t.house.crew) state in
+      let came : IsCut stands faults now (woken_agents c now (has_come p.turn.asking)) v why w =
+      subst (λ t. IsCut stands faults now (woken_agents c now t) v why w) p.came
+      (subst (λ t. IsCut stands faults t (woken_agents c t e.came) v why w) p.reading f.is) in
+      record {
+        cut = cut_made a z b wait x y e p (subst (λ n. GoesSome n z.core) same f.some);
+        is = subst (λ l. IsCut stands faults now l v why w) crew came;
+      }
 
   -- a turn, and what follows it or falls short
   pub round_through : (r : Result Bool Cut) (a c z : Service) (b : NodeCore) (v w : ShelfState B) (wait : ℕ) (x y : Told) (k m : DeskTold) (e : Exchange)
       → Exchanged wait a.core x e b y
-      → MatchResult r (λ stops. Follows stands faults c v k e.reading e.came stops z w m) (λ why. CutsOff faults c.core v why z.core w) → e.starved ≡ false
+      → MatchResult r (λ stops. Follows stands faults c v k e.reading e.came stops z w m)
+      (λ why. CutsOff stands faults c.core e.reading (woken_agents c e.reading e.came) v why z.core w) → e.starved ≡ false
       → wait ≤ a.tick → c.core ≡ b → state_of c ≡ state_of a
-      → MatchResult r (λ stops. WentOn stands faults a v (outside x k) stops z w (outside y m)) (λ why. CutShort a x z y × IsCut faults v w why)
+      → MatchResult r (λ stops. WentOn stands faults a v (outside x k) stops z w (outside y m)) (λ why. CutFor stands faults a v x why z w y)
   round_through (Ok stops) a c z b v w wait x y k m e p f calm within same state =
       round_made stands faults a c z b v w wait x y k m e stops p calm within same state f
-  round_through (Err why) a c z b v w wait x y k m e p f calm within same state =
-      (cut_made a z b wait x y e p (subst (λ n. GoesSome n z.core) same f.some), f.is)
+  round_through (Err why) a c z b v w wait x y k m e p f calm within same state = round_cut a c z b v w wait x y e why p f same state
 
 pub ruleset rounding = (cut_at_once, round_through)
 

@@ -1,29 +1,34 @@
 -- A node that serves, from its opening to its end.
-use Rattle.std.proofs.Common.{◌≡◌, ℕ, List, [], ◌∷◌, ◌++◌, length, refl, sym, ap, ◌∙◌, subst, inl, inr, Option, Bool, true}
+use Rattle.std.proofs.Common.{◌≡◌, ℕ, List, [], ◌∷◌, ◌++◌, length, refl, sym, ap, ◌∙◌, subst, inl, inr, Option, Bool, true, arith}
 use Rattle.grasp_crew.specs.declared.servant.Servant.{Servant}
 use Rattle.grasp_desk.specs.declared.desk.DeskPlan.{DeskPlan}
 use Rattle.grasp_disk.specs.Calls.{DiskLog}
 use Rattle.grasp_io.specs.declared.links.LinkPlan.{LinkPlan}
 use Rattle.grasp_model_node.specs.Node.{first_node}
+use Rattle.grasp_node_main.specs.Program.{NothingPassed}
 use Rattle.grasp_node_main.specs.Tells.{LinksTold, Told, told}
 use Rattle.grasp_node_main.specs.Turns.{turn_calls, loop_call}
 use Rattle.grasp_shared.proofs.Adding.{adds_on}
 use Rattle.grasp_shared.specs.Adding.{Adds}
 use Rattle.grasp_shared.specs.History.{Reaches}
 use Rattle.grasp_shelf.proofs.Keeping.{kept_then}
-use Rattle.grasp_shelf.specs.Shelves.{ShelfState, KeptOn, IsKeptFault}
+use Rattle.grasp_shelf.specs.Shelves.{ShelfState, KeptOn}
 use Rattle.grasp_store.specs.declared.fault.KeepFault.{KeepFault}
 use Rattle.grasp_types.specs.declared.traffic.Input.TheVariants as input
+use Rattle.grasp_node_main.proofs.Told.{stays_same}
 use Rattle.grasp_service_visits.specs.Desks.{DeskTold}
 use Rattle.grasp_service_visits.specs.Each.{each_after, each_adds, Each}
 use Rattle.grasp_service.proofs.Rounds.{went_more}
-use Rattle.grasp_service.specs.Keeping.{kept_opening, IsCut}
+use Rattle.grasp_service.specs.Cuts.{FailsAsked, IsCut, IsCutAsking}
+use Rattle.grasp_service.specs.Keeping.{kept_opening, opening_of}
 use Rattle.grasp_service.specs.Openings.{IsOpening, opening_calls, opened, BeginsService}
 use Rattle.grasp_service.specs.Plans.{crew_of}
-use Rattle.grasp_service.specs.Rounds.{Outside, outside, WentOn, Went, CutShort, Ends, AreRounds, TellsRounds, all_round_calls, rounds_after}
+use Rattle.grasp_service.specs.Rounds.{CutFor, crew_in}
+use Rattle.grasp_service.specs.Rounds.{Outside, outside, WentOn, Went, Ends, AreRounds, TellsRounds, all_round_calls, rounds_after}
 use Rattle.grasp_service.specs.Rounds.{kept_rounds}
 use Rattle.grasp_service.specs.Served.{BeganPlan, Stopped, WentShort, ServedOn, FallsShort, ServesOpen, FallsShortOpen, StopsOn, StopsOpen}
 use Rattle.grasp_service.specs.Served.{ServesBegun, StopsLater, StopsBegun, Serves, FallsShortServing, ServesShort, ServesKept, StopsServing}
+use Rattle.grasp_service.specs.Served.{NobodyCame, NoRound}
 use Rattle.grasp_service.specs.Served.{StopsShort, OpensDoors, OpensLinks, OpensDesk, all_opening_calls, opened_state}
 use Rattle.grasp_service.specs.States.{ServiceState, state_of, first_state, with_crew}
 use Rattle.grasp_service.specs.declared.cut.Cut.{Cut}
@@ -41,9 +46,9 @@ module _ {B : Type 0} (stands : B → DiskLog → Type 0) (faults : B → ℕ) w
 
   -- rounds, and one that was cut short
   pub cut_short : (a b c : Service) (s t u : ShelfState B) (x y : Outside) (z : Told) (why : Cut) → Went stands faults a s x b t y
-      → CutShort b y.links c z × IsCut faults t u why
+      → CutFor stands faults b t y.links why c u z
       → WentShort stands faults a s x why c u z
-  cut_short a b c s t u x y z why p q = record { service = b; shelf = t; outside = y; went = p; cut = q.0; is = q.1 }
+  cut_short a b c s t u x y z why p q = record { service = b; shelf = t; outside = y; went = p; cut = q.cut; is = q.is }
 
   -- rounds, and the last drain
   pub served_on : (a b c : Service) (s t : ShelfState B) (x y : Outside) (links : LinksTold) → Stopped stands faults a s x b t y → Ends b y.links.links c links
@@ -82,7 +87,7 @@ module _ {B : Type 0} (stands : B → DiskLog → Type 0) (faults : B → ℕ) w
     };
     shelf = p.shelf;
     kept = p.went.kept;
-    is = p.is;
+    is = subst (λ k. IsCut stands faults p.cut.turn.now (crew_in k p.cut.turn) p.shelf why t) p.went.state p.is;
   }
 
   pub falls_short : (a c : Service) (s t : ShelfState B) (x : Outside) (z : Told) (desk : DeskTold) (why : Cut) → WentShort stands faults a s x why c t z
@@ -120,7 +125,18 @@ stops_open stands faults s joining doors a b why readings x y k l after p q r = 
   stops = r;
 }
 
-pub ruleset opening = (serves_open, falls_open)
+-- they couldn't be
+nobody_same : (k : DeskTold) → NobodyCame k k
+nobody_same k = record { asks = refl; given = stays_same k.given; told = stays_same k.told; came = refl; faults = omega arith }
+
+pub no_links : (readings : Option (List ℕ)) (x y : LinksTold) (k : DeskTold) → NothingPassed x y → NoRound (outside (told readings x) k) (outside (told readings y) k)
+no_links readings x y k p = record { links = p; readings = refl; desk = nobody_same k }
+
+pub no_desk : (readings : Option (List ℕ)) (x y : LinksTold) (k l : DeskTold) → NothingPassed x y → NobodyCame k l
+    → NoRound (outside (told readings x) k) (outside (told readings y) l)
+no_desk readings x y k l p q = record { links = p; readings = refl; desk = q }
+
+pub ruleset opening = (serves_open, falls_open, no_links, no_desk)
 
 -- the node was opened and begun
 pub began : (p : ServicePlan) (a b : Service) → Reaches (first_node p.node) [] a.core → state_of a ≡ first_state p → BeginsService a b → BeganPlan p b
@@ -229,13 +245,19 @@ stops_serving stands faults p s joining doors a b x y why began o =
       shelf = t.shelf;
       kept = kept_then stands faults a o.shelf t.shelf (kept_opening (opened_state p began.replies).house.crew)
           (kept_rounds (opened_state p began.replies) t.falls.rounds) begun later;
-      is = t.is;
+      is = subst (λ z. IsCut stands faults t.falls.turn.now (crew_in (rounds_after z t.falls.rounds) t.falls.turn) t.shelf why b) began.state t.is;
     }
 
 pub stops_short : {B : Type 0} (stands : B → DiskLog → Type 0) (faults : B → ℕ) (p : ServicePlan) (s : Service) (joining : LinkPlan) (doors : DeskPlan)
     (a b : ShelfState B) (x y : Outside) (why : Cut) → BeganPlan p s
     → StopsBegun stands faults s joining doors a x why b y → StopsShort stands faults p joining doors a x why b y
-stops_short stands faults p s joining doors a b x y why began (inl untouched) = inl untouched
+stops_short stands faults p s joining doors a b x y why began (inl at_once) =
+    inl (record {
+      replies = began.replies;
+      opened = began.opened;
+      untouched = at_once.0;
+      is = subst (λ (z : ServiceState). IsCutAsking stands faults a (opening_of z.house.crew) why b) began.state at_once.1;
+    })
 stops_short stands faults p s joining doors a b x y why began (inr later) = inr (stops_serving stands faults p s joining doors a b x y why began later)
 
 -- nothing was touched
@@ -260,10 +282,15 @@ module _ {B : Type 0} (stands : B → DiskLog → Type 0) (faults : B → ℕ) w
       inr (record { shelf = t; begun = subst (λ l. KeptOn stands faults a (kept_opening l) t) same p; stops = q })
 
   -- it has a fault at once, with which the node ends
-  pub stops_at_once : (s : Service) (joining : LinkPlan) (doors : DeskPlan) (a b : ShelfState B) (x : Outside) (fault why : KeepFault)
-      → IsKeptFault faults a b fault → ends.StoreFault fault ≡ ends.StoreFault why → StopsBegun stands faults s joining doors a x (cut.Store why) b x
-  stops_at_once s joining doors a b x fault why is e =
-      let same : fault ≡ why = cc in
-      inl (refl, subst (λ k. IsKeptFault faults a b k) same is)
+  pub stops_at_once : (s : Service) (crew : List Servant) (joining : LinkPlan) (doors : DeskPlan) (a b : ShelfState B) (x : Outside) (fault why : KeepFault)
+      → crew ≡ s.house.crew.items → FailsAsked stands faults a (opening_of crew) fault b → ends.StoreFault fault ≡ ends.StoreFault why
+      → StopsBegun stands faults s joining doors a x (cut.Store why) b x
+  stops_at_once s crew joining doors a b x fault why same is e =
+      let whys : fault ≡ why = cc in
+      inl (
+        refl,
+        subst (λ k. FailsAsked stands faults a (opening_of s.house.crew.items) k b) whys
+            (subst (λ l. FailsAsked stands faults a (opening_of l) fault b) same is),
+      )
 
 pub ruleset beginning = (serves_begun)

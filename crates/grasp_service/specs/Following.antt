@@ -8,7 +8,7 @@ use Rattle.grasp_shared.specs.Adding.{Adds}
 use Rattle.grasp_shared.specs.History.{History}
 use Rattle.grasp_shelf.specs.Shelves.{ShelfState, KeptOn}
 use Rattle.grasp_types.specs.declared.reply.Reply.{Reply}
-use Rattle.grasp_service_visits.specs.Desks.{DeskTold, VisitsAll, TellsOnly}
+use Rattle.grasp_service_visits.specs.Desks.{DeskTold, VisitsUntil, TellsOnly}
 use Rattle.grasp_service_visits.specs.Each.{each_after, each_adds, Each}
 use Rattle.grasp_service_visits.specs.Tending.{tended, tended_told, tend_calls}
 use Rattle.grasp_service_visits.specs.Visits.{Visited, AllMean, visitings, has_some, seats_after, house_after, all_visit_calls, all_visit_told}
@@ -76,7 +76,7 @@ pub record HearsVisitors (old : Service) (before : List Line) (desk : DeskTold) 
   pub state : state_of new ≡ state_heard old now visits replies
   pub told : after ≡ before ++ heard_told old now visits replies
   pub some_is : some ≡ has_some visits
-  pub came : VisitsAll desk (visitings visits) later
+  pub came : VisitsUntil 16 desk (visitings visits) later
 
 -- so it was, and the lines are those and then the events'
 pub record TakesVisitors (old : Service) (desk : DeskTold) (now : ℕ) (said : Said) (new : Service) (later : DeskTold) : Type 0 where
@@ -89,7 +89,7 @@ pub record TakesVisitors (old : Service) (desk : DeskTold) (now : ℕ) (said : S
   pub state : state_of new ≡ state_heard old now visits replies
   pub told : said.lines ≡ heard_told old now visits replies ++ events_told (seats_stayed old now visits replies) events
   pub some : said.some ≡ has_some visits
-  pub came : VisitsAll desk (visitings visits) later
+  pub came : VisitsUntil 16 desk (visitings visits) later
 
 -- the next round's wait was set
 pub record Rests (old : Service) (now : ℕ) (some : Bool) (new : Service) : Type 0 where

@@ -1,3 +1,4 @@
+pub mod Cuts
 pub mod Deeds
 pub mod Exchanges
 pub mod Following

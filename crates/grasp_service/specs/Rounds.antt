@@ -13,14 +13,16 @@ use Rattle.grasp_shared.specs.History.{History}
 use Rattle.grasp_shelf.specs.Shelves.{ShelfState, KeptOn}
 use Rattle.grasp_types.specs.declared.reply.Reply.{Reply}
 use Rattle.grasp_types.specs.declared.traffic.Input.TheVariants as input
-use Rattle.grasp_service_visits.specs.Desks.{DeskTold, VisitsAll, TellsOnly}
+use Rattle.grasp_service_visits.specs.Desks.{DeskTold, VisitsUntil, TellsOnly}
 use Rattle.grasp_service_visits.specs.Each.{each_after, each_adds, Each}
 use Rattle.grasp_service_visits.specs.Serving.{HouseState}
 use Rattle.grasp_service_visits.specs.Tending.{tended, tended_told, tend_calls}
 use Rattle.grasp_service_visits.specs.Visits.{Visited, AllMean, visitings, has_some, seats_after, house_after, all_visit_calls, all_visit_told}
+use Rattle.grasp_service.specs.Cuts.{IsCut}
 use Rattle.grasp_service.specs.Deeds.{Deed, IsDeed, after_deed, deed_calls, kept_deeds}
 use Rattle.grasp_service.specs.Exchanges.{has_come, is_turn_starved}
 use Rattle.grasp_service.specs.States.{ServiceState, state_of, events_told}
+use Rattle.grasp_service.specs.declared.cut.Cut.{Cut}
 use Rattle.grasp_service.specs.declared.service.Service.{Service}
 
 -- a round: how long the links were to wait at most, its turn, what each agent did, what came of visitors, the replies to the calls that were made for
@@ -124,10 +126,10 @@ pub record Outside : Type 0 where
 abbrev pub outside : Told → DeskTold → Outside
 outside links desk = record { links = links; desk = desk }
 
--- in a round the desk gave what came of visitors, and was then handed the lines
+-- in a round the desk was asked until nothing came, and 16 times at most; it gave what came of visitors, and was then handed the lines
 pub record TellsDesk (old : DeskTold) (s : ServiceState) (r : Round) (new : DeskTold) : Type 0 where
   pub middle : DeskTold
-  pub came : VisitsAll old (visitings r.visits) middle
+  pub came : VisitsUntil 16 old (visitings r.visits) middle
   pub told : TellsOnly middle (round_told s r) new
 
 pub record TellsRound (old : Outside) (s : ServiceState) (r : Round) (new : Outside) : Type 0 where
@@ -154,6 +156,12 @@ pub record CutShort (old : Service) (before : Told) (new : Service) (after : Tol
   pub rest : History
   pub adds : Adds old.core (turn_calls turn ++ rest) new.core
   pub tells : TellsTurn wait before turn after
+
+-- so it was, for this cause
+pub record CutFor {B : Type 0} (stands : B → DiskLog → Type 0) (faults : B → ℕ) (old : Service) (a : ShelfState B) (before : Told) (why : Cut) (new : Service)
+    (b : ShelfState B) (after : Told) : Type 0 where
+  pub cut : CutShort old before new after
+  pub is : IsCut stands faults cut.turn.now (crew_in (state_of old) cut.turn) a why b
 
 -- one after the other
 abbrev pub rounds_after : ServiceState → List Round → ServiceState

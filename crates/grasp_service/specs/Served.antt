@@ -1,5 +1,5 @@
 -- A node that serves, from its opening to its end.
-use Rattle.std.specs.Prelude.{◌≡◌, ◌⊎◌, ℕ, true, List, [], ◌∷◌, ◌++◌, length, IsTrue}
+use Rattle.std.specs.Prelude.{◌≡◌, ◌⊎◌, ◌≤◌, ℕ, true, List, [], ◌∷◌, ◌++◌, length, IsTrue}
 use Rattle.grasp_core.specs.declared.node_core.NodeCore.{NodeCore}
 use Rattle.grasp_desk.specs.declared.desk.DeskPlan.{DeskPlan}
 use Rattle.grasp_disk.specs.Calls.{DiskLog}
@@ -16,14 +16,18 @@ use Rattle.grasp_types.specs.declared.reply.Reply.{Reply}
 use Rattle.grasp_types.specs.declared.traffic.Input.TheVariants as input
 use Rattle.grasp_service_visits.specs.Desks.{DeskTold}
 use Rattle.grasp_service_visits.specs.Each.{each_after, each_adds, Each}
-use Rattle.grasp_service.specs.Keeping.{kept_opening, IsCut}
+use Rattle.grasp_service.specs.Cuts.{IsCut, IsCutAsking}
+use Rattle.grasp_service.specs.Keeping.{kept_opening, opening_of}
 use Rattle.grasp_service.specs.Openings.{IsOpening, opening_calls, opened}
 use Rattle.grasp_service.specs.Plans.{crew_of}
+use Rattle.grasp_service.specs.Rounds.{crew_in}
 use Rattle.grasp_service.specs.Rounds.{Round, Outside, Went, CutShort, AreRounds, TellsRounds, rounds_after, all_round_calls, kept_rounds}
 use Rattle.grasp_service.specs.States.{ServiceState, state_of, first_state, with_crew}
 use Rattle.grasp_service.specs.declared.cut.Cut.{Cut}
 use Rattle.grasp_service.specs.declared.plan.ServicePlan.{ServicePlan}
 use Rattle.grasp_service.specs.declared.service.Service.{Service}
+use Rattle.grasp_service.specs.declared.service_end.ServiceEnd.{ServiceEnd}
+use Rattle.grasp_service.specs.declared.service_end.ServiceEnd.TheVariants as ends
 
 -- ---- the opening
 
@@ -63,7 +67,7 @@ pub record WentShort {B : Type 0} (stands : B → DiskLog → Type 0) (faults : 
   pub outside : Outside
   pub went : Went stands faults old a before service shelf outside
   pub cut : CutShort service outside.links new after
-  pub is : IsCut faults shelf b why
+  pub is : IsCut stands faults cut.turn.now (crew_in (state_of service) cut.turn) shelf why b
 
 -- rounds were made until a visitor stopped the node, and then the last drain
 pub record ServedOn {B : Type 0} (stands : B → DiskLog → Type 0) (faults : B → ℕ) (old : Service) (a : ShelfState B) (before : Outside) (b : ShelfState B)
@@ -101,7 +105,7 @@ pub record StopsOn {B : Type 0} (stands : B → DiskLog → Type 0) (faults : B 
   pub falls : FallsShort old before after
   pub shelf : ShelfState B
   pub kept : KeptOn stands faults a (kept_rounds (state_of old) falls.rounds) shelf
-  pub is : IsCut faults shelf b why
+  pub is : IsCut stands faults falls.turn.now (crew_in (rounds_after (state_of old) falls.rounds) falls.turn) shelf why b
 
 -- ---- from the opening to the end
 
@@ -115,9 +119,32 @@ pub record OpensLinks (p : LinkPlan) (old new : LinksTold) : Type 0 where
 pub record OpensDesk (p : DeskPlan) (old new : DeskTold) : Type 0 where
   pub is_open : IsTrue new.is_open
   pub plans : Grows old.plans new.plans p
+  pub asks : new.asks ≡ old.asks
   pub given : Stays old.given new.given
   pub told : Stays old.told new.told
   pub came : new.came ≡ old.came
+
+-- the desk wasn't asked, nobody came, and nothing was told; whether it was opened isn't said
+pub record NobodyCame (old new : DeskTold) : Type 0 where
+  pub asks : new.asks ≡ old.asks
+  pub given : Stays old.given new.given
+  pub told : Stays old.told new.told
+  pub came : new.came ≡ old.came
+  pub faults : old.faults ≤ new.faults
+
+-- no round was made: nothing passed over the links, the clock wasn't read, and nobody came
+pub record NoRound (old new : Outside) : Type 0 where
+  pub links : NothingPassed old.links.links new.links.links
+  pub readings : new.links.readings ≡ old.links.readings
+  pub desk : NobodyCame old.desk new.desk
+
+-- links or desk couldn't be opened
+abbrev pub IsOfDoors : ServiceEnd → Type 0
+IsOfDoors ends.LinkFault = Unit {0}
+IsOfDoors ends.DeskFault = Unit {0}
+IsOfDoors ends.Stopped = ⊥
+IsOfDoors ends.OutOfMemory = ⊥
+IsOfDoors (ends.StoreFault fault) = ⊥
 
 -- links and desk were opened, and the clock wasn't read
 pub record OpensDoors (joining : LinkPlan) (doors : DeskPlan) (old new : Outside) : Type 0 where
@@ -212,7 +239,7 @@ pub record StopsLater {B : Type 0} (stands : B → DiskLog → Type 0) (faults :
 abbrev pub StopsBegun : {B : Type 0} → (B → DiskLog → Type 0) → (B → ℕ) → Service → LinkPlan → DeskPlan → ShelfState B → Outside → Cut → ShelfState B
     → Outside → Type 0
 StopsBegun stands faults s joining doors a before why b after =
-    ((after ≡ before) × IsCut faults a b why) ⊎ StopsLater stands faults s joining doors a before why b after
+    ((after ≡ before) × IsCutAsking stands faults a (opening_of s.house.crew.items) why b) ⊎ StopsLater stands faults s joining doors a before why b after
 
 -- ---- what is kept
 
@@ -233,10 +260,18 @@ pub record StopsServing {B : Type 0} (stands : B → DiskLog → Type 0) (faults
   pub falls : FallsShortServing p joining doors before after
   pub shelf : ShelfState B
   pub kept : KeptOn stands faults a (kept_life p falls.replies falls.rounds) shelf
-  pub is : IsCut faults shelf b why
+  pub is : IsCut stands faults falls.turn.now (crew_in (rounds_after (opened_state p falls.replies) falls.rounds) falls.turn) shelf why b
+
+-- the agents of a plan made their opening calls, and then this cause came: nothing else was touched
+pub record StopsAtOnce {B : Type 0} (stands : B → DiskLog → Type 0) (faults : B → ℕ) (p : ServicePlan) (a : ShelfState B) (before : Outside) (why : Cut)
+    (b : ShelfState B) (after : Outside) : Type 0 where
+  pub replies : List (List Reply)
+  pub opened : IsOpened p replies
+  pub untouched : after ≡ before
+  pub is : IsCutAsking stands faults a (opening_of (opened_state p replies).house.crew) why b
 
 -- this cause came behind the opening calls, and then nothing else was touched, or in a round
 abbrev pub StopsShort : {B : Type 0} → (B → DiskLog → Type 0) → (B → ℕ) → ServicePlan → LinkPlan → DeskPlan → ShelfState B → Outside → Cut → ShelfState B
     → Outside → Type 0
 StopsShort stands faults p joining doors a before why b after =
-    ((after ≡ before) × IsCut faults a b why) ⊎ StopsServing stands faults p joining doors a before why b after
+    StopsAtOnce stands faults p a before why b after ⊎ StopsServing stands faults p joining doors a before why b after

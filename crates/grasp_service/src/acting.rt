@@ -2,8 +2,9 @@
 
 ghost use Rattle.std.specs.Prelude.{◌≡◌, MatchResult, map};
 ghost use Rattle.grasp_crew.specs.Servants.{after_call, woken};
-ghost use Rattle.grasp_service.specs.Deeds.{Acts, ActsAll};
-ghost use Rattle.grasp_service.specs.Keeping.{CutsOff, IsCut, kept_after};
+ghost use Rattle.grasp_service.specs.Cuts.{CutsAround, CutsOff, IsCutAsking};
+ghost use Rattle.grasp_service.specs.Deeds.{Acts, ActsAll, told_at};
+ghost use Rattle.grasp_service.specs.Keeping.{behind_of, kept_after};
 ghost use Rattle.grasp_shelf.specs.Shelves.{KeptOn};
 
 use crate::cut::Cut;
@@ -41,7 +42,7 @@ pub(crate) fn act_all<B: Disk>(
     now: u64,
 ) -> Result<(), Cut>
     ensures { MatchResult result (λ _. ActsAll B.stands B.faults core.old crew.old shelf.old now core.new crew.new shelf.new)
-        (λ cut. CutsOff B.faults core.old shelf.old cut core.new shelf.new) }
+        (λ cut. CutsOff B.stands B.faults core.old now crew.old shelf.old cut core.new shelf.new) }
 {
     for i in 0..crew.len() {
         act(alloc, core, &mut crew[i], shelf, events, now)?;
@@ -60,7 +61,7 @@ fn act<B: Disk>(
     now: u64,
 ) -> Result<(), Cut>
     ensures { MatchResult result (λ _. Acts B.stands B.faults core.old servant.old shelf.old now core.new servant.new shelf.new)
-        (λ cut. CutsOff B.faults core.old shelf.old cut core.new shelf.new) }
+        (λ cut. CutsAround B.stands B.faults core.old now (told_at now servant.old) shelf.old cut core.new shelf.new) }
 {
     servant.tell(now)?;
     if !servant.is_due() {
@@ -91,7 +92,7 @@ fn take_reply<B: Disk>(
 ) -> Result<(), Cut>
     ensures takes { servant.new ≡ after_call now servant.old reply }
     ensures kept { MatchResult result (λ _. KeptOn B.stands B.faults shelf.old (kept_after servant.new) shelf.new)
-        (λ cut. IsCut B.faults shelf.old shelf.new cut) }
+        (λ cut. IsCutAsking B.stands B.faults shelf.old (behind_of servant.new) cut shelf.new) }
 {
     hear(alloc, servant, events, now, reply, asked)?;
     keep_after(shelf, servant)?;

@@ -2,8 +2,9 @@
 
 ghost use Rattle.std.specs.Prelude.{◌≡◌, MatchResult};
 ghost use Rattle.grasp_crew.specs.Servants.{call_of};
-ghost use Rattle.grasp_service.specs.Keeping.{kept_ahead, kept_after, kept_opening};
-ghost use Rattle.grasp_shelf.specs.Shelves.{KeptOn, IsKeptFault};
+ghost use Rattle.grasp_service.specs.Cuts.{FailsAsked};
+ghost use Rattle.grasp_service.specs.Keeping.{ahead_of, behind_of, opening_of, kept_ahead, kept_after, kept_opening};
+ghost use Rattle.grasp_shelf.specs.Shelves.{KeptOn};
 
 use grasp_crew::Servant;
 use grasp_disk::Disk;
@@ -20,7 +21,7 @@ pub(crate) fn keep_before<B: Disk>(
 ) -> Result<(), KeepFault>
     requires { input.now ≡ call_of servant.now }
     ensures { MatchResult result (λ _. KeptOn B.stands B.faults shelf.old (kept_ahead servant.now) shelf.new)
-        (λ fault. IsKeptFault B.faults shelf.old shelf.new fault) }
+        (λ fault. FailsAsked B.stands B.faults shelf.old (ahead_of servant.now) fault shelf.new) }
 {
     match servant {
         Servant::Steward(steward) => {
@@ -38,7 +39,7 @@ pub(crate) fn keep_before<B: Disk>(
 #[tactic(auto, using(crate::proofs::Kept::asking))]
 pub(crate) fn keep_after<B: Disk>(shelf: &mut Shelf<B>, servant: &Servant) -> Result<(), KeepFault>
     ensures { MatchResult result (λ _. KeptOn B.stands B.faults shelf.old (kept_after servant.now) shelf.new)
-        (λ fault. IsKeptFault B.faults shelf.old shelf.new fault) }
+        (λ fault. FailsAsked B.stands B.faults shelf.old (behind_of servant.now) fault shelf.new) }
 {
     match servant {
         Servant::Steward(steward) => shelf.after(steward.agent()),
@@ -51,7 +52,7 @@ pub(crate) fn keep_after<B: Disk>(shelf: &mut Shelf<B>, servant: &Servant) -> Re
 #[tactic(auto, using(crate::proofs::Kept::asking))]
 pub(crate) fn keep_opening<B: Disk>(shelf: &mut Shelf<B>, crew: &[Servant]) -> Result<(), KeepFault>
     ensures { MatchResult result (λ _. KeptOn B.stands B.faults shelf.old (kept_opening crew.now) shelf.new)
-        (λ fault. IsKeptFault B.faults shelf.old shelf.new fault) }
+        (λ fault. FailsAsked B.stands B.faults shelf.old (opening_of crew.now) fault shelf.new) }
 {
     match crew {
         [servant, ..] => keep_after(shelf, servant),

@@ -3,9 +3,9 @@
 ghost use Rattle.std.specs.Prelude.{◌≡◌, ◌++◌, filter, MatchResult, OnOk};
 ghost use Rattle.grasp_crew.specs.Seats.{stays};
 ghost use Rattle.grasp_node_main.specs.Tells.{links_told, told};
-ghost use Rattle.grasp_service.specs.Following.{Wakes, ActsIn, ActsOn, HearsVisitors, TakesVisitors, Rests, Follows};
-ghost use Rattle.grasp_service.specs.Keeping.{CutsOff, IsCut};
-ghost use Rattle.grasp_service.specs.Rounds.{WentOn, CutShort, Ends, outside, ticks, stirs, woken_crew};
+ghost use Rattle.grasp_service.specs.Cuts.{CutsOff};
+ghost use Rattle.grasp_service.specs.Following.{Wakes, ActsIn, ActsOn, HearsVisitors, TakesVisitors, Rests, Follows, woken_agents};
+ghost use Rattle.grasp_service.specs.Rounds.{WentOn, CutFor, Ends, outside, ticks, stirs, woken_crew};
 ghost use Rattle.grasp_service.specs.States.{state_of, heard_event, event_told, events_told};
 ghost use Rattle.grasp_service_visits.specs.Calling.{GoesSome};
 ghost use Rattle.grasp_service_visits.specs.Desks.{desk_told};
@@ -60,9 +60,9 @@ impl Service {
             (λ stops. WentOn B.stands B.faults self.old shelf.old (outside (told (C.readings clock.old)
             (links_told L.Links links.old)) (desk_told D.Desk desk.old)) stops self.new shelf.new (outside (told (C.readings clock.new)
             (links_told L.Links links.new)) (desk_told D.Desk desk.new)))
-            (λ cut. CutShort self.old (told (C.readings clock.old)
-            (links_told L.Links links.old)) self.new (told (C.readings clock.new)
-            (links_told L.Links links.new)) × IsCut B.faults shelf.old shelf.new cut) }
+            (λ cut. CutFor B.stands B.faults self.old shelf.old (told (C.readings clock.old)
+            (links_told L.Links links.old)) cut self.new shelf.new (told (C.readings clock.new)
+            (links_told L.Links links.new))) }
     {
         let wait = self.wait.min(self.tick);
         let turn = make_turn(&mut self.core, wait, links, clock);
@@ -85,7 +85,8 @@ impl Service {
         ensures { MatchResult result
             (λ stops. Follows B.stands B.faults self.old shelf.old (desk_told D.Desk desk.old) turn.now.reading turn.now.came stops self.new shelf.new
             (desk_told D.Desk desk.new))
-            (λ cut. CutsOff B.faults self.old.core shelf.old cut self.new.core shelf.new) }
+            (λ cut. CutsOff B.stands B.faults self.old.core turn.now.reading (woken_agents self.old turn.now.reading turn.now.came) shelf.old cut
+            self.new.core shelf.new) }
     {
         let mut events = List::new(self.alloc);
         self.act(shelf, &mut events, turn)?;
@@ -105,7 +106,8 @@ impl Service {
         turn: &Exchange,
     ) -> Result<(), Cut>
         ensures { MatchResult result (λ _. ActsOn B.stands B.faults self.old shelf.old turn.now.reading turn.now.came self.new shelf.new)
-            (λ cut. CutsOff B.faults self.old.core shelf.old cut self.new.core shelf.new) }
+            (λ cut. CutsOff B.stands B.faults self.old.core turn.now.reading (woken_agents self.old turn.now.reading turn.now.came) shelf.old cut
+            self.new.core shelf.new) }
     {
         self.wake(turn);
         self.act_woken(shelf, events, turn.reading)
@@ -130,7 +132,7 @@ impl Service {
         now: u64,
     ) -> Result<(), Cut>
         ensures { MatchResult result (λ _. ActsIn B.stands B.faults self.old shelf.old now self.new shelf.new)
-            (λ cut. CutsOff B.faults self.old.core shelf.old cut self.new.core shelf.new) }
+            (λ cut. CutsOff B.stands B.faults self.old.core now self.old.house.crew.items shelf.old cut self.new.core shelf.new) }
     {
         act_all(
             self.alloc,

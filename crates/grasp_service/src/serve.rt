@@ -2,10 +2,12 @@
 
 ghost use Rattle.std.specs.Prelude.{◌≡◌, ◌≢◌, ◌<◌, true, false, length, IfOk, MatchResult};
 ghost use Rattle.grasp_io.specs.Faults.{Rose};
+ghost use Rattle.grasp_node_main.specs.Program.{NothingPassed};
 ghost use Rattle.grasp_node_main.specs.Tells.{links_told, told};
 ghost use Rattle.grasp_service.specs.Rounds.{outside};
 ghost use Rattle.grasp_store.specs.declared.fault.KeepFault.{KeepFault};
 ghost use Rattle.grasp_service.specs.Served.{BeganPlan, Stopped, WentShort, ServedOn, FallsShort, OpensLinks, OpensDesk, ServesOpen, FallsShortOpen};
+ghost use Rattle.grasp_service.specs.Served.{IsOfDoors, NobodyCame, NoRound};
 ghost use Rattle.grasp_service.specs.Served.{StopsOn, StopsOpen, Serves, ServesShort, ServesBegun, StopsBegun, ServesKept, StopsShort};
 ghost use Rattle.grasp_service_visits.specs.Desks.{desk_told};
 
@@ -58,6 +60,9 @@ pub fn serve_plan<R: Wait, K: Sink, L: Links + Counted, D: Desk, C: Clock, B: Di
         (Cut.Store fault) shelf.new (outside (told (C.readings clock.new) (links_told L.Links links.new)) (desk_told D.Desk desk.new)) }
     ensures link_fault { result ≡ ServiceEnd.LinkFault → Rose (L.faults links.old) (L.faults links.new) }
     ensures desk_fault { result ≡ ServiceEnd.DeskFault → Rose (D.faults desk.old) (D.faults desk.new) }
+    ensures no_round { IsOfDoors result → NoRound
+        (outside (told (C.readings clock.old) (links_told L.Links links.old)) (desk_told D.Desk desk.old))
+        (outside (told (C.readings clock.new) (links_told L.Links links.new)) (desk_told D.Desk desk.new)) }
 {
     match begin(alloc, plan) {
         Ok(service) => {
@@ -123,6 +128,9 @@ fn serve_begun<R: Wait, K: Sink, L: Links + Counted, D: Desk, C: Clock, B: Disk>
         (Cut.Store fault) shelf.new (outside (told (C.readings clock.new) (links_told L.Links links.new)) (desk_told D.Desk desk.new)) }
     ensures link_fault { result ≡ ServiceEnd.LinkFault → Rose (L.faults links.old) (L.faults links.new) }
     ensures desk_fault { result ≡ ServiceEnd.DeskFault → Rose (D.faults desk.old) (D.faults desk.new) }
+    ensures no_round { IsOfDoors result → NoRound
+        (outside (told (C.readings clock.old) (links_told L.Links links.old)) (desk_told D.Desk desk.old))
+        (outside (told (C.readings clock.new) (links_told L.Links links.new)) (desk_told D.Desk desk.new)) }
 {
     match keep_opening(shelf, &service.house.crew) {
         Ok(()) => serve_open(
@@ -157,6 +165,9 @@ fn serve_open<R: Wait, K: Sink, L: Links + Counted, D: Desk, C: Clock, B: Disk>(
         (Cut.Store fault) shelf.new (outside (told (C.readings clock.new) (links_told L.Links links.new)) (desk_told D.Desk desk.new)) }
     ensures link_fault { result ≡ ServiceEnd.LinkFault → Rose (L.faults links.old) (L.faults links.new) }
     ensures desk_fault { result ≡ ServiceEnd.DeskFault → Rose (D.faults desk.old) (D.faults desk.new) }
+    ensures no_round { IsOfDoors result → NoRound
+        (outside (told (C.readings clock.old) (links_told L.Links links.old)) (desk_told D.Desk desk.old))
+        (outside (told (C.readings clock.new) (links_told L.Links links.new)) (desk_told D.Desk desk.new)) }
 {
     if !open_links(links, joining) {
         return ServiceEnd::LinkFault;
@@ -170,6 +181,7 @@ fn serve_open<R: Wait, K: Sink, L: Links + Counted, D: Desk, C: Clock, B: Disk>(
 /// Whether the links could be opened with this plan.
 fn open_links<L: Links>(links: &mut L, plan: &LinkPlan) -> bool
     ensures opens { result ≡ true → OpensLinks plan.now (links_told L.Links links.old) (links_told L.Links links.new) }
+    ensures passed { NothingPassed (links_told L.Links links.old) (links_told L.Links links.new) }
     ensures fault { result ≡ false → Rose (L.faults links.old) (L.faults links.new) }
 {
     links.open(plan).is_ok()
@@ -178,6 +190,7 @@ fn open_links<L: Links>(links: &mut L, plan: &LinkPlan) -> bool
 /// Whether the desk could be opened with this plan.
 fn open_desk<D: Desk>(desk: &mut D, plan: &DeskPlan) -> bool
     ensures opens { result ≡ true → OpensDesk plan.now (desk_told D.Desk desk.old) (desk_told D.Desk desk.new) }
+    ensures nobody { NobodyCame (desk_told D.Desk desk.old) (desk_told D.Desk desk.new) }
     ensures fault { result ≡ false → Rose (D.faults desk.old) (D.faults desk.new) }
 {
     desk.open(plan).is_ok()

@@ -6,8 +6,9 @@ use Rattle.grasp_desk.specs.declared.desk.Visiting.{Visiting}
 use Rattle.grasp_desk.specs.declared.desk.Visiting.TheVariants.{Came, Line, Left, Nothing, OutOfMemory}
 use Rattle.grasp_io.proofs.Facts.{rose_before}
 use Rattle.grasp_io.specs.Faults.{Rose}
+use Rattle.grasp_io.specs.Memory.{one_more}
 use Rattle.grasp_io.specs.Told.{Stays, Grows, MayGrow}
-use Rattle.grasp_service_visits.specs.Desks.{DeskTold, is_visit, DeskRests, VisitsOnce, VisitsAll, TellsAll, TellsOnly}
+use Rattle.grasp_service_visits.specs.Desks.{DeskTold, is_visit, DeskRests, AsksInVain, VisitsOnce, VisitsAll, TellsAll, TellsOnly}
 
 false_is_true : false ≡ true → ⊥
 false_is_true e = cc
@@ -40,12 +41,13 @@ module _ {A : Type 0} where
 
 -- nothing happened
 pub rests_same : (x : DeskTold) → DeskRests x x
-rests_same x = record { is_open = refl; plans = stays_same x.plans; given = stays_same x.given; told = stays_same x.told; came = refl; faults = omega arith }
+rests_same x = record { is_open = refl; plans = stays_same x.plans; asks = refl; given = stays_same x.given; told = stays_same x.told; came = refl; faults = omega arith }
 
 rests_on : (x y z : DeskTold) → DeskRests x y → DeskRests y z → DeskRests x z
 rests_on x y z p q = record {
   is_open = q.is_open ∙ p.is_open;
   plans = stays_on x.plans y.plans z.plans p.plans q.plans;
+  asks = q.asks ∙ p.asks;
   given = stays_on x.given y.given z.given p.given q.given;
   told = stays_on x.told y.told z.told p.told q.told;
   came = q.came ∙ p.came;
@@ -56,6 +58,7 @@ rests_then : (x y z : DeskTold) (v : Visiting) → DeskRests x y → VisitsOnce 
 rests_then x y z v p q = record {
   is_open = q.is_open ∙ p.is_open;
   plans = stays_on x.plans y.plans z.plans p.plans q.plans;
+  asks = q.asks ∙ ap one_more p.asks;
   given = stays_grows x.given y.given z.given v p.given q.given;
   told = stays_on x.told y.told z.told p.told q.told;
   next = subst (λ n. IsNext n z.came v) p.came q.next;
@@ -76,23 +79,23 @@ visits_on x y z [] ws p q = rests_visits x y z ws p q
 visits_on x y z (v ∷ vs) ws p q = (p.0, p.1, visits_on p.0 y z vs ws p.2 q)
 
 -- an asking came to something, or to nothing
-pub came_once : (x y : DeskTold) (v : Visiting) → is_visit v ≡ true → y.is_open ≡ x.is_open → Stays x.plans y.plans → Gives x.given y.given v
+pub came_once : (x y : DeskTold) (v : Visiting) → is_visit v ≡ true → y.is_open ≡ x.is_open → Stays x.plans y.plans → y.asks ≡ one_more x.asks → Gives x.given y.given v
     → Stays x.told y.told → IsNext x.came y.came v → x.faults ≤ y.faults
     → VisitsOnce x v y
-came_once x y (Came visitor guest) e is p g t n f = record { is_open = is; plans = p; given = g; told = t; next = n; faults = f }
-came_once x y (Line visitor line) e is p g t n f = record { is_open = is; plans = p; given = g; told = t; next = n; faults = f }
-came_once x y (Left visitor) e is p g t n f = record { is_open = is; plans = p; given = g; told = t; next = n; faults = f }
-came_once x y Nothing e is p g t n f = absurd (false_is_true e)
-came_once x y OutOfMemory e is p g t n f = absurd (false_is_true e)
+came_once x y (Came visitor guest) e is p k g t n f = record { is_open = is; plans = p; asks = k; given = g; told = t; next = n; faults = f }
+came_once x y (Line visitor line) e is p k g t n f = record { is_open = is; plans = p; asks = k; given = g; told = t; next = n; faults = f }
+came_once x y (Left visitor) e is p k g t n f = record { is_open = is; plans = p; asks = k; given = g; told = t; next = n; faults = f }
+came_once x y Nothing e is p k g t n f = absurd (false_is_true e)
+came_once x y OutOfMemory e is p k g t n f = absurd (false_is_true e)
 
-pub came_nothing : (x y : DeskTold) (v : Visiting) → is_visit v ≡ false → y.is_open ≡ x.is_open → Stays x.plans y.plans → Gives x.given y.given v
+pub came_nothing : (x y : DeskTold) (v : Visiting) → is_visit v ≡ false → y.is_open ≡ x.is_open → Stays x.plans y.plans → y.asks ≡ one_more x.asks → Gives x.given y.given v
     → Stays x.told y.told → IsNext x.came y.came v → x.faults ≤ y.faults
-    → DeskRests x y
-came_nothing x y (Came visitor guest) e is p g t n f = absurd (false_is_true (sym e))
-came_nothing x y (Line visitor line) e is p g t n f = absurd (false_is_true (sym e))
-came_nothing x y (Left visitor) e is p g t n f = absurd (false_is_true (sym e))
-came_nothing x y Nothing e is p g t n f = record { is_open = is; plans = p; given = g; told = t; came = n; faults = f }
-came_nothing x y OutOfMemory e is p g t n f = record { is_open = is; plans = p; given = g; told = t; came = n; faults = f }
+    → AsksInVain x y
+came_nothing x y (Came visitor guest) e is p k g t n f = absurd (false_is_true (sym e))
+came_nothing x y (Line visitor line) e is p k g t n f = absurd (false_is_true (sym e))
+came_nothing x y (Left visitor) e is p k g t n f = absurd (false_is_true (sym e))
+came_nothing x y Nothing e is p k g t n f = record { is_open = is; plans = p; asks = k; given = g; told = t; came = n; faults = f }
+came_nothing x y OutOfMemory e is p k g t n f = record { is_open = is; plans = p; asks = k; given = g; told = t; came = n; faults = f }
 
 -- ---- what was told
 
@@ -113,14 +116,15 @@ tells_more a b c f g h (x ∷ ls) ms s t = (s.0, s.1, s.2, s.3, tells_more s.0 b
 
 -- nothing was told
 pub tells_nothing : (x : DeskTold) → TellsOnly x [] x
-tells_nothing x = record { is_open = refl; plans = stays_same x.plans; given = stays_same x.given; told = (stays_same x.told, omega arith); came = refl }
+tells_nothing x = record { is_open = refl; plans = stays_same x.plans; asks = refl; given = stays_same x.given; told = (stays_same x.told, omega arith); came = refl }
 
 -- one line more
-pub tells_one : (x y z : DeskTold) (ls : List Told) (line : Told) → TellsOnly x ls y → z.is_open ≡ y.is_open → Stays y.plans z.plans → Stays y.given z.given
+pub tells_one : (x y z : DeskTold) (ls : List Told) (line : Told) → TellsOnly x ls y → z.is_open ≡ y.is_open → Stays y.plans z.plans → z.asks ≡ y.asks → Stays y.given z.given
     → Tells y.told z.told line y.faults z.faults → z.came ≡ y.came → y.faults ≤ z.faults → TellsOnly x (ls ++ line ∷ []) z
-tells_one x y z ls line p is plans given told came faults = record {
+tells_one x y z ls line p is plans asks given told came faults = record {
   is_open = is ∙ p.is_open;
   plans = stays_on x.plans y.plans z.plans p.plans plans;
+  asks = asks ∙ p.asks;
   given = stays_on x.given y.given z.given p.given given;
   told = tells_more x.told y.told z.told x.faults y.faults z.faults ls (line ∷ []) p.told (z.told, z.faults, told, faults, (stays_same z.told, omega arith));
   came = came ∙ p.came;

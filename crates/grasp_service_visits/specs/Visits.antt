@@ -1,5 +1,5 @@
 -- What comes of visitors: they come, write lines and leave.
-use Rattle.std.specs.Prelude.{◌≡◌, ℕ, ◌+◌, Bool, true, false, List, [], ◌∷◌, ◌++◌, Option, None, Some, position, slice_get, slice_set}
+use Rattle.std.specs.Prelude.{◌≡◌, ℕ, ◌+◌, Bool, true, false, List, [], ◌∷◌, ◌++◌, length, Option, None, Some, position, slice_get, slice_set}
 use Rattle.grasp_control.specs.Answers.{answer_line}
 use Rattle.grasp_control.specs.Places.{IsRequestPlace}
 use Rattle.grasp_control.specs.Requests.{IsRequestLine, IsNoRequest}
@@ -19,7 +19,7 @@ use Rattle.grasp_types.specs.declared.call.Call.{Call}
 use Rattle.grasp_types.specs.declared.reply.Reply.{Reply}
 use Rattle.grasp_service_visits.specs.Answers.{told_to, told_answer}
 use Rattle.grasp_service_visits.specs.Calling.{call_made, goodbye_call, goodbye_seat}
-use Rattle.grasp_service_visits.specs.Desks.{DeskTold, VisitsAll}
+use Rattle.grasp_service_visits.specs.Desks.{DeskTold, VisitsAll, VisitsUntil, AsksInVain}
 use Rattle.grasp_service_visits.specs.Serving.{HouseState, house_of, call_of_request, answer_to, seat_to, house_to}
 use Rattle.grasp_service_visits.specs.declared.answer.Answer.{Answer}
 use Rattle.grasp_service_visits.specs.declared.answer.Answer.TheVariants.{Plain}
@@ -205,7 +205,30 @@ abbrev pub AllMean : ℕ → List SeatState → List Visited → Type 0
 AllMean now seats [] = Unit {0}
 AllMean now seats (v ∷ vs) = VisitMeans seats v.visiting v.said × AllMean now (seats_visited now seats v.visiting v.said) vs
 
--- all this came of visitors, and was taken; whether something did
+-- Inside: so much came of visitors, and was taken; whether something did
+pub record TakesSome (count : ℕ) (old : NodeCore) (house : House) (seats : List SeatState) (olds : List Told) (desk : DeskTold) (now : ℕ) (some : Bool)
+    (new : NodeCore) (after : House) (others : List SeatState) (news : List Told) (later : DeskTold) : Type 0 where
+  pub visits : List Visited
+  pub count_is : length (visitings visits) ≡ count
+  pub mean : AllMean now seats visits
+  pub adds : (agents : ℕ) → Adds old (all_visit_calls agents now seats visits) new
+  pub seats_are : others ≡ seats_after now seats visits
+  pub house_is : house_of after ≡ house_after now seats (house_of house) visits
+  pub told : news ≡ olds ++ all_visit_told now seats (house_of house) visits
+  pub came : VisitsAll desk (visitings visits) later
+  pub some_is : some ≡ has_some visits
+
+-- Inside: the desk was asked once; what came was taken, or nothing came
+pub record TakesNothing (old : NodeCore) (house : House) (seats : List SeatState) (olds : List Told) (desk : DeskTold) (now : ℕ)
+    (new : NodeCore) (after : House) (others : List SeatState) (news : List Told) (later : DeskTold) : Type 0 where
+  pub takes : TakesSome 0 old house seats olds desk now false new after others news desk
+  pub asks : AsksInVain desk later
+
+abbrev pub TakesOnce : NodeCore → House → List SeatState → List Told → DeskTold → ℕ → Bool → NodeCore → House → List SeatState → List Told → DeskTold → Type 0
+TakesOnce old house seats olds desk now true new after others news later = TakesSome 1 old house seats olds desk now true new after others news later
+TakesOnce old house seats olds desk now false new after others news later = TakesNothing old house seats olds desk now new after others news later
+
+-- the desk was asked until nothing came, and 16 times at most: all this came of visitors, and was taken; whether something did
 pub record TakesVisits (old : NodeCore) (house : House) (seats : List SeatState) (olds : List Told) (desk : DeskTold) (now : ℕ) (some : Bool)
     (new : NodeCore) (after : House) (others : List SeatState) (news : List Told) (later : DeskTold) : Type 0 where
   pub visits : List Visited
@@ -214,5 +237,5 @@ pub record TakesVisits (old : NodeCore) (house : House) (seats : List SeatState)
   pub seats_are : others ≡ seats_after now seats visits
   pub house_is : house_of after ≡ house_after now seats (house_of house) visits
   pub told : news ≡ olds ++ all_visit_told now seats (house_of house) visits
-  pub came : VisitsAll desk (visitings visits) later
+  pub came : VisitsUntil 16 desk (visitings visits) later
   pub some_is : some ≡ has_some visits

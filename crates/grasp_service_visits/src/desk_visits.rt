@@ -3,7 +3,7 @@
 ghost use Rattle.std.specs.Prelude.{◌≡◌, MatchResult};
 ghost use Rattle.grasp_service_visits.specs.Calling.{GoesSome};
 ghost use Rattle.grasp_service_visits.specs.Desks.{desk_told, is_visit};
-ghost use Rattle.grasp_service_visits.specs.Visits.{TakesVisits};
+ghost use Rattle.grasp_service_visits.specs.Visits.{TakesOnce, TakesVisits};
 ghost use Rattle.grasp_service_visits.specs.Parts.{TakesIn};
 
 use crate::house::House;
@@ -58,7 +58,7 @@ fn take_visit<D: Desk>(
     now: u64,
 ) -> Result<bool, OutOfMemory>
     ensures { MatchResult result
-        (λ some. TakesVisits core.old house.old seats.old.items out.old (desk_told D.Desk desk.old) now some core.new house.new seats.new.items out.new
+        (λ some. TakesOnce core.old house.old seats.old.items out.old (desk_told D.Desk desk.old) now some core.new house.new seats.new.items out.new
         (desk_told D.Desk desk.new))
         (λ _. GoesSome core.old core.new) }
 {

@@ -5,14 +5,15 @@ use Rattle.std.proofs.lemmas.Option.{none-some}
 use Rattle.grasp_io.specs.Faults.{Rose}
 use Rattle.grasp_disk.specs.Calls.{DiskLog, bytes_of}
 use Rattle.grasp_agent.specs.States.{AgentState}
+use Rattle.grasp_store.specs.Saving.{open_calls}
 use Rattle.grasp_store.specs.Current.{current_place, newer}
 use Rattle.grasp_store.specs.Keeping.{KeeperState, Opens, IsBlank, FailsToOpen}
 use Rattle.grasp_store.specs.Slots.{Saved, slot_in}
 use Rattle.grasp_store.specs.declared.fault.OpenFault.{OpenFault}
 use Rattle.grasp_store.specs.declared.fault.OpenFault.TheVariants as open_fault
 use Rattle.grasp_store.specs.declared.place.Place.TheVariants.{First, Second}
-use Rattle.grasp_shelf.specs.Opening.{IsShelfFault, IsOfCalls, IsUnused, fault_of}
-use Rattle.grasp_shelf.specs.Shelves.{ShelfState}
+use Rattle.grasp_shelf.specs.Opening.{IsShelfFault, IsOfCalls, IsUnused, LeavesClosed, fault_of}
+use Rattle.grasp_shelf.specs.Shelves.{ShelfState, ClosedStands, IsClosed}
 use Rattle.grasp_shelf.specs.declared.fault.ShelfFault.{ShelfFault}
 use Rattle.grasp_shelf.specs.declared.fault.ShelfFault.TheVariants as fault
 
@@ -48,6 +49,22 @@ refused_fault Stands log (open_fault.BadImage slot) p = p.cause
 refused_fault Stands log (open_fault.Roots why) p = p.cause.0
 refused_fault Stands log open_fault.OutOfMemory p = p.cause.0
 
+-- what was asked of it
+pub refused_leaves : (Stands : DiskLog → Type 0) (log : DiskLog) (f : OpenFault) → FailsToOpen Stands [] log f → LeavesClosed Stands log (fault_of f)
+refused_leaves Stands log open_fault.DiskFault p = p
+refused_leaves Stands log (open_fault.BadImage slot) p = p.makes
+refused_leaves Stands log (open_fault.Roots why) p = p.makes
+refused_leaves Stands log open_fault.OutOfMemory p = p.makes
+
+pub empty_leaves : {B : Type 0} (stands : B → DiskLog → Type 0) (k : KeeperState B) (agent : AgentState) (log : DiskLog) → Opens stands [] k agent log
+    → LeavesClosed (stands k.disk) log fault.Empty
+empty_leaves stands k agent log opens = record { stands = opens.keeps.stands; moments = opens.moments }
+
+-- of the shelf's store, which is there again
+pub leaves_closed : {B : Type 0} (stands : B → DiskLog → Type 0) (s : B) (a : ShelfState B) (log : DiskLog) (f : ShelfFault) → a.store ≡ Some s
+    → LeavesClosed (stands s) log f → LeavesClosed (IsClosed stands a) log f
+leaves_closed stands s a log f is leaves = subst (λ o. LeavesClosed (ClosedStands stands o) log f) (sym is) leaves
+
 -- of these faults one is of the disk's calls
 pub of_calls : (f : OpenFault) → IsOfCalls (fault_of f) → f ≡ open_fault.DiskFault
 of_calls open_fault.DiskFault p = refl
@@ -75,4 +92,4 @@ open_used a x y is unused = absurd (some_not a.keeper unused.closed is) where
   some_not None p q = cc
   some_not (Some v) p q = none-some v (sym p)
 
-pub ruleset opening = (empty_fault, refused_fault, calls_rose, no_call, nothing_used, open_used)
+pub ruleset opening = (empty_fault, refused_fault, refused_leaves, empty_leaves, leaves_closed, calls_rose, no_call, nothing_used, open_used)

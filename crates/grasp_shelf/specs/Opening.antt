@@ -1,9 +1,11 @@
 -- The opening of a node's store.
 use Rattle.std.specs.Prelude.{◌≡◌, ℕ, true, is_some, List, [], Option, None, Some}
-use Rattle.grasp_disk.specs.Calls.{DiskLog}
+use Rattle.grasp_disk.specs.Calls.{DiskLog, state_of}
 use Rattle.grasp_agent.specs.States.{AgentState}
 use Rattle.grasp_store.specs.Current.{IsSound}
+use Rattle.grasp_disk.specs.Crashes.{Makes, MayBecome}
 use Rattle.grasp_store.specs.Keeping.{KeeperState, Opens, IsBadImage, IsBlank}
+use Rattle.grasp_store.specs.Saving.{FailsIn, open_calls}
 use Rattle.grasp_store.specs.declared.fault.OpenFault.{OpenFault}
 use Rattle.grasp_store.specs.declared.fault.OpenFault.TheVariants as open_fault
 use Rattle.grasp_shelf.specs.Shelves.{ShelfState}
@@ -26,6 +28,14 @@ IsShelfFault bytes fault.DiskFault = Unit {0}
 IsShelfFault bytes (fault.BadImage slot) = IsBadImage bytes slot
 IsShelfFault bytes fault.Empty = IsBlank bytes
 IsShelfFault bytes fault.OutOfMemory = IsSound bytes
+
+-- what was asked of a store that isn't opened for this cause. A crash leaves what it might have left before
+abbrev pub LeavesClosed : (DiskLog → Type 0) → DiskLog → ShelfFault → Type 0
+LeavesClosed Stands log fault.Unopened = Stands log
+LeavesClosed Stands log fault.DiskFault = FailsIn Stands log open_calls (MayBecome (state_of log))
+LeavesClosed Stands log (fault.BadImage slot) = Makes Stands log open_calls (MayBecome (state_of log))
+LeavesClosed Stands log fault.Empty = Makes Stands log open_calls (MayBecome (state_of log))
+LeavesClosed Stands log fault.OutOfMemory = Makes Stands log open_calls (MayBecome (state_of log))
 
 -- a shelf whose store was never opened
 pub record IsUnused {B : Type 0} (shelf : ShelfState B) : Type 0 where

@@ -1,10 +1,12 @@
 -- Where a node keeps its pool, and what is asked of its store around the calls of the agent of prefixes.
-use Rattle.std.specs.Prelude.{◌≡◌, ◌≤◌, ℕ, [], Option, None, Some}
-use Rattle.grasp_io.specs.Faults.{Rose}
-use Rattle.grasp_disk.specs.Calls.{DiskLog, after_made, bytes_of}
+use Rattle.std.specs.Prelude.{◌≡◌, ◌≤◌, ℕ, Bool, true, false, List, [], Option, None, Some}
+use Rattle.grasp_disk.specs.Calls.{DiskCall, DiskLog, after_made, bytes_of}
 use Rattle.grasp_agent.specs.States.{AgentState}
-use Rattle.grasp_store.specs.Keeping.{KeeperState, Keeps}
-use Rattle.grasp_store.specs.Saving.{before_calls, behind_calls}
+use Rattle.grasp_pool.specs.declared.image.PoolImage.{PoolImage}
+use Rattle.grasp_store.specs.Current.{image_on}
+use Rattle.grasp_store.specs.Images.{image_behind}
+use Rattle.grasp_store.specs.Keeping.{KeeperState, Keeps, GoesOn, IsKeepFault, saves_before, saves_behind, kept_before as image_before}
+use Rattle.grasp_store.specs.Saving.{FailsIn, IsOldOrNew, before_calls, behind_calls}
 use Rattle.grasp_store.specs.declared.fault.KeepFault.{KeepFault}
 use Rattle.grasp_store.specs.declared.fault.KeepFault.TheVariants as keep_fault
 use Rattle.grasp_shelf.specs.declared.fault.ShelfFault.{ShelfFault}
@@ -53,11 +55,21 @@ faults_with faults store (Some keeper) = faults keeper.disk
 abbrev pub faults_of : {B : Type 0} → (B → ℕ) → ShelfState B → ℕ
 faults_of faults shelf = faults_with faults shelf.store shelf.keeper
 
--- a fault of the disk comes only where something failed at the store
-abbrev pub IsKeptFault : {B : Type 0} → (B → ℕ) → ShelfState B → ShelfState B → KeepFault → Type 0
-IsKeptFault faults old new keep_fault.DiskFault = Rose (faults_of faults old) (faults_of faults new)
-IsKeptFault faults old new keep_fault.Spent = Unit {0}
-IsKeptFault faults old new keep_fault.Stopped = Unit {0}
+-- its store: that of the keeper, or the one that isn't open
+abbrev pub store_with : {B : Type 0} → Option B → Option (KeeperState B) → Option B
+store_with store None = store
+store_with store (Some keeper) = Some keeper.disk
+
+abbrev pub store_of : {B : Type 0} → ShelfState B → Option B
+store_of shelf = store_with shelf.store shelf.keeper
+
+-- its keeper has answered a fault
+abbrev pub has_stopped : {B : Type 0} → Option (KeeperState B) → Bool
+has_stopped None = false
+has_stopped (Some keeper) = keeper.faulty
+
+abbrev pub is_stopped : {B : Type 0} → ShelfState B → Bool
+is_stopped shelf = has_stopped shelf.keeper
 
 -- ---- what is kept
 
@@ -66,3 +78,53 @@ pub record KeptOn {B : Type 0} (stands : B → DiskLog → Type 0) (faults : B �
   pub keeps : (log : DiskLog) → KeepsShelf stands old log → KeepsShelf stands new (next log)
   pub never_falls : faults_of faults old ≤ faults_of faults new
   pub forgets : old.keeper ≡ None → new ≡ old
+  pub stopped : is_stopped new ≡ is_stopped old
+
+-- ---- what isn't kept
+
+-- what a store is asked: before the next call of an agent, or behind a call
+pub data Asking : Type 0 where
+  ahead : AgentState → Asking
+  behind : AgentState → Asking
+
+-- whether something is saved then, where this image is current
+abbrev pub saves_for : Asking → PoolImage → Bool
+saves_for (ahead s) image = saves_before s
+saves_for (behind s) image = saves_behind image s
+
+-- the calls of a disk with these bytes that it takes
+abbrev pub calls_for : Asking → List ℕ → List DiskCall
+calls_for (ahead s) bytes = before_calls bytes s
+calls_for (behind s) bytes = behind_calls [] bytes s
+
+-- the image that is current afterwards, where this one was
+abbrev pub image_for : Asking → PoolImage → PoolImage
+image_for (ahead s) image = image_before image s
+image_for (behind s) image = image_behind s
+
+-- of the calls of the disk one failed, and none was made after it. A crash at any moment of those that were made leaves what was current, or what was to be saved
+abbrev pub BreaksOff : {B : Type 0} → (B → DiskLog → Type 0) → KeeperState B → Asking → KeeperState B → Type 0
+BreaksOff stands old asking new = (log : DiskLog) → Keeps stands [] old log
+    → FailsIn (stands new.disk) log (calls_for asking (bytes_of log)) (IsOldOrNew (bytes_of log) (image_for asking (image_on [] (bytes_of log))))
+
+-- the keeper of an open store was asked, and keeps nothing more, for this cause. But for a fault of the disk this isn't touched
+pub record FailsAtKeeper {B : Type 0} (stands : B → DiskLog → Type 0) (faults : B → ℕ) (old : KeeperState B) (asking : Asking) (fault : KeepFault)
+    (new : KeeperState B) : Type 0 where
+  pub cause : IsKeepFault faults old new (saves_for asking old.image) fault
+  pub leaves : fault ≡ keep_fault.DiskFault → BreaksOff stands old asking new
+  pub stops : new.faulty ≡ true
+
+-- where no store is open nothing fails
+abbrev pub FailsBetween : {B : Type 0} → (B → DiskLog → Type 0) → (B → ℕ) → Option (KeeperState B) → Asking → KeepFault → Option (KeeperState B) → Type 0
+FailsBetween stands faults None asking fault new = ⊥
+FailsBetween stands faults (Some old) asking fault None = ⊥
+FailsBetween stands faults (Some old) asking fault (Some new) = FailsAtKeeper stands faults old asking fault new
+
+-- the shelf was asked, and fails for this cause
+abbrev pub FailsToKeep : {B : Type 0} → (B → DiskLog → Type 0) → (B → ℕ) → ShelfState B → Asking → KeepFault → ShelfState B → Type 0
+FailsToKeep stands faults old asking fault new = FailsBetween stands faults old.keeper asking fault new.keeper
+
+-- no cause to fail: its keeper has answered no fault, and the number of saves can rise where something is to be saved
+abbrev pub MayKeep : {B : Type 0} → Option (KeeperState B) → Asking → Type 0
+MayKeep None asking = Unit {0}
+MayKeep (Some keeper) asking = GoesOn keeper (saves_for asking keeper.image)

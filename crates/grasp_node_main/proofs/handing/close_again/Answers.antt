@@ -9,5 +9,5 @@ pub returns-in-Some : goal.returns-in-Some
 returns-in-Some g c =
     let told : _ → LinksTold = λ links. links_told g.L.Links links in
     let e = c.send-sent.ensures in
-    let one = one_sent (told c.args.links.now) (told c.send-sent.new.self) c.send-sent.result (output.Close c.in-Some.stream) e.stays_open e.told e.not_asked e.waited e.gave e.took e.answer e.never_falls in
+    let one = one_sent (told c.args.links.now) (told c.send-sent.new.self) c.send-sent.result (output.Close c.in-Some.stream) e.stays_open e.told e.not_asked e.waited e.gave e.took e.none_opened e.answer e.never_falls in
     subst (λ away. HandsOnly (told c.args.links.now) (closings away) (told c.send-sent.new.self)) (sym c.in-Some.is) one

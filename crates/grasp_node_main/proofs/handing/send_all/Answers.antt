@@ -11,7 +11,7 @@ loop-output-preserved g c =
     let outputs = c.args.outputs.now in
     let i = c.loop-output.output-index in
     let o = c.output-item.result in
-    let one = one_sent (told c.loop-output.links) (told c.send-sent.new.self) c.send-sent.result o e.stays_open e.told e.not_asked e.waited e.gave e.took e.answer e.never_falls in
+    let one = one_sent (told c.loop-output.links) (told c.send-sent.new.self) c.send-sent.result o e.stays_open e.told e.not_asked e.waited e.gave e.took e.none_opened e.answer e.never_falls in
     let both = hands_on (told c.args.links.now) (told c.loop-output.links) (told c.send-sent.new.self) (take i outputs) (o ∷ []) c.loop-output.invariant one in
     let more : take (i + 1) outputs ≡ take i outputs ++ o ∷ [] = take_more outputs i o c.loop-output-test.true ∙ ap (λ x. take i outputs ++ x ∷ []) (sym c.output-item.is) in
     subst (λ os. HandsOnly (told c.args.links.now) os (told c.send-sent.new.self)) (sym more) both

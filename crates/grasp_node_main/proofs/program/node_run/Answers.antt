@@ -1,5 +1,5 @@
 use Rattle.grasp_io.specs.Faults.{Rose}
-use Rattle.grasp_node_main.proofs.Outcomes.{Ends, ends_well, ends_badly, ends_large}
+use Rattle.grasp_node_main.proofs.Outcomes.{Ends, ends_so, ends_badly, ends_large}
 use Rattle.grasp_node_main.proofs.program.node_run.Goals as goal
 
 -- how the program ends, as `run_input` tells it
@@ -12,16 +12,15 @@ ends g c = record {
   link_fault = c.run_input.ensures.link_fault;
   write_fault = c.run_input.ensures.write_fault;
   too_large = c.run_input.ensures.too_large;
-  small = c.run_input.ensures.small;
   bad_config = c.run_input.ensures.bad_config;
   configured = c.run_input.ensures.configured;
 }
 
 pub returns-then-is_run-clause-complete : goal.returns-then-is_run-clause-complete
-returns-then-is_run-clause-complete g c = λ run r l k. ends_well _ _ _ _ c.run_input.result (ends g c) c.configs_have_no_bad_key.ensures r l k
+returns-then-is_run-clause-complete g c = λ run. ends_so _ _ _ _ c.run_input.result (ends g c) c.configs_have_no_bad_key.ensures c.texts_have_one_bad_key.ensures
 
 pub returns-then-is_run-clause-complete_bad : goal.returns-then-is_run-clause-complete_bad
-returns-then-is_run-clause-complete_bad g c = λ key run r. ends_badly _ _ _ _ c.run_input.result (ends g c) c.configs_have_no_bad_key.ensures c.texts_have_one_bad_key.ensures key r
+returns-then-is_run-clause-complete_bad g c = λ run. ends_badly _ _ _ _ c.run_input.result (ends g c) c.configs_have_no_bad_key.ensures c.texts_have_one_bad_key.ensures
 
 pub returns-then-is_run-clause-complete_large : goal.returns-then-is_run-clause-complete_large
-returns-then-is_run-clause-complete_large g c = λ run r. ends_large _ _ _ _ c.run_input.result (ends g c) r
+returns-then-is_run-clause-complete_large g c = λ run. ends_large _ _ _ _ c.run_input.result (ends g c)

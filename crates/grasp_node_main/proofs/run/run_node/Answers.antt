@@ -42,7 +42,7 @@ returns-in-Ok-run g c =
     let seats = of_plan plan c.slice-held.result.now c.slice-announced.result.now c.slice-read.result.now c.in-Ok.daemon.seats.items c.slice-held.ensures c.slice-announced.ensures c.slice-read.ensures c.in-Ok.ensures.seats in
     let core = c.in-Ok.ensures.core in
     let ran = c.in-Ok-run.ensures core.to (crew_of plan) (since (first_node plan.node) openings c.in-Ok.daemon.core core) seats in
-    runs plan core.to (told (g.C.Clock.readings c.args.clock.now) (tell c.args.links.now)) (told (g.C.Clock.readings c.run.new.clock) (tell c.run.new.links)) c.in-Ok-run.daemon c.unless_stopped.result
+    runs ((c.run.new.links ≡ c.args.links.now) × (c.run.new.clock ≡ c.args.clock.now)) plan core.to (told (g.C.Clock.readings c.args.clock.now) (tell c.args.links.now)) (told (g.C.Clock.readings c.run.new.clock) (tell c.run.new.links)) c.in-Ok-run.daemon c.unless_stopped.result
     core.legal ran c.unless_stopped.ensures.same c.unless_stopped.ensures.going
 
 pub returns-in-Ok : goal.returns-in-Ok
@@ -53,4 +53,4 @@ returns-in-Ok g c =
     inl (c.in-Err-run.ensures core.to (crew_of plan) (since (first_node plan.node) openings c.in-Ok.daemon.core core) seats)
 
 pub returns : goal.returns
-returns g c = inl refl
+returns g c = inl (refl, refl)

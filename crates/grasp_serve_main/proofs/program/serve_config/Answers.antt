@@ -10,6 +10,7 @@ returns-in-Err g c = record {
   clock_untouched = λ u. refl;
   link_fault = λ e. absurd (cc e);
   desk_fault = λ e. absurd (cc e);
+  no_round = λ e. absurd e;
   store_refused = λ e. c.in-Err.ensures.refused (search rules);
   kept = λ e. absurd (cc e);
   stops = λ fault e. absurd (cc e);

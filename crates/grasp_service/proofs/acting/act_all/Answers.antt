@@ -6,7 +6,9 @@ use Rattle.grasp_service.proofs.acting.act_all.Goals as goal
 pub returns-in_err-act : goal.returns-in_err-act
 returns-in_err-act g c =
     let p = err_from_is_err_and c.from_residual.result c.from_residual.ensures.1 in
-    rw (p.1, p.2) (acts_cut g.B.Disk.stands g.B.Disk.faults _ _ _ _ _ _ _ _ _ _ _ c.loop-i.invariant c.in_err-act.ensures)
+    let h : c.loop-i.i < length c.loop-i.crew = omega arith in
+    rw (p.1, p.2)
+    (acts_cut g.B.Disk.stands g.B.Disk.faults c.loop-i.i _ _ _ _ c.loop-i.crew _ _ _ _ c.index-crew-i.result _ c.loop-i.invariant h c.in_err-act.ensures)
 
 pub loop-i-preserved : goal.loop-i-preserved
 loop-i-preserved g c =

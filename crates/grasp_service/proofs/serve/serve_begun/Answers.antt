@@ -6,4 +6,4 @@ returns-in-Ok-clause-stops g c = λ fault e.
     stops_begun g.B.Disk.stands g.B.Disk.faults _ _ _ _ _ _ _ _ _ _ c.deref.ensures.value c.in-Ok.ensures (c.serve_open.ensures.stops fault e)
 
 pub returns-in-Err-clause-stops : goal.returns-in-Err-clause-stops
-returns-in-Err-clause-stops g c = λ fault e. stops_at_once g.B.Disk.stands g.B.Disk.faults _ _ _ _ _ _ _ fault c.in-Err.ensures e
+returns-in-Err-clause-stops g c = λ fault e. stops_at_once g.B.Disk.stands g.B.Disk.faults _ _ _ _ _ _ _ _ fault c.deref.ensures.value c.in-Err.ensures e

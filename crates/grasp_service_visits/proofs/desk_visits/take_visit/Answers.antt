@@ -7,4 +7,4 @@ returns g c =
     let e = c.visiting-visiting.ensures in
     takes_in c.take_in-taken.result _ _ _ _ _ _ _ _ (desk_told g.D.Desk c.args.desk.now)
     (desk_told g.D.Desk c.visiting-visiting.new.self) _ c.visiting-visiting.result c.take_in-taken.ensures
-    e.stays_open e.planned e.gave e.told e.next e.never_falls
+    e.stays_open e.planned e.asked e.gave e.told e.next e.never_falls

@@ -19,7 +19,7 @@ loop-line-preserved g c =
     let i = c.loop-line.line-index in
     let line = c.line-item.result in
     let told = subst (λ bytes. Tells now.told new.told (record { visitor = line.visitor; line = bytes }) now.faults new.faults) c.bytes.ensures e.told in
-    let one = tells_one old now new (take i lines) line c.loop-line.invariant e.stays_open e.planned e.gave told e.none_came e.never_falls in
+    let one = tells_one old now new (take i lines) line c.loop-line.invariant e.stays_open e.planned e.not_asked e.gave told e.none_came e.never_falls in
     let more : take (i + 1) lines ≡ take i lines ++ line ∷ [] = take_more lines i line c.loop-line-test.true
     ∙ ap (λ x. take i lines ++ x ∷ []) (sym c.line-item.is) in
     subst (λ all. TellsOnly old all new) (sym more) one
