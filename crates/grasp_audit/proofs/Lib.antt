@@ -1,0 +1,15 @@
+mod Asking
+mod Behind
+mod Blanks
+mod Bringing
+mod Comparing
+mod Cutting
+mod Dividing
+mod Heading
+mod NamedLines
+mod ReadLines
+mod Seats
+mod Signs
+mod Starting
+mod Turning
+mod Verdicts

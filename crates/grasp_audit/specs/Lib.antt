@@ -1,0 +1,9 @@
+pub mod Coming
+pub mod Headers
+pub mod LineFaults
+pub mod Lines
+pub mod Numbers
+pub mod Rest
+pub mod Splits
+pub mod Standing
+pub mod Told
