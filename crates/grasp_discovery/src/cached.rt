@@ -1,6 +1,6 @@
 //! The locators that are cached under one topic.
 
-ghost use Rattle.std.specs.Prelude.{◌≡◌, ◌≤◌, ◌++◌, [], ◌∷◌, nat_lt, not, min, length, position, IfOk, IsSome, OnOk, OnErr};
+ghost use Rattle.std.specs.Prelude.{◌≡◌, ◌≤◌, ◌++◌, [], ◌∷◌, nat_lt, not, min, length, position, All, IfOk, IsSome, OnOk, OnErr};
 ghost use Rattle.grasp_discovery.specs.Discoveries.{or_none, end_of, locators_of, live, least_left, keep_locator, keep_locators, put_locator};
 ghost use Rattle.grasp_types.specs.Same.{same_locator};
 
@@ -129,6 +129,18 @@ impl CachedLocators {
         ensures { self.new ≡ live now self.old }
     {
         self.held.retain(|cached| now < cached.end);
+    }
+
+    /// The least end of these, or this reading where none ends before it.
+    pub(crate) fn earliest(&self, reading: u64) -> u64
+        ensures reading { result ≤ reading }
+        ensures each { All (λ one. result ≤ one.end) self.now }
+    {
+        let mut least = reading;
+        for cached in &self.held {
+            least = least.min(cached.end);
+        }
+        least
     }
 
     /// Keeps each of these with this end: to the later of the two ends, where it is there, and last, where fewer than 8

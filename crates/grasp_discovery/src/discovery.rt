@@ -12,9 +12,11 @@ ghost use Rattle.grasp_discovery.specs.Topic.{topic_of};
 
 use crate::answers::{Answered, BeginRefused, Cause, Find, Heard};
 use crate::cached::end_of;
-use crate::entries::{Entries, MOST_ENTRIES, entry_of, expire_all, keep_response, locators_of};
-use crate::memory::{Memory, memory_from};
-use crate::search::{Search, find_reply, mark_over};
+use crate::entries::{
+    Entries, MOST_ENTRIES, earliest_cached, entry_of, expire_all, keep_response, locators_of,
+};
+use crate::memory::{Memories, earliest_remembered, memory_from};
+use crate::search::{Search, earliest_search, find_reply, mark_over};
 use crate::topic::Topic;
 use grasp_cbor::{Chars, OutOfMemory};
 use grasp_types::{Address, Kind, Locators, Objective, Origin, Plain, reading_after};
@@ -35,11 +37,14 @@ const MOST_MEMORIES: usize = 256;
 pub struct Discovery {
     searches: Vec<Search>,
     entries: Entries,
-    memories: IndexMap<Origin, Memory>,
+    memories: Memories,
+    // nothing here ends before this reading
+    earliest: u64,
 }
 
 impl Model for Discovery {
     ghost use Rattle.std.specs.Coded.{codes};
+    ghost use Rattle.std.specs.Prelude.{◌≡◌, ◌≤◌, false, All};
     ghost use Rattle.grasp_types.specs.contracts.origin.Origin as origin;
     ghost use Rattle.grasp_discovery.specs.contracts.cached.Cached as cached;
     ghost use Rattle.grasp_discovery.specs.contracts.memory.Memory as memory;
@@ -54,7 +59,10 @@ impl Model for Discovery {
 
     ghost view = { discoveries_of };
 
-    ghost invariant = { HasRoom };
+    ghost invariant = { λ a. HasRoom a
+        × All (λ search. search.over ≡ false → a.earliest ≤ search.end) a.searches.items
+        × All (λ entry. All (λ one. a.earliest ≤ one.end) entry.1) a.entries.entries
+        × All (λ memory. a.earliest ≤ memory.1.end) a.memories.entries };
 }
 
 impl Discovery {
@@ -67,6 +75,7 @@ impl Discovery {
             searches: Vec::with_capacity(alloc, MOST_SEARCHES)?,
             entries: IndexMap::with_capacity(alloc, MOST_ENTRIES)?,
             memories: IndexMap::with_capacity(alloc, MOST_MEMORIES)?,
+            earliest: u64::MAX,
         })
     }
 
@@ -110,13 +119,15 @@ impl Discovery {
         if self.full() {
             return Err(BeginRefused::SessionsFull);
         }
+        let end = reading_after(now, u64::from(timeout));
         let search = Search {
             asa,
             topic: Topic { name, kind },
             session,
-            end: reading_after(now, u64::from(timeout)),
+            end,
             over: false,
         };
+        self.earliest = self.earliest.min(end);
         let Ok(()) = self.searches.push(search) else {
             unreachable!()
         };
@@ -150,7 +161,9 @@ impl Discovery {
             return Ok(Heard::NoPlace);
         }
         let memory = memory_from(now, cause, objective)?;
+        let end = memory.end;
         self.memories.insert(origin, memory)?;
+        self.earliest = self.earliest.min(end);
         Ok(Heard::New)
     }
 
@@ -220,7 +233,9 @@ impl Discovery {
         let Some((answered, topic)) = self.asker_of(own, origin)? else {
             return Ok(Answered::Stranger);
         };
-        keep_response(&mut self.entries, topic, end_of(now, ttl), locators)?;
+        let end = end_of(now, ttl);
+        keep_response(&mut self.entries, topic, end, locators)?;
+        self.earliest = self.earliest.min(end);
         Ok(answered)
     }
 
@@ -230,10 +245,16 @@ impl Discovery {
         ensures after { self.new ≡ after_expiry self.old now }
         ensures sound { IsDiscoveries self.new }
     {
+        if now < self.earliest {
+            return;
+        }
         mark_over(&mut self.searches, now);
         expire_all(&mut self.entries, now);
         self.entries.retain(|_topic, cached| !cached.is_empty());
         self.memories.retain(|_origin, memory| now < memory.end);
+        self.earliest = earliest_search(&self.searches)
+            .min(earliest_cached(&self.entries))
+            .min(earliest_remembered(&self.memories));
     }
 
     /// Whether 64 searches are kept. It takes no memory.

@@ -1,6 +1,6 @@
 //! The cache: locators under topics.
 
-ghost use Rattle.std.specs.Prelude.{◌≡◌, ◌≤◌, true, map, option_map, length, IfOk, OnOk, OnErr};
+ghost use Rattle.std.specs.Prelude.{◌≡◌, ◌≤◌, true, map, option_map, length, All, IfOk, OnOk, OnErr};
 ghost use Rattle.std.specs.Map.{lookup};
 ghost use Rattle.grasp_discovery.specs.Discoveries.{locators_of, cached_under, has_topic, has_place, keep_locators, after_response, live_entry, IsCache};
 ghost use Rattle.grasp_discovery.specs.Topic.{same_topic, topic_of};
@@ -110,4 +110,18 @@ pub(crate) fn expire_all(entries: &mut Entries, now: u64)
         let (_topic, cached) = entries.pair_mut(i);
         cached.expire(now);
     }
+}
+
+/// The least end of all these locators, or the greatest reading where there is none.
+pub(crate) fn earliest_cached(entries: &Entries) -> u64
+    ensures { All (λ entry. All (λ one. result ≤ one.end) entry.1) entries.now.entries }
+{
+    let mut least = u64::MAX;
+    for i in 0..entries.len() {
+        let Some((_topic, cached)) = entries.get_index(i) else {
+            unreachable!()
+        };
+        least = cached.earliest(least);
+    }
+    least
 }

@@ -1,12 +1,13 @@
 //! Remembered discoveries.
 
-ghost use Rattle.std.specs.Prelude.{◌≡◌, IfOk};
+ghost use Rattle.std.specs.Prelude.{◌≡◌, ◌≤◌, All, IfOk};
 ghost use Rattle.grasp_discovery.specs.Discoveries.{memory_from};
 
 use crate::answers::Cause;
 use crate::topic::{Topic, kind_of};
 use grasp_cbor::OutOfMemory;
-use grasp_types::{Objective, reading_after};
+use grasp_types::{Objective, Origin, reading_after};
+use indexmap::IndexMap;
 
 /// A discovery is remembered for so many milliseconds.
 const MEMORY: u64 = 60_000;
@@ -20,6 +21,9 @@ pub(crate) struct Memory {
     /// The reading at which it is forgotten.
     pub(crate) end: u64,
 }
+
+/// What is remembered of each discovery.
+pub(crate) type Memories = IndexMap<Origin, Memory>;
 
 /// What is remembered of a discovery of this objective that comes now.
 pub(crate) fn memory_from(
@@ -38,4 +42,18 @@ pub(crate) fn memory_from(
         topic,
         end: reading_after(now, MEMORY),
     })
+}
+
+/// The least end of these, or the greatest reading where there is none.
+pub(crate) fn earliest_remembered(memories: &Memories) -> u64
+    ensures { All (λ memory. result ≤ memory.1.end) memories.now.entries }
+{
+    let mut least = u64::MAX;
+    for i in 0..memories.len() {
+        let Some((_origin, memory)) = memories.get_index(i) else {
+            unreachable!()
+        };
+        least = least.min(memory.end);
+    }
+    least
 }

@@ -1,6 +1,6 @@
 //! Searches.
 
-ghost use Rattle.std.specs.Prelude.{◌≡◌, map, option_map};
+ghost use Rattle.std.specs.Prelude.{◌≡◌, ◌≤◌, false, map, All, option_map};
 ghost use Rattle.grasp_discovery.specs.Discoveries.{is_search_of, after_reading, find_reply};
 ghost use Rattle.grasp_discovery.specs.Topic.{topic_of};
 
@@ -29,6 +29,18 @@ impl Search {
         ensures { result ≡ is_search_of asa (topic_of name.now kind) self.now }
     {
         self.asa == asa && self.topic.is(name, kind)
+    }
+
+    /// The lesser of a reading and its end, where it isn't over.
+    fn earlier(&self, reading: u64) -> u64
+        ensures reading { result ≤ reading }
+        ensures end { self.now.over ≡ false → result ≤ self.now.end }
+    {
+        if self.over {
+            reading
+        } else {
+            reading.min(self.end)
+        }
     }
 
     /// Marks it as over, where its reading has come.
@@ -63,4 +75,15 @@ pub(crate) fn find_reply(locators: Option<Locators>, search: Option<&Search>) ->
         }
         (None, None) => Find::Fresh,
     }
+}
+
+/// The least end of those that aren't over, or the greatest reading where there is none.
+pub(crate) fn earliest_search(searches: &[Search]) -> u64
+    ensures { All (λ search. search.over ≡ false → result ≤ search.end) searches.now }
+{
+    let mut least = u64::MAX;
+    for search in searches {
+        least = search.earlier(least);
+    }
+    least
 }

@@ -1,6 +1,6 @@
 //! The cache of floods.
 
-ghost use Rattle.std.specs.Prelude.{◌≡◌, ◌+◌, ◌≤◌, ◌<◌, length, map, fold, Any, IfOk, OnErr};
+ghost use Rattle.std.specs.Prelude.{◌≡◌, ◌+◌, ◌≤◌, ◌<◌, length, map, fold, All, Any, IfSome, IfOk, OnErr};
 ghost use Rattle.indexmap.specs.IndexMap.{spare};
 ghost use Rattle.grasp_types.specs.Origin.{origin_of};
 ghost use Rattle.grasp_flood.specs.Flood.{key_of};
@@ -8,7 +8,7 @@ ghost use Rattle.grasp_flood.specs.declared.heard.Heard.TheVariants.{New};
 ghost use Rattle.grasp_flood.specs.Floods.{no_floods, has_key, entry_of, after_keep, after_renewal, heard_reply, after_heard, remembers, reads_of};
 ghost use Rattle.grasp_flood.specs.Floods.{after_drop, after_expiry, IsFloods};
 
-use crate::kept::{end_of, entry_of, read_of};
+use crate::kept::{earlier, end_of, entry_of, read_of};
 use crate::{FloodKept, FloodKey, Heard};
 use grasp_cbor::{Chars, OutOfMemory};
 use grasp_types::{Address, FloodParts, FloodReads, Origin, reading_after};
@@ -27,15 +27,20 @@ const MEMORY: u64 = 120_000;
 
 type Entries = IndexMap<FloodKey, FloodKept>;
 
+type Memories = IndexMap<Origin, u64>;
+
 /// What floods told, and which floods are remembered.
 #[derive(Drop)]
 pub struct FloodCache {
     entries: Entries,
-    memories: IndexMap<Origin, u64>,
+    memories: Memories,
+    // nothing here ends before this reading
+    earliest: u64,
 }
 
 impl Model for FloodCache {
     ghost use Rattle.std.specs.Coded.{codes};
+    ghost use Rattle.std.specs.Prelude.{◌≤◌, All, IfSome};
     ghost use Rattle.grasp_flood.specs.contracts.kept.FloodKept as kept;
     ghost use Rattle.grasp_types.specs.contracts.origin.Origin as origin;
     ghost use Rattle.grasp_flood.specs.contracts.keys.FloodKey as key;
@@ -47,7 +52,9 @@ impl Model for FloodCache {
 
     ghost view = { λ a. record { entries = a.entries.entries; memories = a.memories.entries } };
 
-    ghost invariant = { λ a. IsFloods (record { entries = a.entries.entries; memories = a.memories.entries }) };
+    ghost invariant = { λ a. IsFloods (record { entries = a.entries.entries; memories = a.memories.entries })
+        × All (λ entry. IfSome entry.1.end (λ last. a.earliest ≤ last)) a.entries.entries
+        × All (λ memory. a.earliest ≤ memory.1) a.memories.entries };
 }
 
 impl FloodCache {
@@ -59,6 +66,7 @@ impl FloodCache {
         Ok(FloodCache {
             entries: IndexMap::with_capacity(alloc, MOST_ENTRIES)?,
             memories: IndexMap::with_capacity(alloc, MOST_MEMORIES)?,
+            earliest: u64::MAX,
         })
     }
 
@@ -93,8 +101,10 @@ impl FloodCache {
         }
         let told = entries_of(*self.entries.allocator(), flood, end, parts)?;
         self.entries.reserve(told.len())?;
-        self.memories.insert(flood, reading_after(now, MEMORY))?;
+        let memory = reading_after(now, MEMORY);
+        self.memories.insert(flood, memory)?;
         keep_all(&mut self.entries, told);
+        self.earliest = earlier(self.earliest.min(memory), end);
         Ok(Heard::New)
     }
 
@@ -140,8 +150,12 @@ impl FloodCache {
         ensures after { self.new ≡ after_expiry self.old now }
         ensures sound { IsFloods self.new }
     {
+        if now < self.earliest {
+            return;
+        }
         self.entries.retain(|_key, kept| kept.is_after(now));
         self.memories.retain(|_flood, end| now < *end);
+        self.earliest = earliest_kept(&self.entries).min(earliest_remembered(&self.memories));
     }
 }
 
@@ -183,6 +197,34 @@ fn keep(entries: &mut Entries, key: FloodKey, kept: FloodKept)
             unreachable!()
         };
     }
+}
+
+/// The least end of these entries, or the greatest reading where none has an end.
+fn earliest_kept(entries: &Entries) -> u64
+    ensures { All (λ entry. IfSome entry.1.end (λ last. result ≤ last)) entries.now.entries }
+{
+    let mut least = u64::MAX;
+    for i in 0..entries.len() {
+        let Some((_key, kept)) = entries.get_index(i) else {
+            unreachable!()
+        };
+        least = earlier(least, kept.end);
+    }
+    least
+}
+
+/// The least end of these memories, or the greatest reading where there is none.
+fn earliest_remembered(memories: &Memories) -> u64
+    ensures { All (λ memory. result ≤ memory.1) memories.now.entries }
+{
+    let mut least = u64::MAX;
+    for i in 0..memories.len() {
+        let Some((_flood, end)) = memories.get_index(i) else {
+            unreachable!()
+        };
+        least = least.min(*end);
+    }
+    least
 }
 
 /// Renews what this flood made.

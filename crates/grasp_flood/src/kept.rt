@@ -1,6 +1,6 @@
 //! What is kept of one part of a flood.
 
-ghost use Rattle.std.specs.Prelude.{◌≡◌, IfOk};
+ghost use Rattle.std.specs.Prelude.{◌≡◌, ◌≤◌, IfSome, IfOk};
 ghost use Rattle.grasp_flood.specs.Floods.{end_of, entry_of, is_after, later_end, after_renewal, read_of};
 
 use crate::FloodKey;
@@ -30,6 +30,17 @@ pub(crate) fn end_of(now: u64, ttl: u32) -> Option<u64>
         None
     } else {
         Some(reading_after(now, u64::from(ttl)))
+    }
+}
+
+/// The lesser of a reading and an end.
+pub(crate) fn earlier(reading: u64, end: Option<u64>) -> u64
+    ensures reading { result ≤ reading }
+    ensures end { IfSome end (λ last. result ≤ last) }
+{
+    match end {
+        Some(end) => reading.min(end),
+        None => reading,
     }
 }
 

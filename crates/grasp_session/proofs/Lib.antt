@@ -1,6 +1,7 @@
 pub mod Acts
 pub mod Calls
 pub mod Crosses
+mod Earliest
 pub mod Ending
 pub mod Facts
 pub mod Means

@@ -1,6 +1,7 @@
 //! The 64 places of the sessions of a node.
 
-ghost use Rattle.std.specs.Prelude.{◌≡◌, ℕ, ◌+◌, ◌<◌, ◌≤◌, Some, None, length, replicate, slice_index_or, slice_set, count_by, is_some, option_copied, IfOk};
+ghost use Rattle.std.specs.Prelude.{◌≡◌, ℕ, ◌+◌, ◌<◌, ◌≤◌, true, Some, None, length, replicate, slice_index_or, slice_set, count_by};
+ghost use Rattle.std.specs.Prelude.{is_some, is_none, option_copied, All, IfSome, IfOk};
 ghost use Rattle.grasp_session.specs.declared.session.Session.{Session};
 
 use crate::session::Session;
@@ -17,10 +18,12 @@ pub(crate) const PLACES: usize = 64;
 pub(crate) struct Places {
     keys: [Option<usize>; 64],
     sessions: Slab<Session>,
+    // no session without an outcome has a deadline before this reading
+    earliest: u64,
 }
 
 impl Model for Places {
-    ghost use Rattle.std.specs.Prelude.{List, Option};
+    ghost use Rattle.std.specs.Prelude.{◌≡◌, ◌≤◌, true, List, All, Option, is_none, IfSome};
     ghost use Rattle.grasp_session.specs.declared.session.Session.{Session};
     ghost use Rattle.grasp_session.specs.Places.{held, AreSound};
     ghost use Rattle.grasp_session.specs.contracts.session.Session as session;
@@ -32,7 +35,8 @@ impl Model for Places {
 
     ghost view = { λ p. held p.sessions p.keys };
 
-    ghost invariant = { λ p. AreSound p.sessions p.keys };
+    ghost invariant = { λ p. AreSound p.sessions p.keys
+        × All (λ held. IfSome held (λ session. is_none session.ending ≡ true → p.earliest ≤ session.deadline)) (held p.sessions p.keys) };
 }
 
 impl Places {
@@ -43,6 +47,7 @@ impl Places {
         Ok(Places {
             keys: [None; 64],
             sessions: Slab::with_capacity(alloc, PLACES)?,
+            earliest: u64::MAX,
         })
     }
 
@@ -84,8 +89,34 @@ impl Places {
         ensures kept { self.new ≡ slice_set self.old place (Some session) }
         ensures length { length self.old ≡ 64 }
     {
+        self.earliest = self.earliest.min(session.deadline);
         let key = self.sessions.insert_reserved(session);
         self.keys[place] = Some(key);
+    }
+
+    /// Before this reading no session without an outcome has its deadline.
+    pub(crate) fn earliest(&self) -> u64
+        ensures { All (λ held. IfSome held (λ session. is_none session.ending ≡ true → result ≤ session.deadline)) self.now }
+    {
+        self.earliest
+    }
+
+    /// Looks for the least deadline of the sessions without an outcome.
+    pub(crate) fn look_again(&mut self)
+        ensures { self.new ≡ self.old }
+    {
+        self.earliest = self.least_deadline();
+    }
+
+    /// The least deadline of the sessions without an outcome, or the greatest reading where there is none.
+    fn least_deadline(&self) -> u64
+        ensures { All (λ held. IfSome held (λ session. is_none session.ending ≡ true → result ≤ session.deadline)) self.now }
+    {
+        let mut least = u64::MAX;
+        for place in 0..self.len() {
+            least = earlier(least, self.get(place));
+        }
+        least
     }
 
     /// How many places have a session.
@@ -94,5 +125,16 @@ impl Places {
         ensures length { length self.now ≡ 64 }
     {
         self.sessions.len()
+    }
+}
+
+/// The lesser of a reading and the deadline of this session, where it has no outcome.
+fn earlier(reading: u64, session: Option<&Session>) -> u64
+    ensures reading { result ≤ reading }
+    ensures deadline { IfSome (option_copied session.entry) (λ session. is_none session.ending ≡ true → result ≤ session.deadline) }
+{
+    match session {
+        Some(session) if session.ending.is_none() => reading.min(session.deadline),
+        _ => reading,
     }
 }

@@ -217,7 +217,13 @@ impl Table {
     pub fn expire_one(&mut self, now: u64) -> Option<u64>
         ensures expires { (z : Sessions) → Stands self.old z → (result ≡ expire_reply z now) × Stands self.new (after_expire z now) }
     {
-        let handle = self.oldest(Wanted::Due(now))?;
+        if now < self.places.earliest() {
+            return None;
+        }
+        let Some(handle) = self.oldest(Wanted::Due(now)) else {
+            self.places.look_again();
+            return None;
+        };
         let mut session = self.take(handle);
         let stream = session.stream;
         session.mark(Cause::Expired(now));

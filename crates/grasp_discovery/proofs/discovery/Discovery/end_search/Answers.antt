@@ -1,4 +1,5 @@
-use Rattle.std.proofs.Common.{rules, ◌≡◌, not, filter, inl, inr, sym, ap, arith}
+use Rattle.std.proofs.Common.{rules, ◌≡◌, not, filter, inl, inr, sym, ap, arith, ◌≤◌, false}
+use Rattle.std.proofs.lemmas.List.Elements.{All-filter}
 use Rattle.std.proofs.lemmas.Fn.{filter_same}
 use Rattle.grasp_discovery.specs.Discoveries.{is_search_of, after_find}
 use Rattle.grasp_discovery.specs.Topic.{topic_of}
@@ -10,11 +11,15 @@ left : (c : goal.After-retain) → c.retain.new.self.items ≡ filter (λ search
 left c = filter_same _ (λ search. not (is_search_of c.args.asa (topic_of c.args.name.now c.args.kind) search)) _ (λ x b f' k. search rules) _ _ c.retain.ensures.filtered
 
 pub invariant_of-self : goal.invariant_of-self
-invariant_of-self c =
-    record {
-      all = rw (left c) (sound_fewer _ (λ search. not (is_search_of c.args.asa (topic_of c.args.name.now c.args.kind) search)) c.self.invariant.all);
-      searches = omega (arith, c.self.invariant.searches, c.retain.ensures.capacity);
-    }
+invariant_of-self c = (
+  record {
+    all = rw (left c) (sound_fewer _ (λ search. not (is_search_of c.args.asa (topic_of c.args.name.now c.args.kind) search)) c.self.invariant.0.all);
+    searches = omega (arith, c.self.invariant.0.searches, c.retain.ensures.capacity);
+  },
+  rw (left c) (All-filter _ (λ s. s.over ≡ false → c.self.inside.earliest ≤ s.end) c.self.inside.searches.items c.self.invariant.1),
+  c.self.invariant.2,
+  c.self.invariant.3,
+)
 
 pub returns-in-Found-clause-after : goal.returns-in-Found-clause-after
 returns-in-Found-clause-after c =
@@ -25,4 +30,4 @@ returns-in-Found-clause-after c =
     ])
 
 pub returns-in-Found-clause-sound : goal.returns-in-Found-clause-sound
-returns-in-Found-clause-sound c = rw (left c) (sound_fewer _ (λ search. not (is_search_of c.args.asa (topic_of c.args.name.now c.args.kind) search)) c.self.invariant.all)
+returns-in-Found-clause-sound c = rw (left c) (sound_fewer _ (λ search. not (is_search_of c.args.asa (topic_of c.args.name.now c.args.kind) search)) c.self.invariant.0.all)

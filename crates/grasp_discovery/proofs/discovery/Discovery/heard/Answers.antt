@@ -1,7 +1,9 @@
-use Rattle.std.proofs.Common.{◌<◌, length, sym, ◌∙◌, arith}
+use Rattle.std.proofs.Common.{◌<◌, ◌≤◌, length, sym, ◌∙◌, arith}
+use Rattle.std.proofs.lemmas.List.Elements.{All-push}
 use Rattle.grasp_cbor.proofs.Facts.Options.{on_err}
 use Rattle.grasp_types.specs.Origin.{origin_of}
 use Rattle.grasp_discovery.specs.Discoveries.{Discoveries}
+use Rattle.grasp_discovery.proofs.Earliest.{searches_before, entries_before, memories_before}
 use Rattle.grasp_discovery.proofs.Memories.{insert_entry_new, remembered_is, is_known, is_new, has_no_place}
 use Rattle.grasp_discovery.proofs.Soundness.{sound_remember}
 use Rattle.grasp_discovery.specs.declared.discovery.Discovery.TheInside.{Inside}
@@ -47,7 +49,13 @@ invariant_of-self-2 c =
     let unknown = remembered_is origin c.self.inside.memories.entries _ _ c.contains_key.ensures c.if-contains_key.false in
     let last = c.in_ok-insert.ensures.entries ∙ insert_entry_new origin c.in_ok-memory.memory c.self.inside.memories.entries unknown in
     let room : length c.self.inside.memories.entries < 256 = omega (arith, c.len.ensures.len) in
-    record { all = rw last (sound_remember (seen c.self.inside) origin c.in_ok-memory.memory unknown room c.self.invariant.all); searches = c.self.invariant.searches }
+    let below : c.min-self-inside.result ≤ c.self.inside.earliest = omega arith in
+    let ends : c.min-self-inside.result ≤ c.in_ok-memory.memory.end = omega arith in (
+      record { all = rw last (sound_remember (seen c.self.inside) origin c.in_ok-memory.memory unknown room c.self.invariant.0.all); searches = c.self.invariant.0.searches },
+      searches_before _ _ _ below c.self.invariant.1,
+      entries_before _ _ _ below c.self.invariant.2,
+      rw last (All-push (λ m. c.min-self-inside.result ≤ m.1.end) c.self.inside.memories.entries (origin, c.in_ok-memory.memory) (memories_before _ _ _ below c.self.invariant.3) ends),
+    )
 
 pub returns-clause-reply : goal.returns-clause-reply
 returns-clause-reply c =
@@ -68,4 +76,4 @@ returns-clause-sound c =
     let unknown = remembered_is origin c.self.inside.memories.entries _ _ c.contains_key.ensures c.if-contains_key.false in
     let last = c.in_ok-insert.ensures.entries ∙ insert_entry_new origin c.in_ok-memory.memory c.self.inside.memories.entries unknown in
     let room : length c.self.inside.memories.entries < 256 = omega (arith, c.len.ensures.len) in
-    rw last (sound_remember (seen c.self.inside) origin c.in_ok-memory.memory unknown room c.self.invariant.all)
+    rw last (sound_remember (seen c.self.inside) origin c.in_ok-memory.memory unknown room c.self.invariant.0.all)
