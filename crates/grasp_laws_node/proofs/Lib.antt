@@ -25,3 +25,4 @@ mod SentOn
 pub mod SessionChanges
 mod SessionWeights
 pub mod StreamsAlone
+pub mod Walk

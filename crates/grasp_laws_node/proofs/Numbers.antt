@@ -1,5 +1,4 @@
 -- A node draws numbers that it doesn't use, and keeps them its own.
-pub mod Calls
 pub mod Moves
 pub mod Used
 pub mod Own

@@ -1,8 +1,5 @@
--- What is so of the open streams of a node: over each move, call and input.
+-- What is so of the open streams of a node: over each move, and so over each step.
 pub mod Apart
 pub mod Bytes
-pub mod Calls
-pub mod Datagrams
-pub mod Hear
 pub mod Moves
 pub mod Nodes

@@ -142,7 +142,7 @@ acts n after now (input.Opened stream from) x r s = (
   ap (λ (m : NodeState). m.queue) s.acts.1 ∙ opened_queue (begin n now) stream from r,
   quiet (begin n now) after stream x ((peers_leave n after now stream x r).0 from s),
 )
-acts n after now (input.Bytes stream bytes) x r s = (bytes_queue stream (begin n now) after bytes x r s.acts, quiet (begin n now) after stream x ((peers_leave n after now stream x r).1 bytes s))
+acts n after now (input.Bytes stream bytes) x r s = (bytes_queue stream (begin n now) after bytes x r s.is_coming s.acts, quiet (begin n now) after stream x ((peers_leave n after now stream x r).1 bytes s))
 acts n after now (input.Closed stream) x r s = (
   ap (λ (m : NodeState). m.queue) s.acts.1 ∙ closed_queue (begin n now) stream,
   quiet (begin n now) after stream x ((peers_leave n after now stream x r).2 s),

@@ -1,5 +1,5 @@
 -- A step says acceptances where it is a call that accepts and is done, and the session of such a call stays on its stream.
-use Rattle.std.proofs.Common.{◌≡◌, ℕ, Bool, true, false, cond, List, [], ◌∷◌, ◌++◌, ◌⊎◌, inl, inr, length, drop, Option, None, Some, slice_index_or, option_to_list, refl, sym, ap, ◌∙◌}
+use Rattle.std.proofs.Common.{◌≡◌, ℕ, Bool, true, false, cond, List, [], ◌++◌, ◌⊎◌, inl, inr, length, drop, Option, None, Some, slice_index_or, option_to_list, refl, sym, ap, ◌∙◌}
 use Rattle.std.proofs.lemmas.List.{append-nil, append_cancel_left, get_or-set_same}
 use Rattle.grasp_laws_node.proofs.Beginning.{beginnings_end, sessions_time_out}
 use Rattle.grasp_laws_node.proofs.Bounded.Nodes.{begin_kept}
@@ -8,18 +8,15 @@ use Rattle.grasp_laws_node.proofs.Meaning.Acts.{end_means_lem, number_at, owned_
 use Rattle.grasp_laws_node.proofs.Remembered.{relays_once}
 use Rattle.grasp_laws_node.specs.Beginnings.{IsDue, timed_out}
 use Rattle.grasp_laws_node.specs.Dials.{IsNoDrain}
-use Rattle.grasp_laws_node.specs.Relays.{Responds, SendsOn, DatagramQueues, DrainQueues}
+use Rattle.grasp_laws_node.specs.Relays.{DrainQueues}
 use Rattle.grasp_laws_session.proofs.Runs.{at_below, some_state}
 use Rattle.grasp_session.proofs.Facts.{at_handle}
 use Rattle.grasp_session.proofs.Tables.{state_slot}
 use Rattle.grasp_session.specs.Says.{IsAt}
 use Rattle.grasp_session.specs.Sessions.{Sessions, SessionState, session_at, stream_of, stream_reply, with_place, with_transcript, is_leaving}
 use Rattle.grasp_session.specs.Transcript.{Expired, SayEnd, having_said, with_mark}
-use Rattle.grasp_types.specs.declared.address.Address.{Address}
 use Rattle.grasp_types.specs.declared.call.Call.{Call}
 use Rattle.grasp_types.specs.declared.call.Call.TheVariants as calls
-use Rattle.grasp_types.specs.declared.message.Message.{Message}
-use Rattle.grasp_types.specs.declared.message.Message.TheVariants.{Discovery, Response, Flood}
 use Rattle.grasp_types.specs.declared.message.Verdict.TheVariants.{Accept}
 use Rattle.grasp_types.specs.declared.reply.ApiAnswer.TheVariants as answers
 use Rattle.grasp_types.specs.declared.reply.Reply.{Reply}
@@ -30,12 +27,12 @@ use Rattle.grasp_types.specs.declared.traffic.Input.TheVariants as input
 use Rattle.grasp_model_node.specs.Begin.{begin}
 use Rattle.grasp_model_node.specs.BoundedNodes.{IsBoundedNode}
 use Rattle.grasp_model_node.specs.Node.{NodeState}
-use Rattle.grasp_model_node.specs.Queue.{Queued, dial, send, along, other_ways}
+use Rattle.grasp_model_node.specs.Queue.{Queued}
 use Rattle.grasp_model_node.specs.Step.{Coming, NodeStep, Calls}
-use Rattle.grasp_model_node.specs.Streams.{next_stream, past_of}
+use Rattle.grasp_model_node.specs.Streams.{past_of}
 use Rattle.grasp_laws_node_stories.specs.Acceptances.{accepted_on, accepts_on, was_done, acceptances_of, AcceptancesAreCalls, StaysOn, EndedSessionsStay}
 use Rattle.grasp_laws_node_stories.specs.Stories.{gained}
-use Rattle.grasp_laws_node_stories.proofs.Accepting.{accepted_both, none_behind, none_along, bytes_say, call_says}
+use Rattle.grasp_laws_node_stories.proofs.Accepting.{IsPeers, accepted_both, peers_say, call_says}
 use Rattle.grasp_laws_node_stories.proofs.Nodes.{dropped}
 
 -- ---- the session that an agent ends
@@ -98,39 +95,25 @@ same_stream n after now asa _ x _ k s = refl
 silent : (q : List Queued) (l : List ℕ) → l ≡ accepted_on q → l ≡ accepted_on q ++ []
 silent q l e = e ∙ sym (append-nil (accepted_on q))
 
-relays_say : (n : NodeState) (link loops : ℕ) (m : Message) (after : NodeState) → SendsOn n link loops m after → accepted_on after.queue ≡ accepted_on n.queue
-relays_say n link loops m after d = ap accepted_on d.queued ∙ none_behind n.queue (along m (other_ways link n.plan.links)) (none_along m (other_ways link n.plan.links))
-
-responds_say : (n : NodeState) (link from session : ℕ) (initiator : Address) (after : NodeState) → Responds n link from session initiator after → accepted_on after.queue ≡ accepted_on n.queue
-responds_say n link from session initiator after d =
-    ap accepted_on d.queued
-    ∙ none_behind n.queue (dial (next_stream n.streams) d.neighbour.locator ∷ send (next_stream n.streams) (Response session initiator d.ttl d.told None) ∷ []) refl
-
-datagrams_say : (n : NodeState) (link from : ℕ) (m : Option Message) (after : NodeState) → DatagramQueues n link from m after → accepted_on after.queue ≡ accepted_on n.queue
-datagrams_say n link from (Some (Discovery session initiator o)) after (inl e) = ap accepted_on e
-datagrams_say n link from (Some (Discovery session initiator o)) after (inr (inl d, new, kept)) = responds_say n link from session initiator after d
-datagrams_say n link from (Some (Discovery session initiator o)) after (inr (inr d, new, kept)) = relays_say n link _ _ after d
-datagrams_say n link from (Some (Flood session initiator ttl parts)) after (inl e) = ap accepted_on e
-datagrams_say n link from (Some (Flood session initiator ttl parts)) after (inr (d, new, kept)) = relays_say n link _ _ after d
-datagrams_say n link from _ after e = ap accepted_on e
-
 calls_say : (n after : NodeState) (asa : ℕ) (call : Call) (r : Reply) → IsBoundedNode n → Calls n asa call r after
     → accepted_on after.queue ≡ accepted_on n.queue ++ cond (was_done r) (accepts_on n call) []
 calls_say n after asa call (reply.Api a) k c = ap (λ (m : NodeState). accepted_on m.queue) c.1 ∙ call_says n asa call a k c.0
 calls_say n after asa call (reply.Refused refused) k c = silent n.queue (accepted_on after.queue) (ap (λ (m : NodeState). accepted_on m.queue) c.1)
 calls_say n after asa call _ k c = absurd c
 
+by_peers : (n after : NodeState) (now : ℕ) (i : Input) (x : Coming) (r : Reply) → IsPeers i → NodeStep n now i x r after → accepted_on after.queue ≡ accepted_on (begin n now).queue ++ []
+by_peers n after now i x r p s = silent (begin n now).queue (accepted_on after.queue) (peers_say (begin n now) after i x r p s.is_coming s.acts)
+
 -- but for a drain
 step_says : (n after : NodeState) (now : ℕ) (i : Input) (x : Coming) (r : Reply) → IsNoDrain i → IsBoundedNode n → NodeStep n now i x r after
     → accepted_on after.queue ≡ accepted_on (begin n now).queue ++ acceptances_of n i r
 step_says n after now (input.Api asa call) x r g k s =
     calls_say (begin n now) after asa call r (begin_kept n now k) s.acts ∙ ap (λ l. accepted_on (begin n now).queue ++ l) (same_stream n after now asa call x r k s)
-step_says n after now (input.Datagram link from bytes) x r g k s =
-    silent (begin n now).queue (accepted_on after.queue) (datagrams_say (begin n now) link from x.carried after (relays_once n after now (input.Datagram link from bytes) x r s))
-step_says n after now (input.Opened stream from) x r g k s = silent (begin n now).queue (accepted_on after.queue) (ap accepted_on (relays_once n after now (input.Opened stream from) x r s))
-step_says n after now (input.Bytes stream bytes) x r g k s = silent (begin n now).queue (accepted_on after.queue) (bytes_say stream (begin n now) bytes x r after s.acts)
-step_says n after now (input.Closed stream) x r g k s = silent (begin n now).queue (accepted_on after.queue) (ap accepted_on (relays_once n after now (input.Closed stream) x r s))
 step_says n after now (input.Drain max) x r g k s = absurd g
+step_says n after now (input.Datagram link from bytes) x r g k s = by_peers n after now (input.Datagram link from bytes) x r tt s
+step_says n after now (input.Opened stream from) x r g k s = by_peers n after now (input.Opened stream from) x r tt s
+step_says n after now (input.Bytes stream bytes) x r g k s = by_peers n after now (input.Bytes stream bytes) x r tt s
+step_says n after now (input.Closed stream) x r g k s = by_peers n after now (input.Closed stream) x r tt s
 
 -- behind what was queued
 step_gains : (n after : NodeState) (now : ℕ) (i : Input) (x : Coming) (r : Reply) → IsNoDrain i → IsBoundedNode n → NodeStep n now i x r after → accepted_on (gained n after) ≡ acceptances_of n i r

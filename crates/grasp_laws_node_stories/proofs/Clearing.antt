@@ -52,7 +52,7 @@ use Rattle.grasp_laws_node_stories.proofs.Beginning.{begins}
 use Rattle.grasp_laws_node_stories.proofs.Calling as calling
 use Rattle.grasp_laws_node_stories.proofs.CallsKeep.{said_keeps, last_keeps, polling_keeps, adopted_keeps, deregister_objective_keeps, stop_keeps, deregister_asa_keeps, request_keeps, request_voice, looks_keep}
 use Rattle.grasp_laws_node_stories.proofs.Delivering as delivering
-use Rattle.grasp_laws_node_stories.proofs.Delivering.{HasVoice, is_ready, none_some, cut_past, piece_elsewhere}
+use Rattle.grasp_laws_node_stories.proofs.Delivering.{HasVoice, is_ready, none_some, cut_past}
 use Rattle.grasp_laws_node_stories.proofs.Hearing.{FedHeard, live_goes}
 use Rattle.grasp_laws_node_stories.proofs.Keeping.{KeepsVoice, voice_stays}
 use Rattle.grasp_laws_node_stories.proofs.Nodes.{acts, born}
@@ -60,8 +60,9 @@ use Rattle.grasp_laws_node_stories.proofs.Parts.{Quietly, registers, floods, dra
 use Rattle.grasp_laws_node_stories.proofs.Pieces.{hears_piece}
 use Rattle.grasp_laws_node_stories.proofs.Records.{more_opens, IsOpened, fold_opens_none, shut_past}
 use Rattle.grasp_laws_node_stories.proofs.Requesting.{IsBorn, born_quietly, others}
-use Rattle.grasp_laws_node_stories.proofs.Responding.{Responded, datagrams}
-use Rattle.grasp_laws_node_stories.proofs.Starving.{starving_elsewhere, starving_past}
+use Rattle.grasp_laws_node_stories.proofs.Overhearing.{datagrams, piece_elsewhere, starving_elsewhere}
+use Rattle.grasp_laws_node_stories.proofs.Responding.{Responded}
+use Rattle.grasp_laws_node_stories.proofs.Starving.{starving_past}
 use Rattle.grasp_laws_node_stories.proofs.Telling.{Acted, quiet_none, none_after}
 use Rattle.grasp_laws_node_stories.proofs.Voices.{Voice, voice_of, voices_begin}
 
@@ -185,7 +186,7 @@ unfolding after_bytes
 pieces_speak stream on bytes x n k b v f = by_case (eqb_tells on stream) where
   by_case : Same on stream → Speaks stream (bytes_on n on bytes x.added (past_of n.streams on))
   by_case (inl i) = subst (λ (q : ℕ). Speaks stream (bytes_on n q bytes x.added (past_of n.streams q))) (sym i.1) (piece_speaks stream bytes x n (past_of n.streams stream) refl k b v)
-  by_case (inr i) = responded_speaks stream n (bytes_on n on bytes x.added (past_of n.streams on)) b (piece_elsewhere on stream bytes x.added n (past_of n.streams on) i.1 k b) (f i.1) (speaks_of stream n v)
+  by_case (inr i) = responded_speaks stream n (bytes_on n on bytes x.added (past_of n.streams on)) b (piece_elsewhere on stream bytes x.added n (past_of n.streams on) i.1 b) (f i.1) (speaks_of stream n v)
 
 starving_speaks : (stream on : ℕ) (bytes : List ℕ) (x : Coming) (n after : NodeState) → IsBoundedNode n → IsBorn stream n → HasVoice stream n → StarvesAt n on bytes x.added after → (on ≢ stream → KeepsVoice stream n after) → Speaks stream after
 starving_speaks stream on bytes x n after k b v st f = by_case (eqb_tells on stream) where

@@ -9,7 +9,7 @@ use Rattle.grasp_session.specs.Talk.{Cause, Closes, mark_of}
 use Rattle.grasp_types.specs.declared.message.Message.{Message}
 use Rattle.grasp_types.specs.declared.traffic.Input.TheVariants as input
 use Rattle.grasp_wire.specs.Cutter.{Past}
-use Rattle.grasp_model_node.specs.Bytes.{Added, most_bytes, heard, past_after, left_as, broken, bytes_on, after_bytes, after_closed}
+use Rattle.grasp_model_node.specs.Bytes.{most_bytes, heard, past_after, left_as, broken, bytes_on, after_bytes, after_closed}
 use Rattle.grasp_model_node.specs.Hear.{Heard, goes_on}
 use Rattle.grasp_model_node.specs.Moves.{with_sessions, begin_closing, keep_past, drop_record}
 use Rattle.grasp_model_node.specs.Node.{NodeState}
@@ -20,13 +20,12 @@ use Rattle.grasp_laws_node_stories.specs.Stories.{is_bad_rest, came_by, came_on,
 use Rattle.grasp_laws_node_stories.specs.StreamMoves.{view_on, heard_in, is_fault, some_move}
 use Rattle.grasp_laws_node_stories.proofs.Acting.{Same, ends}
 use Rattle.grasp_laws_node_stories.proofs.Hearing.{Ready, FedHeard}
-use Rattle.grasp_laws_node_stories.proofs.Overhearing as over
-use Rattle.grasp_laws_node_stories.proofs.Overhearing.{Overheard}
+use Rattle.grasp_laws_node_stories.proofs.Overhearing.{piece_elsewhere}
 use Rattle.grasp_laws_node_stories.proofs.Parts.{Part, Quietly, itself}
 use Rattle.grasp_laws_node_stories.proofs.Pieces.{hears_piece}
-use Rattle.grasp_laws_node_stories.proofs.Records.{closing_shut, kept_past_is, other_past, shut_past, without_none, without_opens_none}
+use Rattle.grasp_laws_node_stories.proofs.Records.{closing_shut, kept_past_is, shut_past, without_none, without_opens_none}
 use Rattle.grasp_laws_node_stories.proofs.Requesting.{IsBorn}
-use Rattle.grasp_laws_node_stories.proofs.Responding.{Responded, quiet_responded, acted_responded}
+use Rattle.grasp_laws_node_stories.proofs.Responding.{acted_responded}
 use Rattle.grasp_laws_node_stories.proofs.Telling.{Acted, IsElsewhere}
 
 -- ---- what comes on a stream
@@ -156,36 +155,7 @@ piece_here stream bytes x n (Some past) e k b v = by_test (nat_le (length past.f
   by_test true = heard_acts stream bytes x n past (heard (begin_closing n stream) stream x.added) e (hears_piece stream n x.added (is_ready stream n past k b v e))
   by_test false = nothing_heard stream bytes x n (broken n stream) (cut_off stream n stream Closes k) (cut_past n stream Closes k)
 
--- ---- another stream
-
-pub responded_kept : (on stream : ℕ) (n m : NodeState) (past : Past) → on ≢ stream → Responded stream n m → Responded stream n (keep_past m on past)
-unfolding keep_past
-responded_kept on stream n m past d r = record {
-  moves = r.moves;
-  part = record { may = r.part.may; view = r.part.view; more = r.part.more; queued = r.part.queued; said = r.part.said; no_fewer = r.part.no_fewer };
-  heard = r.heard;
-  no_fault = r.no_fault;
-  new = r.new;
-  given = r.given;
-  opens = λ p e. r.opens p (sym (other_past m.streams on stream (Some past) d) ∙ e);
-}
-
-pub piece_elsewhere : (on stream : ℕ) (bytes : List ℕ) (a : Added) (n : NodeState) (o : Option Past) → on ≢ stream → IsBoundedNode n → IsBorn stream n → Responded stream n (bytes_on n on bytes a o)
-piece_elsewhere on stream bytes a n None d k b = quiet_responded stream n n (itself stream n)
-piece_elsewhere on stream bytes a n (Some past) d k b = by_test (nat_le (length past.fed + length bytes) most_bytes) where
-  y : Heard
-  y = heard (begin_closing n on) on a
-
-  h : Overheard stream n y
-  h = over.hears_piece on stream n a d b
-
-  by_open : (c : Bool) → Responded stream n (cond c (keep_past y.node on (past_after past bytes a)) y.node)
-  by_open true = responded_kept on stream n y.node (past_after past bytes a) d h.part
-  by_open false = h.part
-
-  by_test : (c : Bool) → Responded stream n (cond c (left_as on (past_after past bytes a) y) (broken n on))
-  by_test true = by_open y.is_open
-  by_test false = quiet_responded stream n (broken n on) (cut_off stream n on Closes k)
+-- ---- all streams
 
 pub pieces_act : (stream : ℕ) (on : ℕ) (bytes : List ℕ) (x : Coming) (n : NodeState) → IsBoundedNode n → IsBorn stream n → HasVoice stream n → Acted stream (input.Bytes on bytes) x n (after_bytes n on bytes x.added)
 unfolding after_bytes
@@ -195,4 +165,4 @@ pieces_act stream on bytes x n k b v = by_case (eqb_tells on stream) where
       subst (λ (q : ℕ). Acted stream (input.Bytes q bytes) x n (bytes_on n q bytes x.added (past_of n.streams q))) (sym i.1) (piece_here stream bytes x n (past_of n.streams stream) refl k b v)
   by_case (inr i) =
       acted_responded stream (input.Bytes on bytes) x n (bytes_on n on bytes x.added (past_of n.streams on)) (elsewhere on bytes x stream i.1)
-      (piece_elsewhere on stream bytes x.added n (past_of n.streams on) i.1 k b)
+      (piece_elsewhere on stream bytes x.added n (past_of n.streams on) i.1 b)

@@ -32,7 +32,8 @@ use Rattle.grasp_laws_node_stories.proofs.Delivering.{HasVoice, pieces_act, clos
 use Rattle.grasp_laws_node_stories.proofs.Parts.{Quietly, itself}
 use Rattle.grasp_laws_node_stories.proofs.Records.{IsOpened, more_opens, fold_opens_none, open_number}
 use Rattle.grasp_laws_node_stories.proofs.Requesting.{IsBorn, born_quietly}
-use Rattle.grasp_laws_node_stories.proofs.Responding.{datagrams, acted_responded}
+use Rattle.grasp_laws_node_stories.proofs.Overhearing.{datagrams}
+use Rattle.grasp_laws_node_stories.proofs.Responding.{acted_responded}
 use Rattle.grasp_laws_node_stories.proofs.Starving.{starving_acts}
 use Rattle.grasp_laws_node_stories.proofs.Telling.{Stays, Opens, Acted, IsElsewhere, nothing_came, acted_quietly, told}
 use Rattle.grasp_laws_node_stories.proofs.Voices.{voices_begin}

@@ -2,12 +2,9 @@
 use Rattle.std.proofs.Common.{◌≡◌, ◌≢◌, ℕ, true, false, List, [], ◌++◌, inl, inr, None, Some, refl, sym, ap, ◌∙◌, subst}
 use Rattle.std.proofs.lemmas.Bool.{true≢false}
 use Rattle.std.proofs.lemmas.Bool.Decides.{eqb_tells}
-use Rattle.std.proofs.lemmas.List.{append-nil}
-use Rattle.grasp_cbor.proofs.Facts.Numbers.{itself}
 use Rattle.grasp_laws_session.proofs.Runs.{calls_in_order}
 use Rattle.grasp_session.specs.Runs.{Reached}
 use Rattle.grasp_session.specs.Talk.{Starves}
-use Rattle.grasp_session.specs.Transcript.{Starved}
 use Rattle.grasp_types.specs.declared.message.Message.{Message}
 use Rattle.grasp_types.specs.declared.traffic.Input.TheVariants as input
 use Rattle.grasp_wire.specs.Cutter.{Past}
@@ -23,13 +20,12 @@ use Rattle.grasp_laws_node_stories.specs.StreamMoves.{heard_in, is_dial, is_faul
 use Rattle.grasp_laws_node_stories.proofs.Acting.{Same, ends}
 use Rattle.grasp_laws_node_stories.proofs.Delivering.{HasVoice, is_ready, elsewhere, came_here, none_some}
 use Rattle.grasp_laws_node_stories.proofs.Hearing.{FedHeard}
-use Rattle.grasp_laws_node_stories.proofs.Overhearing as over
-use Rattle.grasp_laws_node_stories.proofs.Overhearing.{Overheard, responded_then, mark_elsewhere}
-use Rattle.grasp_laws_node_stories.proofs.Parts.{Quietly, nothing, both, heard_both, none_both}
+use Rattle.grasp_laws_node_stories.proofs.Overhearing.{starving_elsewhere}
+use Rattle.grasp_laws_node_stories.proofs.Parts.{Quietly, both, heard_both, none_both}
 use Rattle.grasp_laws_node_stories.proofs.Pieces.{hears_all, none_yet}
-use Rattle.grasp_laws_node_stories.proofs.Records.{AllShut, shut_gone, other_without}
+use Rattle.grasp_laws_node_stories.proofs.Records.{AllShut, shut_gone}
 use Rattle.grasp_laws_node_stories.proofs.Requesting.{IsBorn}
-use Rattle.grasp_laws_node_stories.proofs.Responding.{Responded, quiet_responded, acted_responded}
+use Rattle.grasp_laws_node_stories.proofs.Responding.{acted_responded}
 use Rattle.grasp_laws_node_stories.proofs.Telling.{Acted}
 
 -- ---- the stream on which the piece came
@@ -72,18 +68,7 @@ starving_here stream bytes x n past some others parts was y still f = record {
   q : Quietly stream y.node (starved y.node stream)
   q = starves stream y.node f.ready.reached f.ready.shut
 
--- ---- another stream
-
-starves_elsewhere : (on stream : ℕ) (n : NodeState) → on ≢ stream → Quietly stream n (starved n on)
-unfolding with_sessions drop_record
-starves_elsewhere on stream n d =
-    nothing stream n (starved n on) [] (mark_elsewhere n.sessions on Starved stream d) (sym (append-nil n.queue)) refl (itself n.streams.dialled) (λ past e. sym (other_without n.streams on stream d) ∙ e)
-
-pub starving_elsewhere : (on stream : ℕ) (bytes : List ℕ) (x : Coming) (n after : NodeState) → on ≢ stream → IsBorn stream n → StarvesAt n on bytes x.added after → Responded stream n after
-starving_elsewhere on stream bytes x n after d b s =
-    let y : Heard = hear_all on s.some (stays (begin_closing n on)) in
-    let h : Overheard stream n y = over.hears_all on stream n s.some (stays (begin_closing n on)) d b (over.none_yet on stream n) in
-    subst (Responded stream n) (sym s.after_is) (responded_then stream n y.node (starved y.node on) h.part (h.silent s.still_open) (quiet_responded stream y.node (starved y.node on) (starves_elsewhere on stream y.node d)))
+-- ---- all streams
 
 pub starving_acts : (stream on : ℕ) (bytes : List ℕ) (x : Coming) (n after : NodeState) → IsBoundedNode n → IsBorn stream n → HasVoice stream n → StarvesAt n on bytes x.added after → Acted stream (input.Bytes on bytes) x n after
 starving_acts stream on bytes x n after k b v s = by_case (eqb_tells on stream) where

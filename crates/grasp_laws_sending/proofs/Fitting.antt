@@ -1,5 +1,3 @@
--- What is queued fits: over each move, call and input.
-mod Calls
-mod Hearing
+-- What is queued fits: over each move, and so over each step.
 mod Moves
 pub mod Nodes

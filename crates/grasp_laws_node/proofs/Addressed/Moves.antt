@@ -1,20 +1,16 @@
 -- For which streams a node has queued messages from some state on, and that each move queues them for known ones.
-use Rattle.std.proofs.Common.{◌≡◌, ℕ, ◌+◌, Bool, true, false, cond, not, ◌&&◌, List, [], ◌∷◌, ◌++◌, length, Option, Some, None, refl, sym, ap, ◌∙◌, subst, append_assoc, append-nil}
-use Rattle.grasp_asa.specs.Registrations.{Registrations}
-use Rattle.grasp_discovery.specs.Discoveries.{Discoveries}
-use Rattle.grasp_flood.specs.Floods.{Floods}
-use Rattle.grasp_session.specs.Sessions.{Sessions}
-use Rattle.grasp_types.specs.declared.address.Address.{Address}
-use Rattle.grasp_types.specs.declared.address.Locator.{Locator}
+use Rattle.std.proofs.Common.{◌≡◌, ℕ, ◌+◌, List, [], ◌∷◌, ◌++◌, Some, None, refl, sym, ap, ◌∙◌}
+use Rattle.std.proofs.lemmas.List.{append-nil, append_assoc}
 use Rattle.grasp_types.specs.declared.message.Message.{Message}
-use Rattle.grasp_wire.specs.Cutter.{Past}
-use Rattle.grasp_model_node.specs.Moves.{with_reading, with_registrations, with_sessions, with_discoveries, with_floods, with_draw, begin_closing, keep_past, drop_record, open_record, dial_record, queue_up, may_queue, answer, relay, dial_with}
+use Rattle.grasp_wire.specs.Cutter.{no_past}
+use Rattle.grasp_model_node.specs.Draws.{next_session}
+use Rattle.grasp_model_node.specs.FloodCalls.{discovery_message}
 use Rattle.grasp_model_node.specs.Node.{NodeState}
-use Rattle.grasp_model_node.specs.Queue.{Queued, along, send, dial}
-use Rattle.grasp_model_node.specs.Streams.{StreamsState, with_dialled, next_stream, is_dialled_out}
-use Rattle.grasp_model_node.specs.declared.way.Way.{Way}
+use Rattle.grasp_model_node.specs.Queue.{Queued, send, along, all_ways}
+use Rattle.grasp_model_node.specs.SessionCalls.{stream_at, act_message, request_of}
 use Rattle.grasp_laws_node.specs.Sends.{IsKnown, Follows}
 use Rattle.grasp_laws_node.proofs.Addressed.Streams.{StreamsKnown, known_more, follows_append, follows_rise, along_follows, send_follows, dial_follows, past_known, without_known, opened_known, dialled_known}
+use Rattle.grasp_laws_node.proofs.Walk.Moves.{Known, Turn, Move, Moves, drains, opening, next_dial, kept, unfolded, times_out, answers, responds, closes, goes_on, leaves, opens, relays, replies, says, declines, shuts, asks, searches, tells_all, drains_out}
 
 -- since the base, the node has queued for known streams
 pub record Knows (P : ℕ → Type 0) (base n : NodeState) : Type 0 where
@@ -23,108 +19,60 @@ pub record Knows (P : ℕ → Type 0) (base n : NodeState) : Type 0 where
   pub follows : Follows P base.streams.dialled more n.streams.dialled
   pub records : StreamsKnown P n.streams
 
+-- what a turn is to be: no drain, and the opening of a stream that is among those that peers opened
+abbrev pub Opens : (ℕ → Type 0) → Turn → Type 0
+Opens P drains = ⊥
+Opens P (opening stream from) = P stream
+Opens P _ = Unit {0}
+
 module _ (P : ℕ → Type 0) (base : NodeState) where
+  -- what is said alone goes to known streams
+  abbrev pub known_streams : Known
+  known_streams = record { message = λ m. Unit {0}; stream = IsKnown P base.streams.dialled; past = λ s p. Unit {0}; saying = λ s. Unit {0} }
+
   pub nothing_known : StreamsKnown P base.streams → Knows P base base
   nothing_known a = record { more = []; queued = sym (append-nil base.queue); follows = refl; records = a }
 
-  pub either : (b : Bool) (x y : NodeState) → Knows P base x → Knows P base y → Knows P base (cond b x y)
-  either true x y h k = h
-  either false x y h k = k
-
-  -- what the base knows is known
-  pub still_known : (n : NodeState) (stream : ℕ) → Knows P base n → IsKnown P base.streams.dialled stream → IsKnown P n.streams.dialled stream
-  still_known n stream k h = known_more P base.streams.dialled n.streams.dialled stream (follows_rise P k.more base.streams.dialled n.streams.dialled k.follows) h
-
-  -- ---- other parts
-
-  pub reading_known : (n : NodeState) (now : ℕ) → Knows P base n → Knows P base (with_reading n now)
-  unfolding with_reading
-  reading_known n now k = record { more = k.more; queued = k.queued; follows = k.follows; records = k.records }
-
-  pub draw_known : (n : NodeState) → Knows P base n → Knows P base (with_draw n)
-  unfolding with_draw
-  draw_known n k = record { more = k.more; queued = k.queued; follows = k.follows; records = k.records }
-
-  pub registrations_known : (n : NodeState) (r : Registrations) → Knows P base n → Knows P base (with_registrations n r)
-  unfolding with_registrations
-  registrations_known n r k = record { more = k.more; queued = k.queued; follows = k.follows; records = k.records }
-
-  pub sessions_known : (n : NodeState) (z : Sessions) → Knows P base n → Knows P base (with_sessions n z)
-  unfolding with_sessions
-  sessions_known n z k = record { more = k.more; queued = k.queued; follows = k.follows; records = k.records }
-
-  pub discoveries_known : (n : NodeState) (d : Discoveries) → Knows P base n → Knows P base (with_discoveries n d)
-  unfolding with_discoveries
-  discoveries_known n d k = record { more = k.more; queued = k.queued; follows = k.follows; records = k.records }
-
-  pub floods_known : (n : NodeState) (f : Floods) → Knows P base n → Knows P base (with_floods n f)
-  unfolding with_floods
-  floods_known n f k = record { more = k.more; queued = k.queued; follows = k.follows; records = k.records }
-
-  -- ---- the queue
-
-  pub queue_known : (n : NodeState) (outputs : List Queued) → Follows P n.streams.dialled outputs n.streams.dialled → Knows P base n → Knows P base (queue_up n outputs)
-  unfolding queue_up
-  queue_known n outputs f k = record {
+  -- these outputs are queued behind the others
+  queued_known : (n after : NodeState) (outputs : List Queued) → after.queue ≡ n.queue ++ outputs → Follows P n.streams.dialled outputs after.streams.dialled → StreamsKnown P after.streams → Knows P base n → Knows P base after
+  queued_known n after outputs q f r k = record {
     more = k.more ++ outputs;
-    queued = ap (λ q. q ++ outputs) k.queued ∙ append_assoc base.queue k.more outputs;
-    follows = follows_append P k.more outputs base.streams.dialled n.streams.dialled n.streams.dialled k.follows f;
-    records = k.records;
+    queued = q ∙ (ap (λ q. q ++ outputs) k.queued ∙ append_assoc base.queue k.more outputs);
+    follows = follows_append P k.more outputs base.streams.dialled n.streams.dialled after.streams.dialled k.follows f;
+    records = r;
   }
 
-  pub send_known : (n : NodeState) (stream : ℕ) (m : Message) → IsKnown P base.streams.dialled stream → Knows P base n → Knows P base (queue_up n (send stream m ∷ []))
-  send_known n stream m h k = queue_known n (send stream m ∷ []) (send_follows P stream m n.streams.dialled (still_known n stream k h)) k
+  -- a message for a stream that the base knew
+  sent_known : (n : NodeState) (stream : ℕ) (m : Message) → IsKnown P base.streams.dialled stream → Knows P base n → Follows P n.streams.dialled (send stream m ∷ []) n.streams.dialled
+  sent_known n stream m h k =
+      send_follows P stream m n.streams.dialled (known_more P base.streams.dialled n.streams.dialled stream (follows_rise P k.more base.streams.dialled n.streams.dialled k.follows) h)
 
-  pub along_known : (n : NodeState) (m : Message) (ways : List Way) → Knows P base n → Knows P base (queue_up n (along m ways))
-  along_known n m ways k = queue_known n (along m ways) (along_follows P m ways n.streams.dialled) k
+  move_known : (from : NodeState) (turn : Turn) (n after : NodeState) → Move known_streams from n turn after → Opens P turn → Knows P base n → Knows P base after
+  unfolding unfolded
+  move_known from turn n after (answers {stream = stream} m i so e) o k = queued_known n _ (send stream m ∷ []) refl (sent_known n stream m so k) k.records k
+  move_known from turn n after (says h saying may so e room fit) o k =
+      queued_known n _ (send (stream_at n h) (act_message n h saying) ∷ []) refl (sent_known n (stream_at n h) (act_message n h saying) so k) k.records k
+  move_known from turn n after (declines d i so e room) o k = queued_known n _ (send d.stream d.message ∷ []) refl (sent_known n d.stream d.message so k) k.records k
+  move_known from turn n after (responds to m i so e) o k =
+      queued_known n _ (next_dial n to m) refl (dial_follows P n.streams.dialled to m) (dialled_known P n.streams None k.records) k
+  move_known from turn n after (replies to m i e) o k =
+      queued_known n _ (next_dial n to m) refl (dial_follows P n.streams.dialled to m) (dialled_known P n.streams None k.records) k
+  move_known from turn n after (asks kind timeout object peer is so e free room fit) o k =
+      let m = request_of kind (next_session n) object in
+      queued_known n _ (next_dial n peer m) refl (dial_follows P n.streams.dialled peer m) (dialled_known P n.streams (Some no_past) k.records) k
+  move_known from turn n after (relays m ways e) o k = queued_known n _ (along m ways) refl (along_follows P m ways n.streams.dialled) k.records k
+  move_known from turn n after (searches name kind loops timeout is fresh free room fit) o k =
+      let m = discovery_message n name kind loops in
+      queued_known n _ (along m (all_ways n.plan.links)) refl (along_follows P m (all_ways n.plan.links) n.streams.dialled) k.records k
+  move_known from turn n after (tells_all m room fit) o k = queued_known n _ (along m (all_ways n.plan.links)) refl (along_follows P m (all_ways n.plan.links) n.streams.dialled) k.records k
+  move_known from turn n after (times_out stream e) o k = record { more = k.more; queued = k.queued; follows = k.follows; records = past_known P n.streams stream None k.records }
+  move_known from turn n after (closes {stream = stream}) o k = record { more = k.more; queued = k.queued; follows = k.follows; records = past_known P n.streams stream None k.records }
+  move_known from turn n after (shuts stream) o k = record { more = k.more; queued = k.queued; follows = k.follows; records = past_known P n.streams stream None k.records }
+  move_known from turn n after (goes_on {stream = stream} past so) o k = record { more = k.more; queued = k.queued; follows = k.follows; records = past_known P n.streams stream (Some past) k.records }
+  move_known from turn n after (leaves {stream = stream}) o k = record { more = k.more; queued = k.queued; follows = k.follows; records = without_known P n.streams stream k.records }
+  move_known from turn n after (opens {stream = stream} {from = address} so new room) o k = record { more = k.more; queued = k.queued; follows = k.follows; records = opened_known P n.streams stream address o k.records }
+  move_known from turn n after (drains_out max) o k = absurd o
+  move_known from turn n after _ o k = record { more = k.more; queued = k.queued; follows = k.follows; records = k.records }
 
-  -- the next stream is dialled, and the message for it stands behind
-  pub next_known_to : (n : NodeState) (to : Locator) (m : Message) (past : Option Past) (after : NodeState)
-      → after.queue ≡ n.queue ++ dial (next_stream n.streams) to ∷ send (next_stream n.streams) m ∷ []
-      → after.streams ≡ with_dialled n.streams past → Knows P base n → Knows P base after
-  next_known_to n to m past after queued streams k =
-      let outputs : List Queued = dial (next_stream n.streams) to ∷ send (next_stream n.streams) m ∷ [] in
-      let follows : Follows P base.streams.dialled (k.more ++ outputs) (with_dialled n.streams past).dialled =
-      follows_append P k.more outputs base.streams.dialled n.streams.dialled (n.streams.dialled + 1) k.follows (dial_follows P n.streams.dialled to m) in record {
-        more = k.more ++ outputs;
-        queued = queued ∙ (ap (λ q. q ++ outputs) k.queued ∙ append_assoc base.queue k.more outputs);
-        follows = subst (λ (s : StreamsState). Follows P base.streams.dialled (k.more ++ outputs) s.dialled) (sym streams) follows;
-        records = subst (StreamsKnown P) (sym streams) (dialled_known P n.streams past k.records);
-      }
-
-  -- ---- the streams
-
-  pub closing_known : (n : NodeState) (stream : ℕ) → Knows P base n → Knows P base (begin_closing n stream)
-  unfolding begin_closing
-  closing_known n stream k = record { more = k.more; queued = k.queued; follows = k.follows; records = past_known P n.streams stream None k.records }
-
-  pub keep_past_known : (n : NodeState) (stream : ℕ) (past : Past) → Knows P base n → Knows P base (keep_past n stream past)
-  unfolding keep_past
-  keep_past_known n stream past k = record { more = k.more; queued = k.queued; follows = k.follows; records = past_known P n.streams stream (Some past) k.records }
-
-  pub drop_known : (n : NodeState) (stream : ℕ) → Knows P base n → Knows P base (drop_record n stream)
-  unfolding drop_record
-  drop_known n stream k = record { more = k.more; queued = k.queued; follows = k.follows; records = without_known P n.streams stream k.records }
-
-  pub open_record_known : (n : NodeState) (stream : ℕ) (from : Address) → P stream → Knows P base n → Knows P base (open_record n stream from)
-  unfolding open_record
-  open_record_known n stream from p k = record { more = k.more; queued = k.queued; follows = k.follows; records = opened_known P n.streams stream from p k.records }
-
-  -- ---- what a delivery makes the node send
-
-  pub answer_known : (n : NodeState) (stream : ℕ) (m : Message) → IsKnown P base.streams.dialled stream → Knows P base n → Knows P base (answer n stream m)
-  answer_known n stream m h k = either (may_queue n m 1) (queue_up n (send stream m ∷ [])) n (send_known n stream m h k) k
-
-  pub relay_known : (n : NodeState) (m : Message) (ways : List Way) → Knows P base n → Knows P base (relay n m ways)
-  relay_known n m ways k = either (may_queue n m (length ways)) (queue_up n (along m ways)) n (along_known n m ways k) k
-
-  dialled_to : (n : NodeState) (to : Locator) (m : Message) → Knows P base n
-      → Knows P base (dial_record (queue_up n (dial (next_stream n.streams) to ∷ send (next_stream n.streams) m ∷ [])) None)
-  unfolding queue_up dial_record
-  dialled_to n to m k =
-      next_known_to n to m None (dial_record (queue_up n (dial (next_stream n.streams) to ∷ send (next_stream n.streams) m ∷ [])) None) refl refl k
-
-  pub dial_with_known : (n : NodeState) (to : Locator) (m : Message) → Knows P base n → Knows P base (dial_with n to m)
-  dial_with_known n to m k =
-      either (may_queue n m 2 && not (is_dialled_out n.streams))
-      (dial_record (queue_up n (dial (next_stream n.streams) to ∷ send (next_stream n.streams) m ∷ [])) None) n (dialled_to n to m k) k
+  pub moves_known : (from : NodeState) (turn : Turn) (n after : NodeState) → Moves known_streams from turn n after → Opens P turn → Knows P base n → Knows P base after
+  moves_known from turn n after ms o k = kept (Knows P base) (λ m after x h. move_known from turn m after x o h) ms k

@@ -1,12 +1,11 @@
 -- Each step makes a node queue messages for known streams alone.
-use Rattle.std.proofs.Common.{◌≡◌, ℕ, zero, suc, [], length, drop, Option, Some, None, IsSome, refl, sym, ap, ◌∙◌, subst}
+use Rattle.std.proofs.Common.{◌≡◌, ℕ, [], length, drop, Some, None, IsSome, true, refl, sym, ap, ◌∙◌, subst}
 use Rattle.std.specs.List.{Contains}
 use Rattle.std.proofs.Math.Seq.{drop-append_seam}
-use Rattle.grasp_discovery.specs.Discoveries as discovery
-use Rattle.grasp_flood.specs.Floods as flood
-use Rattle.grasp_session.specs.Sessions.{expire_reply, after_expire}
-use Rattle.grasp_types.specs.declared.address.Address.{Address}
+use Rattle.grasp_session.specs.Made.{IsFresh}
+use Rattle.grasp_session.specs.Transcript.{Transcript, is_going}
 use Rattle.grasp_types.specs.declared.call.Call.{Call}
+use Rattle.grasp_types.specs.declared.call.Call.TheVariants as call
 use Rattle.grasp_types.specs.declared.reply.Reply.{Reply}
 use Rattle.grasp_types.specs.declared.reply.Reply.TheVariants as reply
 use Rattle.grasp_types.specs.declared.traffic.Input.{Input}
@@ -14,75 +13,49 @@ use Rattle.grasp_types.specs.declared.traffic.Input.TheVariants as input
 use Rattle.grasp_wire.specs.Cutter.{Past}
 use Rattle.grasp_wire.specs.Stream.{waiting}
 use Rattle.grasp_laws_node.proofs.Beginning.{beginnings_end, drains_nothing}
-use Rattle.grasp_model_node.specs.Begin.{expire_on, expired, discoveries_expired, floods_expired, begin}
+use Rattle.grasp_model_node.specs.Begin.{begin}
 use Rattle.grasp_model_node.specs.Draining.{closes, drained, after_drain}
-use Rattle.grasp_model_node.specs.Moves.{with_reading, with_sessions, open_record}
 use Rattle.grasp_model_node.specs.Node.{NodeState}
-use Rattle.grasp_model_node.specs.Opening.{is_ignored, after_opened}
 use Rattle.grasp_model_node.specs.BoundedNodes.{IsBoundedNode}
-use Rattle.grasp_model_node.specs.Step.{Coming, NodeStep, Calls, Acts, Drains}
+use Rattle.grasp_model_node.specs.Step.{Coming, NodeStep, Drains}
 use Rattle.grasp_model_node.specs.Streams.{past_of}
 use Rattle.grasp_laws_node.specs.Consistent.{IsConsistent, TiesAreKept}
 use Rattle.grasp_laws_node.specs.Dials.{IsNoDrain, gained}
 use Rattle.grasp_laws_node.specs.Sends.{IsKnown, Follows, RecordsKnown, OpensOne, SendsFollow, SendsAreKnown}
-use Rattle.grasp_laws_node.proofs.Addressed.Streams.{open_known, all_without_known}
-use Rattle.grasp_laws_node.proofs.Addressed.Moves.{Knows, nothing_known, either, reading_known, sessions_known, discoveries_known, floods_known, closing_known, open_record_known}
-use Rattle.grasp_laws_node.proofs.Addressed.Sessions.{SpeaksKnown, tied_speaks}
-use Rattle.grasp_laws_node.proofs.Addressed.Calls.{answered_known}
-use Rattle.grasp_laws_node.proofs.Addressed.Bytes.{bytes_known, starving_known, closed_known}
-use Rattle.grasp_laws_node.proofs.Addressed.Datagrams.{datagram_known}
+use Rattle.grasp_laws_node.proofs.Addressed.Moves.{Knows, Opens, known_streams, nothing_known, moves_known}
+use Rattle.grasp_laws_node.proofs.Addressed.Streams.{StreamsKnown, open_known, all_without_known}
+use Rattle.grasp_laws_node.proofs.Walk.Bytes.{each_anything}
+use Rattle.grasp_laws_node.proofs.Walk.Calls.{turn_of_call}
+use Rattle.grasp_laws_node.proofs.Walk.Declines.{SpeakOn}
+use Rattle.grasp_laws_node.proofs.Walk.Moves.{begins}
+use Rattle.grasp_laws_node.proofs.Walk.Steps.{begin_moves, turn_of, Tells, acts_moves}
 
-module _ (P : ℕ → Type 0) (base : NodeState) where
-  -- ---- the beginning of a step
+-- ---- what an input does
 
-  expire_on_known : (n : NodeState) (o : Option ℕ) → Knows P base n → Knows P base (expire_on n o)
-  expire_on_known n None k = k
-  expire_on_known n (Some stream) k =
-      let z = after_expire n.sessions n.reading in closing_known P base (with_sessions n z) stream (sessions_known P base n z k)
+-- each open stream is known
+abbrev pub OpenKnown : (ℕ → Type 0) → NodeState → NodeState → Type 0
+OpenKnown P base n = (stream : ℕ) (past : Past) → past_of n.streams stream ≡ Some past → IsKnown P base.streams.dialled stream
 
-  expired_known : (count : ℕ) (n : NodeState) → Knows P base n → Knows P base (expired count n)
-  unfolding expired
-  expired_known zero n k = k
-  expired_known (suc count) n k = expire_on_known (expired count n) (expire_reply (expired count n).sessions (expired count n).reading) (expired_known count n k)
+opens_call : (P : ℕ → Type 0) (asa : ℕ) (it : Call) → Opens P (turn_of_call asa it)
+opens_call P asa (call.Discover name kind loops timeout) = tt
+opens_call P asa (call.Flood name value ttl loops) = tt
+opens_call P asa _ = tt
 
-  pub begin_known : (n : NodeState) (now : ℕ) → Knows P base n → Knows P base (begin n now)
-  unfolding begin
-  begin_known n now k = floods_on (discoveries_expired (expired 64 (with_reading n now))) (discoveries_on (expired 64 (with_reading n now)) (expired_known 64 (with_reading n now) (reading_known P base n now k))) where
-    discoveries_on : (m : NodeState) → Knows P base m → Knows P base (discoveries_expired m)
-    discoveries_on m f = discoveries_known P base m (discovery.after_expiry m.discoveries m.reading) f
+opens_turn : (P : ℕ → Type 0) (i : Input) → IsNoDrain i → OpensOne P i → Opens P (turn_of i)
+opens_turn P (input.Api asa it) b o = opens_call P asa it
+opens_turn P (input.Datagram link from bytes) b o = tt
+opens_turn P (input.Opened stream from) b o = o
+opens_turn P (input.Bytes stream bytes) b o = tt
+opens_turn P (input.Closed stream) b o = tt
+opens_turn P (input.Drain max) b o = absurd b
 
-    floods_on : (m : NodeState) → Knows P base m → Knows P base (floods_expired m)
-    floods_on m f = floods_known P base m (flood.after_expiry m.floods m.reading) f
-
-  -- ---- a stream that a peer opens
-
-  opening_known : (n : NodeState) (stream : ℕ) (from : Address) (r : Reply) → P stream → Knows P base n → Knows P base (after_opened n stream from r)
-  opening_known n stream from reply.Taken p k = either P base (is_ignored n stream) n (open_record n stream from) k (open_record_known P base n stream from p k)
-  opening_known n stream from _ p k = k
-
-  -- ---- what an input does
-
-  calls_known : (n after : NodeState) (asa : ℕ) (call : Call) (r : Reply) → SpeaksKnown P base.streams.dialled n.sessions → Knows P base n → Calls n asa call r after → Knows P base after
-  calls_known n after asa call (reply.Api answer) s k c = subst (Knows P base) (sym c.1) (answered_known P base n asa call answer s c.0 k)
-  calls_known n after asa call (reply.Refused refused) s k c = subst (Knows P base) (sym c.1) k
-  calls_known n after asa call _ s k c = absurd c
-
-  -- each open stream is known
-  abbrev pub OpenKnown : NodeState → Type 0
-  OpenKnown n = (stream : ℕ) (past : Past) → past_of n.streams stream ≡ Some past → IsKnown P base.streams.dialled stream
-
-  acts_known : (n after : NodeState) (i : Input) (x : Coming) (r : Reply) → IsNoDrain i → OpensOne P i → SpeaksKnown P base.streams.dialled n.sessions → OpenKnown n → Knows P base n → Acts n i x r after
-      → Knows P base after
-  acts_known n after (input.Api asa call) x r b o s known k a = calls_known n after asa call r s k a
-  acts_known n after (input.Datagram link from bytes) x reply.Taken b o s known k a = subst (Knows P base) (sym a) (datagram_known P base n link from x.carried k)
-  acts_known n after (input.Datagram link from bytes) x reply.OutOfMemory b o s known k a = subst (Knows P base) (sym a) k
-  acts_known n after (input.Datagram link from bytes) x r b o s known k a = absurd a
-  acts_known n after (input.Opened stream from) x r b o s known k a = subst (Knows P base) (sym a.1) (opening_known n stream from r o k)
-  acts_known n after (input.Bytes stream bytes) x reply.Taken b o s known k a = subst (Knows P base) (sym a) (bytes_known P base n stream bytes x.added (known stream) k)
-  acts_known n after (input.Bytes stream bytes) x reply.OutOfMemory b o s known k a = starving_known P base n stream bytes x.added after a (known stream) k
-  acts_known n after (input.Bytes stream bytes) x r b o s known k a = absurd a
-  acts_known n after (input.Closed stream) x r b o s known k a = subst (Knows P base) (sym a.1) (closed_known P base n stream k)
-  acts_known n after (input.Drain max) x r b o s known k a = absurd b
+tells : (P : ℕ → Type 0) (base n after : NodeState) (i : Input) (x : Coming) (r : Reply) → SpeakOn (IsKnown P base.streams.dialled) n.sessions → OpenKnown P base n → Tells (known_streams P base) n i x r after
+tells P base n after (input.Api asa it) x r s known = record { speak = s; say = λ saying is. tt; dials = λ more. tt }
+tells P base n after (input.Datagram link from bytes) x r s known = tt
+tells P base n after (input.Opened stream from) x r s known = λ taken. tt
+tells P base n after (input.Bytes stream bytes) x r s known = λ past e adds. record { stream_so = known stream past e; messages = each_anything x.added.messages; past_so = λ waits. tt }
+tells P base n after (input.Closed stream) x r s known = tt
+tells P base n after (input.Drain max) x r s known = tt
 
 -- ---- the beginning of a step is a step of its own
 
@@ -97,18 +70,29 @@ begin_tied ties n now k t =
 same_dialled : (n : NodeState) (now : ℕ) → (begin n now).streams.dialled ≡ n.streams.dialled
 same_dialled n now = (beginnings_end n now).0.dialled
 
-module _ (P : ℕ → Type 0) where
-  streams_begin : (n : NodeState) (now : ℕ) → RecordsKnown P n → Knows P n (begin n now)
-  streams_begin n now a = begin_known P n n now (nothing_known P n a)
+fresh_goes : (v : Transcript) → IsFresh v → is_going v ≡ true
+fresh_goes v f = ap is_going f.fresh
 
-  pub step_knows : (n after : NodeState) (now : ℕ) (i : Input) (x : Coming) (r : Reply) → IsNoDrain i → OpensOne P i → SpeaksKnown P n.streams.dialled (begin n now).sessions → OpenKnown P n (begin n now)
+module _ (P : ℕ → Type 0) where
+  pub tied_speaks : (n : NodeState) → IsConsistent n → StreamsKnown P n.streams → SpeakOn (IsKnown P n.streams.dialled) n.sessions
+  tied_speaks n t a = record {
+    going = λ place x at g. open_known P n.streams x.stream a (t.sessions_open place x at g);
+    untaken = λ place x at own. open_known P n.streams x.stream a (t.sessions_open place x at (fresh_goes x.view (t.fresh place x at own)));
+  }
+
+  streams_begin : (n : NodeState) (now : ℕ) → RecordsKnown P n → Knows P n (begin n now)
+  streams_begin n now a = moves_known P n n begins n (begin n now) (begin_moves (known_streams P n) n n now) tt (nothing_known P n a)
+
+  pub step_knows : (n after : NodeState) (now : ℕ) (i : Input) (x : Coming) (r : Reply) → IsNoDrain i → OpensOne P i → SpeakOn (IsKnown P n.streams.dialled) (begin n now).sessions → OpenKnown P n (begin n now)
       → RecordsKnown P n → NodeStep n now i x r after → Knows P n after
-  step_knows n after now i x r none o s known a step = acts_known P n (begin n now) after i x r none o s known (streams_begin n now a) step.acts
+  step_knows n after now i x r none o s known a step =
+      moves_known P n (begin n now) (turn_of i) (begin n now) after
+      (acts_moves (known_streams P n) (begin n now) after i x r step.is_coming (tells P n (begin n now) after i x r s known) step.acts) (opens_turn P i none o) (streams_begin n now a)
 
 module _ (ties : TiesAreKept) (P : ℕ → Type 0) where
-  begin_speaks : (n : NodeState) (now : ℕ) → IsBoundedNode n → IsConsistent n → RecordsKnown P n → SpeaksKnown P n.streams.dialled (begin n now).sessions
+  begin_speaks : (n : NodeState) (now : ℕ) → IsBoundedNode n → IsConsistent n → RecordsKnown P n → SpeakOn (IsKnown P n.streams.dialled) (begin n now).sessions
   begin_speaks n now k t a =
-      subst (λ d. SpeaksKnown P d (begin n now).sessions) (same_dialled n now) (tied_speaks P (begin n now) (begin_tied ties n now k t) (streams_begin P n now a).records)
+      subst (λ d. SpeakOn (IsKnown P d) (begin n now).sessions) (same_dialled n now) (tied_speaks P (begin n now) (begin_tied ties n now k t) (streams_begin P n now a).records)
 
   begin_open : (n : NodeState) (now : ℕ) → RecordsKnown P n → OpenKnown P n (begin n now)
   begin_open n now a stream past e =

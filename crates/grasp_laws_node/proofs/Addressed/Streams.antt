@@ -1,5 +1,5 @@
 -- The streams that a node knows: they stay known, and its records are theirs.
-use Rattle.std.proofs.Common.{◌≡◌, ◌≤◌, ℕ, zero, suc, ◌+◌, ◌*◌, List, [], ◌∷◌, ◌++◌, length, take, drop, inl, inr, Option, Some, None, IsSome, slice_index_or, slice_set, slice_get, refl, sym, ap, subst, arith, All}
+use Rattle.std.proofs.Common.{◌≡◌, ◌≤◌, ℕ, suc, ◌+◌, ◌*◌, List, [], ◌∷◌, ◌++◌, length, take, drop, inl, inr, Option, Some, None, IsSome, slice_index_or, slice_set, slice_get, refl, sym, subst, arith, All}
 use Rattle.std.specs.List.{fold}
 use Rattle.std.proofs.lemmas.List.{length-set}
 use Rattle.std.proofs.lemmas.List.Elements.{All-append, All-take, All-drop, All-push, All-weaker}
@@ -12,6 +12,7 @@ use Rattle.grasp_wire.specs.Cutter.{Past, no_past}
 use Rattle.grasp_model_node.specs.Queue.{Queued, along, datagram, send, dial}
 use Rattle.grasp_model_node.specs.Streams.{StreamRecord, StreamsState, is_stream, place_of, put_past, set_past, with_past, remove_place, without, next_stream, with_dialled, with_opened, at_place, past_in, past_of}
 use Rattle.grasp_model_node.specs.declared.way.Way.{Way}
+use Rattle.grasp_laws_node.proofs.Bounded.Streams.{put_number}
 use Rattle.grasp_laws_node.specs.Sends.{IsKnown, Follows}
 
 -- the records of these streams are known ones
@@ -58,14 +59,6 @@ module _ (P : ℕ → Type 0) where
       → t.dialled ≡ s.dialled → StreamsKnown P s → StreamsKnown P t
   same_known s t long same d a k e h =
       subst (λ (b : ℕ). IsKnown P b (slice_index_or t.records k e).number) (sym d) (subst (IsKnown P s.dialled) (sym (same k e)) (a k e (omega (arith, h, long))))
-
-  put_number : (past : Option Past) (xs : List StreamRecord) (i : ℕ) (x : StreamRecord) → slice_get xs i ≡ Some x → (k : ℕ) (e : StreamRecord)
-      → (slice_index_or (slice_set xs i (record x { past = past })) k e).number ≡ (slice_index_or xs k e).number
-  put_number past [] i x f k e = absurd (cc)
-  put_number past (y ∷ ys) zero x f zero e = let same : y ≡ x = cc in ap (λ (w : StreamRecord). w.number) (sym same)
-  put_number past (y ∷ ys) zero x f (suc k) e = refl
-  put_number past (y ∷ ys) (suc i) x f zero e = refl
-  put_number past (y ∷ ys) (suc i) x f (suc k) e = put_number past ys i x f k e
 
   pub past_known : (s : StreamsState) (stream : ℕ) (past : Option Past) → StreamsKnown P s → StreamsKnown P (with_past s stream past)
   past_known s stream past a = by_place (place_of stream s.records) where

@@ -2,53 +2,42 @@
 use Rattle.std.proofs.Common.{◌≡◌, ℕ, zero, suc, ◌<◌, Bool, true, false, cond, not, ◌&&◌, ◌==◌, List, [], ◌∷◌, Option, Some, None, is_ok, Result, Ok, Err, bytes_eq, refl, sym, ap, ◌∙◌, subst, arith}
 use Rattle.std.specs.List.{list_any, find}
 use Rattle.std.proofs.lemmas.Bool.{false≢true, and_parts, eqb-true, ne_eqb, or_from}
-use Rattle.grasp_asa.specs.Answers.{names_of}
 use Rattle.grasp_laws_tables.proofs.LawKept.{registry_kept}
 use Rattle.grasp_discovery.specs.Discoveries.{Discoveries, is_search_of, is_searching, find_reply, find_answer, locators_of, cached_under, search_from, with_search}
 use Rattle.grasp_discovery.specs.Discoveries as discovery
 use Rattle.grasp_discovery.specs.Topic.{topic_of}
-use Rattle.grasp_discovery.specs.declared.answers.Find.{Find}
 use Rattle.grasp_discovery.specs.declared.answers.Find.TheVariants as find
 use Rattle.grasp_discovery.specs.declared.search.Search.{Search}
 use Rattle.grasp_discovery.specs.declared.topic.Topic.{Topic}
-use Rattle.grasp_discovery.proofs.Soundness.{sound_find, sound_begin}
+use Rattle.grasp_discovery.proofs.Soundness.{sound_begin}
 use Rattle.grasp_discovery.proofs.Soundness as discoveries
-use Rattle.grasp_flood.proofs.Soundness as floods
-use Rattle.grasp_flood.specs.Flood.{key_of}
-use Rattle.grasp_session.specs.Transcript.{Saying, SayStep, SayWait, SayEnd, SayInvalid, act_of, request_of}
-use Rattle.grasp_session.specs.Runs.{Begins, Speaks, Polls, Adopts, Removes}
-use Rattle.grasp_session.specs.Sessions.{SessionState, Sessions, IsProper, owner_of, session_at, check_reply, after_say, stream_reply, after_remove, poll_reply, untaken_reply, owner_reply, state_reply}
+use Rattle.grasp_session.specs.Transcript.{Saying, SayEnd, act_of, request_of}
+use Rattle.grasp_session.specs.Runs.{Begins, Speaks, Removes}
+use Rattle.grasp_session.specs.Sessions.{SessionState, Sessions, IsProper, owner_of, session_at, check_reply, after_say, stream_reply, after_remove, untaken_reply, owner_reply, state_reply}
 use Rattle.grasp_session.specs.declared.answer.Act.TheVariants as act
 use Rattle.grasp_session.specs.declared.answer.SessionRefused.{SessionRefused}
 use Rattle.grasp_laws_session.proofs.Streams.{is_least}
 use Rattle.grasp_types.specs.declared.address.Locator.{Locator}
-use Rattle.grasp_types.specs.declared.call.Call.{Call}
-use Rattle.grasp_types.specs.declared.call.Call.TheVariants as calls
 use Rattle.grasp_types.specs.declared.message.Message.{Message}
 use Rattle.grasp_types.specs.declared.objective.Objective.{Objective}
-use Rattle.grasp_types.specs.declared.reply.ApiAnswer.{ApiAnswer}
 use Rattle.grasp_types.specs.declared.reply.ApiAnswer.TheVariants as answers
 use Rattle.grasp_types.specs.declared.session.Handle.{Handle}
 use Rattle.grasp_types.specs.declared.session.Kind.{Kind}
-use Rattle.grasp_types.specs.declared.session.Kind.TheVariants.{Negotiation, Synchronization}
 use Rattle.grasp_types.specs.declared.session.Progress.{Progress}
 use Rattle.grasp_wire.specs.Cutter.{no_past}
-use Rattle.grasp_model_node.specs.Declines.{Declining, unlistened, declined_for, declines_of, may_decline, declined, removed, after_decline, after_declines}
-use Rattle.grasp_model_node.specs.FloodCalls.{to_all, count_all, discovery_message, find_of, is_fresh, searching, begun, looked, flood_message}
-use Rattle.grasp_model_node.specs.Moves.{with_registrations, with_sessions, with_discoveries, with_draw, dial_record, queue_up}
+use Rattle.grasp_model_node.specs.Declines.{Declining, unlistened, declined_for, may_decline, declined, removed, after_decline, after_declines}
+use Rattle.grasp_model_node.specs.FloodCalls.{to_all, count_all, discovery_message, find_of, begun}
+use Rattle.grasp_model_node.specs.Moves.{with_sessions, with_discoveries, with_draw, dial_record, queue_up}
 use Rattle.grasp_model_node.specs.Node.{NodeState}
 use Rattle.grasp_model_node.specs.Queue.{all_ways, has_room, send, dial}
-use Rattle.grasp_model_node.specs.Refusals.{late}
-use Rattle.grasp_model_node.specs.RegistryCalls.{declines_for, without_objective, without_agent, without_searches, close_stream, without_session, without_sessions, with_mark}
-use Rattle.grasp_model_node.specs.SessionCalls.{stream_at, act_message, said, said_last, polled, after_polling, with_adopted, begun_by, requested, request_of as message_of, negotiated, synchronized}
+use Rattle.grasp_model_node.specs.RegistryCalls.{without_searches, close_stream, without_session, without_sessions, with_mark}
+use Rattle.grasp_model_node.specs.SessionCalls.{polled, begun_by, requested, request_of as message_of}
 use Rattle.grasp_model_node.specs.Draws.{next_session}
 use Rattle.grasp_model_node.specs.BoundedNodes.{IsBoundedNode, IsGiven}
-use Rattle.grasp_model_node.specs.Step.{MayCall, after_call}
 use Rattle.grasp_model_node.specs.Streams.{is_dialled_out, next_stream}
-use Rattle.grasp_model_node.specs.Tests.{act_tests, request_tests, synchronize_tests, negotiation_tests, discover_tests, sending}
 use Rattle.grasp_laws_node.proofs.Bounded.Streams.{next_not_given, next_is_given}
-use Rattle.grasp_laws_node.proofs.Bounded.Moves.{registrations_kept, discoveries_kept, floods_kept, draw_kept, call_kept, closing_kept, dial_kept, queue_kept, along_kept}
-use Rattle.grasp_laws_node.proofs.Bounded.Tests.{NoneOf, none_of, has_its_room, number_above, act_allowed, unused_stream}
+use Rattle.grasp_laws_node.proofs.Bounded.Moves.{registrations_kept, discoveries_kept, draw_kept, call_kept, closing_kept, dial_kept, queue_kept, along_kept}
+use Rattle.grasp_laws_node.proofs.Bounded.Tests.{unused_stream}
 
 -- ---- declines
 
@@ -60,13 +49,13 @@ sessions_same : (n : NodeState) → IsBoundedNode n → IsBoundedNode (with_sess
 unfolding with_sessions
 sessions_same n k = k
 
-remove_kept : (n : NodeState) (h : Handle) → IsBoundedNode n → IsBoundedNode (with_sessions n (after_remove n.sessions h))
+pub remove_kept : (n : NodeState) (h : Handle) → IsBoundedNode n → IsBoundedNode (with_sessions n (after_remove n.sessions h))
 remove_kept n h k = by_state (session_at n.sessions h) refl where
   by_state : (o : Option SessionState) → session_at n.sessions h ≡ o → IsBoundedNode (with_sessions n (after_remove n.sessions h))
   by_state None e = rw e (sessions_same n k)
   by_state (Some x) e = call_kept n (Removes h) k (rw e refl) tt
 
-said_kept : (n : NodeState) (owner : ℕ) (h : Handle) (saying : Saying) (stream : ℕ) (m : Message) → IsBoundedNode n → check_reply n.sessions owner h (act_of saying) ≡ Ok tt → has_room n.queue 1 ≡ true
+pub said_kept : (n : NodeState) (owner : ℕ) (h : Handle) (saying : Saying) (stream : ℕ) (m : Message) → IsBoundedNode n → check_reply n.sessions owner h (act_of saying) ≡ Ok tt → has_room n.queue 1 ≡ true
     → IsBoundedNode (queue_up (with_sessions n (after_say n.sessions n.reading h saying)) (send stream m ∷ []))
 unfolding with_sessions
 said_kept n owner h saying stream m k e room =
@@ -107,36 +96,16 @@ without_sessions_kept (suc count) n asa k =
 pub without_searches_kept : (n : NodeState) (asa : ℕ) → IsBoundedNode n → IsBoundedNode (without_searches n asa)
 without_searches_kept n asa k = discoveries_kept n _ k (discoveries.sound_drop n.discoveries asa k.discoveries)
 
-deregister_asa_kept : (n : NodeState) (asa : ℕ) → IsBoundedNode n
-    → IsBoundedNode (without_sessions 64 (without_searches (after_declines (without_agent n asa) (declines_for n.sessions (names_of n.registrations asa))) asa) asa)
-deregister_asa_kept n asa k =
-    without_sessions_kept 64 _ asa
-    (without_searches_kept _ asa
-    (declines_kept (without_agent n asa) (declines_for n.sessions (names_of n.registrations asa))
-    (registrations_kept n _ k ((registry_kept.kept n.registrations k.registrations).deregister_asa asa))))
-
 -- ---- sessions
 
 pub polled_is : (r : Result Progress SessionRefused) (p : Progress) → answers.Polled p ≡ polled r → Ok p ≡ r
 polled_is (Ok q) p e = cc
 polled_is (Err refused) p e = absurd (cc)
 
-polling_kept : (n : NodeState) (asa : ℕ) (h : Handle) (a : ApiAnswer) → IsBoundedNode n → a ≡ polled (poll_reply n.sessions asa h) → IsBoundedNode (after_polling n h (Ok a))
-polling_kept n asa h (answers.Polled p) k e = call_kept n (Polls asa h (Ok p)) k (polled_is (poll_reply n.sessions asa h) p e) tt
-polling_kept n asa h a k e = k
-
-adopted_kept : (n : NodeState) (asa : ℕ) (o : Option Handle) → IsBoundedNode n → 0 < asa → ((h : Handle) → o ≡ Some h → owner_of (session_at n.sessions h) ≡ Some 0) → IsBoundedNode (with_adopted n asa o)
-adopted_kept n asa None k above f = k
-adopted_kept n asa (Some h) k above f = call_kept n (Adopts asa h) k (f h refl, above) tt
-
 pub untaken_owner : (z : Sessions) (name : List ℕ) (h : Handle) → untaken_reply z name ≡ Some h → owner_of (session_at z h) ≡ Some 0
 untaken_owner z name h e =
     let l = is_least z (λ x. (x.owner == 0) && bytes_eq (request_of x.view).name name) h e in
     ap owner_of l.at ∙ ap (λ (x : ℕ). Some x) (eqb-true l.state.owner 0 (and_parts (l.state.owner == 0) (bytes_eq (request_of l.state.view).name name) l.passes).0)
-
-listening_kept : (n : NodeState) (asa : ℕ) (name : List ℕ) → IsBoundedNode n → 0 < asa → IsBoundedNode (with_adopted (with_mark n asa name true) asa (untaken_reply n.sessions name))
-unfolding with_registrations
-listening_kept n asa name k above = adopted_kept (with_mark n asa name true) asa (untaken_reply n.sessions name) (mark_kept n asa name true k) above (λ h e. untaken_owner n.sessions name h e)
 
 pub next_unused : (n : NodeState) → IsBoundedNode n → state_reply n.sessions (next_stream n.streams) ≡ None
 next_unused n k = unused_stream n.sessions (next_stream n.streams) (λ place x at e. next_not_given n.streams.dialled (subst (IsGiven n.streams.dialled) e (k.sessions_given place x at)))
@@ -148,7 +117,7 @@ proper n asa kind timeout o above = record {
   untaken = λ e. absurd (omega (arith, e, above));
 }
 
-requested_kept : (n : NodeState) (asa : ℕ) (kind : Kind) (timeout : ℕ) (o : Objective) (peer : Locator) → IsBoundedNode n → 0 < asa → is_dialled_out n.streams ≡ false → has_room n.queue 2 ≡ true
+pub requested_kept : (n : NodeState) (asa : ℕ) (kind : Kind) (timeout : ℕ) (o : Objective) (peer : Locator) → IsBoundedNode n → 0 < asa → is_dialled_out n.streams ≡ false → has_room n.queue 2 ≡ true
     → IsBoundedNode (requested n asa kind timeout o peer)
 unfolding with_sessions with_draw dial_record
 requested_kept n asa kind timeout o peer k above free room =
@@ -181,63 +150,13 @@ not_searching all asa topic e = by_cache (locators_of (cached_under topic all.en
   by_cache None g = by_search (find (is_search_of asa topic) all.searches) refl g
   by_cache (Some locators) g = absurd (cc)
 
-begun_kept : (n : NodeState) (asa : ℕ) (name : List ℕ) (kind : Kind) (loops timeout : ℕ) → IsBoundedNode n → find_of n asa name kind ≡ find.Fresh → discovery.is_full n.discoveries ≡ false
+pub begun_kept : (n : NodeState) (asa : ℕ) (name : List ℕ) (kind : Kind) (loops timeout : ℕ) → IsBoundedNode n → find_of n asa name kind ≡ find.Fresh → discovery.is_full n.discoveries ≡ false
     → has_room n.queue (count_all n) ≡ true → IsBoundedNode (begun n asa name kind loops timeout)
 unfolding with_draw with_discoveries
 begun_kept n asa name kind loops timeout k fresh free room =
     to_all_kept (with_draw (with_discoveries n (with_search n.discoveries (search_from n.reading asa (topic_of name kind) (next_session n) timeout)))) (discovery_message n name kind loops)
     (draw_kept _ (discoveries_kept n _ k (sound_begin n.discoveries (search_from n.reading asa (topic_of name kind) (next_session n) timeout) (not_searching n.discoveries asa (topic_of name kind) fresh) free k.discoveries))) room
 
-looked_kept : (n : NodeState) (asa : ℕ) (name : List ℕ) (kind : Kind) (loops timeout : ℕ) (f : Find) → find_of n asa name kind ≡ f → IsBoundedNode n → NoneOf (discover_tests n asa (is_fresh f))
-    → late (searching n f name kind loops) ≡ Ok tt → IsBoundedNode (looked n asa name kind loops timeout f)
-looked_kept n asa name kind loops timeout find.Fresh e k t l =
-    begun_kept n asa name kind loops timeout k e t.sessions (has_its_room (searching n find.Fresh name kind loops) (has_room n.queue (count_all n)) refl l)
-looked_kept n asa name kind loops timeout (find.Found locators) e k t l = discoveries_kept n _ k (sound_find n.discoveries asa (topic_of name kind) (find.Found locators) k.discoveries)
-looked_kept n asa name kind loops timeout find.NotYet e k t l = discoveries_kept n _ k (sound_find n.discoveries asa (topic_of name kind) find.NotYet k.discoveries)
-looked_kept n asa name kind loops timeout find.Nothing e k t l = discoveries_kept n _ k (sound_find n.discoveries asa (topic_of name kind) find.Nothing k.discoveries)
-
-flooding_kept : (n : NodeState) (m : Message) → IsBoundedNode n → has_room n.queue (count_all n) ≡ true → IsBoundedNode (to_all (with_draw n) m)
+pub flooding_kept : (n : NodeState) (m : Message) → IsBoundedNode n → has_room n.queue (count_all n) ≡ true → IsBoundedNode (to_all (with_draw n) m)
 unfolding with_draw
 flooding_kept n m k room = to_all_kept (with_draw n) m (draw_kept n k) room
-
--- ---- all calls
-
-act_kept : (n : NodeState) (asa : ℕ) (h : Handle) (saying : Saying) → IsBoundedNode n → NoneOf (act_tests n asa h (act_of saying)) → has_room n.queue 1 ≡ true → IsBoundedNode (said n h saying)
-act_kept n asa h saying k t room = said_kept n asa h saying (stream_at n h) (act_message n h saying) k (act_allowed n asa h (act_of saying) t) room
-
-last_kept : (n : NodeState) (asa : ℕ) (h : Handle) (saying : Saying) → IsBoundedNode n → NoneOf (act_tests n asa h (act_of saying)) → has_room n.queue 1 ≡ true → IsBoundedNode (said_last n h saying)
-last_kept n asa h saying k t room = closing_kept (said n h saying) (stream_at n h) (act_kept n asa h saying k t room)
-
-pub answered_kept : (n : NodeState) (asa : ℕ) (call : Call) (a : ApiAnswer) → IsBoundedNode n → MayCall n asa call (Ok a) → IsBoundedNode (after_call n asa call (Ok a))
-answered_kept n asa (calls.RegisterAsa name) a k m = registrations_kept n _ k ((registry_kept.kept n.registrations k.registrations).register_asa name)
-answered_kept n asa calls.DeregisterAsa a k m = deregister_asa_kept n asa k
-answered_kept n asa (calls.RegisterObjective name flags) a k m = registrations_kept n _ k ((registry_kept.kept n.registrations k.registrations).register_objective asa name flags)
-answered_kept n asa (calls.DeregisterObjective name) a k m =
-    declines_kept (without_objective n asa name) (declines_of n.sessions name) (registrations_kept n _ k ((registry_kept.kept n.registrations k.registrations).deregister_objective asa name))
-answered_kept n asa (calls.Discover name kind loops timeout) a k m =
-    looked_kept n asa name kind loops timeout (find_of n asa name kind) refl k (none_of (discover_tests n asa (is_fresh (find_of n asa name kind))) m.0) m.1
-answered_kept n asa (calls.RequestNegotiate name value loops timeout dry peer) a k m =
-    let t = none_of (request_tests n asa name dry peer) m.0 in
-    requested_kept n asa Negotiation timeout (negotiated n asa name value loops dry) peer k (number_above n asa k t.asa) t.streams
-    (has_its_room (sending n (message_of Negotiation (next_session n) (negotiated n asa name value loops dry)) 2) (has_room n.queue 2) refl m.1)
-answered_kept n asa (calls.ListenNegotiate name) a k m = listening_kept n asa name k (number_above n asa k (none_of (negotiation_tests n asa name) m.0).asa)
-answered_kept n asa (calls.StopListenNegotiate name) a k m = declines_kept (with_mark n asa name false) (declines_of n.sessions name) (mark_kept n asa name false k)
-answered_kept n asa (calls.NegotiateStep h value) a k m =
-    act_kept n asa h (SayStep value) k (none_of (act_tests n asa h act.Step) m.0) (has_its_room (sending n (act_message n h (SayStep value)) 1) (has_room n.queue 1) refl m.1)
-answered_kept n asa (calls.NegotiateWait h millis) a k m =
-    act_kept n asa h (SayWait millis) k (none_of (act_tests n asa h act.Wait) m.0) (has_its_room (record { too_long = false; outbox_full = not (has_room n.queue 1) }) (has_room n.queue 1) refl m.1)
-answered_kept n asa (calls.EndNegotiate h verdict) a k m =
-    last_kept n asa h (SayEnd verdict) k (none_of (act_tests n asa h act.End) m.0) (has_its_room (sending n (act_message n h (SayEnd verdict)) 1) (has_room n.queue 1) refl m.1)
-answered_kept n asa (calls.SendInvalid h detail) a k m =
-    last_kept n asa h (SayInvalid detail) k (none_of (act_tests n asa h act.Invalid) m.0) (has_its_room (sending n (act_message n h (SayInvalid detail)) 1) (has_room n.queue 1) refl m.1)
-answered_kept n asa (calls.Poll h) a k m = polling_kept n asa h a k m.2
-answered_kept n asa (calls.Synchronize name loops timeout peer) a k m =
-    let t = none_of (synchronize_tests n asa name peer) m.0 in
-    requested_kept n asa Synchronization timeout (synchronized n asa name loops) peer k (number_above n asa k t.asa) t.streams
-    (has_its_room (sending n (message_of Synchronization (next_session n) (synchronized n asa name loops)) 2) (has_room n.queue 2) refl m.1)
-answered_kept n asa (calls.ListenSynchronize name value) a k m = registrations_kept n _ k ((registry_kept.kept n.registrations k.registrations).offer asa name (Some value))
-answered_kept n asa (calls.StopListenSynchronize name) a k m = registrations_kept n _ k ((registry_kept.kept n.registrations k.registrations).offer asa name None)
-answered_kept n asa (calls.Flood name value ttl loops) a k m =
-    flooding_kept n (flood_message n asa name value ttl loops) k (has_its_room (sending n (flood_message n asa name value ttl loops) (count_all n)) (has_room n.queue (count_all n)) refl m.1)
-answered_kept n asa (calls.GetFlood name) a k m = k
-answered_kept n asa (calls.ExpireFlood name initiator) a k m = floods_kept n _ k (floods.sound_drop n.floods (key_of name initiator) k.floods)

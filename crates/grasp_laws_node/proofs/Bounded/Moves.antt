@@ -1,5 +1,5 @@
 -- What is so of every node, and that each move leaves it so.
-use Rattle.std.proofs.Common.{◌≡◌, ℕ, suc, ◌+◌, ◌^◌, Bool, true, false, cond, not, ◌&&◌, nat_le, List, [], ◌∷◌, length, Option, Some, None, refl, sym, ap, ◌∙◌, subst, arith}
+use Rattle.std.proofs.Common.{◌≡◌, ℕ, suc, ◌+◌, ◌^◌, true, false, not, ◌&&◌, nat_le, List, [], ◌∷◌, length, Option, Some, None, refl, sym, ap, ◌∙◌, subst, arith}
 use Rattle.std.proofs.lemmas.Bool.{leb-true, leb-false, or_parts, and_parts, not-true}
 use Rattle.std.proofs.lemmas.List.{length-append}
 use Rattle.grasp_asa.specs.Registrations.{Registrations, IsRegistry}
@@ -10,14 +10,15 @@ use Rattle.grasp_laws_session.proofs.Runs.{calls_go_on}
 use Rattle.grasp_types.specs.declared.address.Locator.{Locator}
 use Rattle.grasp_types.specs.declared.message.Message.{Message}
 use Rattle.grasp_wire.specs.Cutter.{Past}
-use Rattle.grasp_model_node.specs.Moves.{with_reading, with_registrations, with_sessions, with_discoveries, with_floods, with_draw, begin_closing, keep_past, drop_record, dial_record, queue_up, may_queue, relay, dial_with}
+use Rattle.grasp_model_node.specs.Moves.{with_reading, with_registrations, with_sessions, with_discoveries, with_floods, with_draw, begin_closing, keep_past, drop_record, dial_record, queue_up, may_queue}
 use Rattle.grasp_model_node.specs.Node.{NodeState}
-use Rattle.grasp_model_node.specs.Queue.{Queued, has_room, along, send, dial, fits}
+use Rattle.grasp_model_node.specs.Queue.{Queued, has_room, along, fits}
 use Rattle.grasp_model_node.specs.BoundedNodes.{IsBoundedNode, IsGiven}
-use Rattle.grasp_model_node.specs.Streams.{StreamsState, is_full, is_dialled_out, next_stream, with_dialled}
+use Rattle.grasp_model_node.specs.Streams.{StreamsState, is_full, is_dialled_out, with_dialled}
 use Rattle.grasp_model_node.specs.declared.way.Way.{Way}
 use Rattle.grasp_laws_node.proofs.Bounded.Streams.{AreStreams, more_given, past_kept, without_kept, dialled_kept}
 use Rattle.grasp_laws_node.proofs.Bounded.Table.{Comes, call_on}
+use Rattle.grasp_laws_node.proofs.Walk.Moves.{next_dial}
 
 pub streams_of : (n : NodeState) → IsBoundedNode n → AreStreams n.streams
 streams_of n k = record { few = k.few_records; apart = k.apart; dialled = k.few_dialled; given = k.records_given }
@@ -183,20 +184,9 @@ length_along m (way ∷ ways) = ap (λ (k : ℕ). suc k) (length_along m ways)
 pub along_kept : (n : NodeState) (m : Message) (ways : List Way) → IsBoundedNode n → has_room n.queue (length ways) ≡ true → IsBoundedNode (queue_up n (along m ways))
 along_kept n m ways k e = queue_kept n (along m ways) k (ap (has_room n.queue) (length_along m ways) ∙ e)
 
-pub relay_kept : (n : NodeState) (m : Message) (ways : List Way) → IsBoundedNode n → IsBoundedNode (relay n m ways)
-relay_kept n m ways k = by_test (may_queue n m (length ways)) refl where
-  by_test : (b : Bool) → may_queue n m (length ways) ≡ b → IsBoundedNode (cond b (queue_up n (along m ways)) n)
-  by_test true e = along_kept n m ways k (and_parts (fits n.plan.limit m) (has_room n.queue (length ways)) e).1
-  by_test false e = k
-
-pub dial_with_kept : (n : NodeState) (to : Locator) (m : Message) → IsBoundedNode n → IsBoundedNode (dial_with n to m)
+-- the next stream is dialled, and a message is queued behind the dialling
+pub next_kept : (n : NodeState) (to : Locator) (m : Message) → IsBoundedNode n → may_queue n m 2 && not (is_dialled_out n.streams) ≡ true → IsBoundedNode (dial_record (queue_up n (next_dial n to m)) None)
 unfolding queue_up
-dial_with_kept n to m k = by_test (may_queue n m 2 && not (is_dialled_out n.streams)) refl where
-  outputs : List Queued
-  outputs = dial (next_stream n.streams) to ∷ send (next_stream n.streams) m ∷ []
-
-  by_test : (b : Bool) → may_queue n m 2 && not (is_dialled_out n.streams) ≡ b → IsBoundedNode (cond b (dial_record (queue_up n outputs) None) n)
-  by_test true e =
-      let p = and_parts (may_queue n m 2) (not (is_dialled_out n.streams)) e in
-      dial_kept (queue_up n outputs) None (queue_kept n outputs k (and_parts (fits n.plan.limit m) (has_room n.queue 2) p.0).1) (not-true (is_dialled_out n.streams) p.1)
-  by_test false e = k
+next_kept n to m k e =
+    let p = and_parts (may_queue n m 2) (not (is_dialled_out n.streams)) e in
+    dial_kept (queue_up n (next_dial n to m)) None (queue_kept n (next_dial n to m) k (and_parts (fits n.plan.limit m) (has_room n.queue 2) p.0).1) (not-true (is_dialled_out n.streams) p.1)

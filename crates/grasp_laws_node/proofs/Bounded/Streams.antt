@@ -39,7 +39,7 @@ same_numbers s t long same d a = record {
 }
 
 -- what came on a stream
-put_number : (past : Option Past) (xs : List StreamRecord) (i : ℕ) (x : StreamRecord) → slice_get xs i ≡ Some x → (k : ℕ) (e : StreamRecord)
+pub put_number : (past : Option Past) (xs : List StreamRecord) (i : ℕ) (x : StreamRecord) → slice_get xs i ≡ Some x → (k : ℕ) (e : StreamRecord)
     → (slice_index_or (slice_set xs i (record x { past = past })) k e).number ≡ (slice_index_or xs k e).number
 put_number past [] i x f k e = absurd (cc)
 put_number past (y ∷ ys) zero x f zero e = let same : y ≡ x = cc in ap (λ (w : StreamRecord). w.number) (sym same)

@@ -52,6 +52,10 @@ has_its_room s room same e = by_all (none_hold (late_tests s) e) where
   by_all : NoneHold (late_tests s) → room ≡ true
   by_all p = not-false room (sym same ∙ p.1.0)
 
+-- what is sent fits
+pub it_fits : (s : Sending) (fit : Bool) → s.too_long ≡ not fit → late s ≡ Ok tt → fit ≡ true
+it_fits s fit same e = not-false fit (sym same ∙ (none_hold (late_tests s) e).0)
+
 -- a registered agent has a number above 0
 any_numbered : (agents : List Agent) (asa made : ℕ) → list_any (is_numbered asa) agents ≡ true → All (λ a. (1 ≤ a.number) × (a.number ≤ made)) agents → 0 < asa
 any_numbered [] asa made e f = absurd (false≢true e)

@@ -1,24 +1,21 @@
 -- How the parts of a node hold together, and that its moves leave them so.
-use Rattle.std.proofs.Common.{ℕ, Bool, true, false, cond, not, ◌&&◌, List, [], ◌∷◌, length, None, refl}
+use Rattle.std.proofs.Common.{ℕ, List, None, refl}
 use Rattle.grasp_asa.specs.Registrations.{Registrations}
-use Rattle.grasp_discovery.specs.Discoveries.{Discoveries, IsDiscoveries}
-use Rattle.grasp_flood.specs.Floods.{Floods, IsFloods}
+use Rattle.grasp_discovery.specs.Discoveries.{Discoveries}
+use Rattle.grasp_flood.specs.Floods.{Floods}
 use Rattle.grasp_laws_session.proofs.Fresh.{fresh_stay}
 use Rattle.grasp_laws_session.proofs.Runs.{calls_go_on}
 use Rattle.grasp_session.specs.Made.{AreFresh, EndsUntaken}
 use Rattle.grasp_session.specs.Runs.{TableCall, EndsBy, MayCall, after_call}
 use Rattle.grasp_session.specs.Sessions.{after_mark}
 use Rattle.grasp_session.specs.Transcript.{Mark}
-use Rattle.grasp_types.specs.declared.address.Locator.{Locator}
-use Rattle.grasp_types.specs.declared.message.Message.{Message}
-use Rattle.grasp_model_node.specs.Moves.{with_reading, with_registrations, with_sessions, with_discoveries, with_floods, with_draw, begin_closing, drop_record, dial_record, queue_up, may_queue, relay, dial_with}
+use Rattle.grasp_model_node.specs.Moves.{with_reading, with_registrations, with_sessions, with_discoveries, with_floods, with_draw, begin_closing, drop_record, dial_record, queue_up}
 use Rattle.grasp_model_node.specs.Node.{NodeState}
-use Rattle.grasp_model_node.specs.Queue.{Queued, along, send, dial}
+use Rattle.grasp_model_node.specs.Queue.{Queued}
 use Rattle.grasp_model_node.specs.BoundedNodes.{IsBoundedNode}
-use Rattle.grasp_model_node.specs.Streams.{is_dialled_out, next_stream, with_dialled}
+use Rattle.grasp_model_node.specs.Streams.{with_dialled}
 use Rattle.grasp_laws_node.specs.Consistent.{GoesOn, IsConsistent}
-use Rattle.grasp_model_node.specs.declared.way.Way.{Way}
-use Rattle.grasp_laws_node.proofs.Bounded.Moves.{streams_of, discoveries_kept, floods_kept, relay_kept, dial_with_kept, call_kept}
+use Rattle.grasp_laws_node.proofs.Bounded.Moves.{streams_of, call_kept}
 use Rattle.grasp_laws_node.proofs.OthersAlone.{others_self}
 use Rattle.grasp_laws_node.proofs.Consistent.Streams.{AreApart, closing_none, without_none, others_past_set, others_past_without, dialled_past}
 use Rattle.grasp_laws_node.proofs.Consistent.Table.{Goes, AreTied, TiedBut, Shut, Shuts, AreHeard, but_one, moved, tied_shut, tied_alike, order, shut_heard, mark_shuts}
@@ -85,37 +82,9 @@ dial_held : (n : NodeState) → IsBoundedNode n → IsHeld n → IsHeld (dial_re
 unfolding dial_record
 dial_held n k h = record { ties = tied_alike n.sessions n.streams (with_dialled n.streams None) h.ties (dialled_past n.streams (streams_of n k)); heard = h.heard; fresh = h.fresh }
 
-relay_held : (n : NodeState) (m : Message) (ways : List Way) → IsHeld n → IsHeld (relay n m ways)
-relay_held n m ways h = by_test (may_queue n m (length ways)) where
-  by_test : (b : Bool) → IsHeld (cond b (queue_up n (along m ways)) n)
-  by_test true = queue_held n (along m ways) h
-  by_test false = h
-
-dial_queued : (n : NodeState) (outputs : List Queued) → IsBoundedNode n → IsHeld n → IsHeld (dial_record (queue_up n outputs) None)
+pub dial_queued : (n : NodeState) (outputs : List Queued) → IsBoundedNode n → IsHeld n → IsHeld (dial_record (queue_up n outputs) None)
 unfolding dial_record queue_up
 dial_queued n outputs k h = let d = dial_held n k h in record { ties = d.ties; heard = d.heard; fresh = d.fresh }
-
-dial_with_held : (n : NodeState) (to : Locator) (m : Message) → IsBoundedNode n → IsHeld n → IsHeld (dial_with n to m)
-dial_with_held n to m k h = by_test (may_queue n m 2 && not (is_dialled_out n.streams)) where
-  outputs : List Queued
-  outputs = dial (next_stream n.streams) to ∷ send (next_stream n.streams) m ∷ []
-
-  by_test : (b : Bool) → IsHeld (cond b (dial_record (queue_up n outputs) None) n)
-  by_test true = dial_queued n outputs k h
-  by_test false = h
-
--- a change of the discoveries leaves the node's lists within their limits and its parts together
-pub discoveries_hold : (n : NodeState) (d : Discoveries) → Holds n → IsDiscoveries d → Holds (with_discoveries n d)
-discoveries_hold n d k i = (discoveries_kept n d k.0 i, discoveries_held n d k.1)
-
-pub floods_hold : (n : NodeState) (f : Floods) → Holds n → IsFloods f → Holds (with_floods n f)
-floods_hold n f k i = (floods_kept n f k.0 i, floods_held n f k.1)
-
-pub relay_holds : (n : NodeState) (m : Message) (ways : List Way) → Holds n → Holds (relay n m ways)
-relay_holds n m ways k = (relay_kept n m ways k.0, relay_held n m ways k.1)
-
-pub dial_with_holds : (n : NodeState) (to : Locator) (m : Message) → Holds n → Holds (dial_with n to m)
-dial_with_holds n to m k = (dial_with_kept n to m k.0, dial_with_held n to m k.0 k.1)
 
 -- ---- no session on a stream goes on any more, and the stream is still to begin closing
 

@@ -12,8 +12,7 @@ use Rattle.grasp_model_node.specs.Node.{NodeState}
 use Rattle.grasp_laws_node.specs.Numbers.{requested_numbers, numbers_in_use, NumbersAreOwn}
 use Rattle.grasp_model_node.specs.BoundedNodes.{IsBoundedNode}
 use Rattle.grasp_model_node.specs.Step.{Coming, NodeStep}
-use Rattle.grasp_laws_node.proofs.Numbers.Calls.{Adds, acts_add}
-use Rattle.grasp_laws_node.proofs.Numbers.Moves.{searches_weight, Lighter, begin_lighter}
+use Rattle.grasp_laws_node.proofs.Numbers.Moves.{searches_weight, Lighter, Adds, begin_lighter, acts_add}
 use Rattle.grasp_laws_node.proofs.Numbers.Used.{used_is, few_unused, in_use_few}
 use Rattle.grasp_laws_node.proofs.Pigeons.{has}
 use Rattle.grasp_laws_node.proofs.SessionWeights.{total, sessions_weight}
@@ -118,7 +117,7 @@ step_own n after now i x r node own step =
     let once = counted_once (numbers_in_use n) own k in
     let l = lighter_total (mark k) n b (begin_lighter n now) in
     once_more k (next_session b) (numbers_in_use b) (numbers_in_use after)
-    (λ f. adds_total f (next_session b) b after (acts_add b i x r after step.acts))
+    (λ f. adds_total f (next_session b) b after (acts_add b i x r after step.is_coming step.acts))
     (omega (arith, once, l))
     (absent (next_session b) (numbers_in_use b) new))
 

@@ -1,23 +1,16 @@
 -- What is so of the open streams of a node, and that each move leaves it so.
-use Rattle.std.proofs.Common.{◌≡◌, ℕ, suc, Bool, true, false, cond, not, ◌&&◌, List, [], ◌∷◌, length, take, drop, Option, Some, None, slice_get, slice_index_or, refl, sym, ap, ◌∙◌, subst, All}
+use Rattle.std.proofs.Common.{◌≡◌, ℕ, suc, List, [], ◌∷◌, take, drop, Option, Some, None, slice_get, slice_index_or, refl, sym, ap, ◌∙◌, subst, All}
 use Rattle.std.specs.List.{fold}
 use Rattle.std.proofs.lemmas.List.Elements.{All-append, All-take, All-drop, All-push, All-set}
 use Rattle.std.proofs.lemmas.List.Quantifiers.{position-Some}
 use Rattle.std.proofs.lemmas.Bool.{eqb-true}
 use Rattle.std.proofs.lemmas.Option.{none-some, slice_get-get_or, same_Some}
-use Rattle.grasp_asa.specs.Registrations.{Registrations}
-use Rattle.grasp_discovery.specs.Discoveries.{Discoveries}
-use Rattle.grasp_flood.specs.Floods.{Floods}
-use Rattle.grasp_session.specs.Sessions.{Sessions}
 use Rattle.grasp_types.specs.declared.address.Address.{Address}
-use Rattle.grasp_types.specs.declared.address.Locator.{Locator}
-use Rattle.grasp_types.specs.declared.message.Message.{Message}
 use Rattle.grasp_wire.specs.Cutter.{Past, no_past}
-use Rattle.grasp_model_node.specs.Moves.{with_reading, with_registrations, with_sessions, with_discoveries, with_floods, with_draw, begin_closing, keep_past, drop_record, open_record, dial_record, queue_up, may_queue, answer, relay, dial_with}
+use Rattle.grasp_model_node.specs.Draining as drain
 use Rattle.grasp_model_node.specs.Node.{NodeState}
-use Rattle.grasp_model_node.specs.Queue.{Queued, along, send, dial}
-use Rattle.grasp_model_node.specs.Streams.{StreamRecord, StreamsState, is_stream, place_of, at_place, past_in, put_past, set_past, remove_place, without, next_stream, is_dialled_out}
-use Rattle.grasp_model_node.specs.declared.way.Way.{Way}
+use Rattle.grasp_model_node.specs.Streams.{StreamRecord, StreamsState, is_stream, place_of, at_place, past_in, put_past, set_past, closing, with_past, remove_place, without, with_record, next_stream}
+use Rattle.grasp_laws_node.proofs.Walk.Moves.{Known, Turn, Move, Moves, kept, unfolded, times_out, responds, closes, goes_on, leaves, opens, replies, shuts, asks, drains_out}
 
 -- ---- records
 
@@ -80,78 +73,41 @@ holds_at Q stream xs past a e = by_place (place_of stream xs) refl e where
 pub record Holds (Q : ℕ → Past → Type 0) (n : NodeState) : Type 0 where
   pub each : All (OpenHolds Q) n.streams.records
 
-pub either : (Q : ℕ → Past → Type 0) (b : Bool) (x y : NodeState) → Holds Q x → Holds Q y → Holds Q (cond b x y)
-either Q true x y h k = h
-either Q false x y h k = k
+-- ---- the moves
 
-pub reading_holds : (Q : ℕ → Past → Type 0) (n : NodeState) (now : ℕ) → Holds Q n → Holds Q (with_reading n now)
-unfolding with_reading
-reading_holds Q n now k = record { each = k.each }
+-- what came on the streams that are open after a move has it
+abbrev pub by_past : (ℕ → Past → Type 0) → Known
+by_past Q = record { message = λ m. Unit {0}; stream = λ s. Unit {0}; past = Q; saying = λ s. Unit {0} }
 
-pub draw_holds : (Q : ℕ → Past → Type 0) (n : NodeState) → Holds Q n → Holds Q (with_draw n)
-unfolding with_draw
-draw_holds Q n k = record { each = k.each }
+module _ (Q : ℕ → Past → Type 0) where
+  closing_holds : (s : StreamsState) (stream : ℕ) → All (OpenHolds Q) s.records → All (OpenHolds Q) (closing s stream).records
+  closing_holds s stream a = set_past_holds Q stream None s.records (place_of stream s.records) refl (λ p e. absurd (cc)) a
 
-pub registrations_holds : (Q : ℕ → Past → Type 0) (n : NodeState) (r : Registrations) → Holds Q n → Holds Q (with_registrations n r)
-unfolding with_registrations
-registrations_holds Q n r k = record { each = k.each }
+  past_holds : (s : StreamsState) (stream : ℕ) (past : Past) → Q stream past → All (OpenHolds Q) s.records → All (OpenHolds Q) (with_past s stream (Some past)).records
+  past_holds s stream past w a = set_past_holds Q stream (Some past) s.records (place_of stream s.records) refl (λ p e. subst (Q stream) (same_Some past p e) w) a
 
-pub sessions_holds : (Q : ℕ → Past → Type 0) (n : NodeState) (z : Sessions) → Holds Q n → Holds Q (with_sessions n z)
-unfolding with_sessions
-sessions_holds Q n z k = record { each = k.each }
+  more_hold : (s : StreamsState) (x : StreamRecord) → OpenHolds Q x → All (OpenHolds Q) s.records → All (OpenHolds Q) (with_record s x).records
+  more_hold s x w a = All-push (OpenHolds Q) s.records x a w
 
-pub discoveries_holds : (Q : ℕ → Past → Type 0) (n : NodeState) (d : Discoveries) → Holds Q n → Holds Q (with_discoveries n d)
-unfolding with_discoveries
-discoveries_holds Q n d k = record { each = k.each }
+  open_so : (number : ℕ) (from : Option Address) → Q number no_past → OpenHolds Q (record { number = number; from = from; past = Some no_past })
+  open_so number from w = record { holds = λ p e. subst (Q number) (same_Some no_past p e) w }
 
-pub floods_holds : (Q : ℕ → Past → Type 0) (n : NodeState) (f : Floods) → Holds Q n → Holds Q (with_floods n f)
-unfolding with_floods
-floods_holds Q n f k = record { each = k.each }
+  shut_so : (number : ℕ) → OpenHolds Q (record { number = number; from = None; past = None })
+  shut_so number = record { holds = λ p e. absurd (cc) }
 
-pub queue_holds : (Q : ℕ → Past → Type 0) (n : NodeState) (outputs : List Queued) → Holds Q n → Holds Q (queue_up n outputs)
-unfolding queue_up
-queue_holds Q n outputs k = record { each = k.each }
+  move_holds : (base : NodeState) (turn : Turn) (n after : NodeState) → Move (by_past Q) base n turn after → Holds Q n → Holds Q after
+  unfolding unfolded
+  move_holds base turn n after (times_out stream e) k = record { each = closing_holds n.streams stream k.each }
+  move_holds base turn n after (closes {stream = stream}) k = record { each = closing_holds n.streams stream k.each }
+  move_holds base turn n after (shuts stream) k = record { each = closing_holds n.streams stream k.each }
+  move_holds base turn n after (goes_on {stream = stream} past so) k = record { each = past_holds n.streams stream past so k.each }
+  move_holds base turn n after (leaves {stream = stream}) k = record { each = remove_holds Q n.streams.records (place_of stream n.streams.records) k.each }
+  move_holds base turn n after (opens {stream = stream} {from = from} so new room) k = record { each = more_hold n.streams _ (open_so stream (Some from) so) k.each }
+  move_holds base turn n after (responds to m i so e) k = record { each = more_hold n.streams _ (shut_so (next_stream n.streams)) k.each }
+  move_holds base turn n after (replies to m i e) k = record { each = more_hold n.streams _ (shut_so (next_stream n.streams)) k.each }
+  move_holds base turn n after (asks kind timeout o peer is so e free room fit) k = record { each = more_hold n.streams _ (open_so (next_stream n.streams) None so) k.each }
+  move_holds base turn n after (drains_out max) k = record { each = fold_without_holds Q n.streams (drain.closes n max) k.each }
+  move_holds base turn n after _ k = record { each = k.each }
 
--- the streams
-pub closing_holds : (Q : ℕ → Past → Type 0) (n : NodeState) (stream : ℕ) → Holds Q n → Holds Q (begin_closing n stream)
-unfolding begin_closing
-closing_holds Q n stream k = record {
-  each = set_past_holds Q stream None n.streams.records (place_of stream n.streams.records) refl (λ p e. absurd (cc)) k.each;
-}
-
-pub keep_past_holds : (Q : ℕ → Past → Type 0) (n : NodeState) (stream : ℕ) (past : Past) → Q stream past → Holds Q n → Holds Q (keep_past n stream past)
-unfolding keep_past
-keep_past_holds Q n stream past w k = record {
-  each = set_past_holds Q stream (Some past) n.streams.records (place_of stream n.streams.records) refl (λ p e. let same : past ≡ p = cc in subst (Q stream) same w) k.each;
-}
-
-pub drop_holds : (Q : ℕ → Past → Type 0) (n : NodeState) (stream : ℕ) → Holds Q n → Holds Q (drop_record n stream)
-unfolding drop_record
-drop_holds Q n stream k = record { each = remove_holds Q n.streams.records (place_of stream n.streams.records) k.each }
-
-pub open_holds : (Q : ℕ → Past → Type 0) (n : NodeState) (stream : ℕ) (from : Address) → Q stream no_past → Holds Q n → Holds Q (open_record n stream from)
-unfolding open_record
-open_holds Q n stream from w k = record {
-  each = All-push (OpenHolds Q) n.streams.records (record { number = stream; from = Some from; past = Some no_past }) k.each
-      (record { holds = λ p e. let same : no_past ≡ p = cc in subst (Q stream) same w });
-}
-
-pub dial_holds : (Q : ℕ → Past → Type 0) (n : NodeState) (past : Option Past) → ((p : Past) → past ≡ Some p → Q (next_stream n.streams) p) → Holds Q n → Holds Q (dial_record n past)
-unfolding dial_record
-dial_holds Q n past w k = record {
-  each = All-push (OpenHolds Q) n.streams.records (record { number = next_stream n.streams; from = None; past = past }) k.each (record { holds = w });
-}
-
--- what a delivery makes the node send
-pub answer_holds : (Q : ℕ → Past → Type 0) (n : NodeState) (stream : ℕ) (m : Message) → Holds Q n → Holds Q (answer n stream m)
-answer_holds Q n stream m k = either Q (may_queue n m 1) (queue_up n (send stream m ∷ [])) n (queue_holds Q n (send stream m ∷ []) k) k
-
-pub relay_holds : (Q : ℕ → Past → Type 0) (n : NodeState) (m : Message) (ways : List Way) → Holds Q n → Holds Q (relay n m ways)
-relay_holds Q n m ways k = either Q (may_queue n m (length ways)) (queue_up n (along m ways)) n (queue_holds Q n (along m ways) k) k
-
-pub dial_with_holds : (Q : ℕ → Past → Type 0) (n : NodeState) (to : Locator) (m : Message) → Holds Q n → Holds Q (dial_with n to m)
-dial_with_holds Q n to m k =
-    either Q (may_queue n m 2 && not (is_dialled_out n.streams)) (dial_record (queue_up n outputs) None) n
-    (dial_holds Q (queue_up n outputs) None (λ p e. absurd (cc)) (queue_holds Q n outputs k)) k where
-      outputs : List Queued
-      outputs = dial (next_stream n.streams) to ∷ send (next_stream n.streams) m ∷ []
+  pub moves_hold : (base : NodeState) (turn : Turn) (n after : NodeState) → Moves (by_past Q) base turn n after → Holds Q n → Holds Q after
+  moves_hold base turn n after ms k = kept (Holds Q) (λ m after x h. move_holds base turn m after x h) ms k

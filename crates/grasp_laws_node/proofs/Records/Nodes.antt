@@ -1,11 +1,6 @@
 -- What is so of the open streams of a node, before each step and after it.
-use Rattle.std.proofs.Common.{◌≡◌, ◌≢◌, ℕ, zero, suc, ◌<◌, Option, Some, None, refl, sym, subst}
+use Rattle.std.proofs.Common.{◌≡◌, ◌≢◌, ℕ, ◌<◌, Some, sym, subst}
 use Rattle.std.proofs.lemmas.List.Elements.{All-weaker}
-use Rattle.grasp_discovery.specs.Discoveries as discovery
-use Rattle.grasp_flood.specs.Floods as flood
-use Rattle.grasp_session.specs.Sessions.{expire_reply, after_expire}
-use Rattle.grasp_types.specs.declared.address.Address.{Address}
-use Rattle.grasp_types.specs.declared.call.Call.{Call}
 use Rattle.grasp_types.specs.declared.reply.Reply.{Reply}
 use Rattle.grasp_types.specs.declared.reply.Reply.TheVariants as reply
 use Rattle.grasp_types.specs.declared.traffic.Input.{Input}
@@ -13,63 +8,26 @@ use Rattle.grasp_types.specs.declared.traffic.Input.TheVariants as input
 use Rattle.grasp_wire.specs.Cutter.{Past, no_past}
 use Rattle.grasp_wire.specs.Stream.{waiting}
 use Rattle.grasp_laws_node.proofs.Bounded.Nodes.{begin_kept}
-use Rattle.grasp_model_node.specs.Begin.{expire_on, expired, discoveries_expired, floods_expired, begin}
+use Rattle.grasp_model_node.specs.Begin.{begin}
 use Rattle.grasp_model_node.specs.Bytes.{Adds, past_after}
-use Rattle.grasp_model_node.specs.Draining.{closes, after_drain}
-use Rattle.grasp_model_node.specs.Moves.{with_reading, with_sessions, open_record}
 use Rattle.grasp_model_node.specs.Node.{NodeState}
-use Rattle.grasp_model_node.specs.Opening.{is_ignored, after_opened}
 use Rattle.grasp_model_node.specs.BoundedNodes.{IsBoundedNode}
-use Rattle.grasp_model_node.specs.Step.{Coming, IsComing, Calls, Acts, NodeStep}
+use Rattle.grasp_model_node.specs.Step.{Coming, IsComing, Acts, NodeStep}
 use Rattle.grasp_model_node.specs.Streams.{past_of, next_stream}
 use Rattle.grasp_laws_node.proofs.Records.Bytes.{bytes_holds, starving_holds, closed_holds}
-use Rattle.grasp_laws_node.proofs.Records.Calls.{answered_holds}
-use Rattle.grasp_laws_node.proofs.Records.Datagrams.{datagram_holds}
-use Rattle.grasp_laws_node.proofs.Records.Moves.{OpenHolds, Holds, either, fold_without_holds, holds_at, reading_holds, sessions_holds, discoveries_holds, floods_holds, closing_holds, open_holds}
+use Rattle.grasp_laws_node.proofs.Records.Moves.{OpenHolds, Holds, by_past, holds_at, moves_hold}
+use Rattle.grasp_laws_node.proofs.Walk.Moves.{begins}
+use Rattle.grasp_laws_node.proofs.Walk.Steps.{begin_moves, turn_of, Tells, acts_moves}
 use Rattle.grasp_laws_node.proofs.Records.Apart.{AreApart, But}
 
 -- a stream that the step dials begins with it
 abbrev pub Dials : (ℕ → Past → Type 0) → NodeState → NodeState → Type 0
 Dials Q n after = n.streams.dialled < after.streams.dialled → Q (next_stream n.streams) no_past
 
--- ---- the beginning of a step
-
-expire_on_holds : (Q : ℕ → Past → Type 0) (n : NodeState) (o : Option ℕ) → Holds Q n → Holds Q (expire_on n o)
-expire_on_holds Q n None k = k
-expire_on_holds Q n (Some stream) k =
-    let z = after_expire n.sessions n.reading in closing_holds Q (with_sessions n z) stream (sessions_holds Q n z k)
-
-expired_holds : (Q : ℕ → Past → Type 0) (count : ℕ) (n : NodeState) → Holds Q n → Holds Q (expired count n)
-unfolding expired
-expired_holds Q zero n k = k
-expired_holds Q (suc count) n k = expire_on_holds Q (expired count n) (expire_reply (expired count n).sessions (expired count n).reading) (expired_holds Q count n k)
-
 pub begin_holds : (Q : ℕ → Past → Type 0) (n : NodeState) (now : ℕ) → Holds Q n → Holds Q (begin n now)
-unfolding begin
-begin_holds Q n now k = floods_on (discoveries_expired (expired 64 (with_reading n now))) (discoveries_on (expired 64 (with_reading n now)) (expired_holds Q 64 (with_reading n now) (reading_holds Q n now k))) where
-  discoveries_on : (m : NodeState) → Holds Q m → Holds Q (discoveries_expired m)
-  discoveries_on m f = discoveries_holds Q m (discovery.after_expiry m.discoveries m.reading) f
-
-  floods_on : (m : NodeState) → Holds Q m → Holds Q (floods_expired m)
-  floods_on m f = floods_holds Q m (flood.after_expiry m.floods m.reading) f
-
--- ---- a stream that a peer opens, and a drain
-
-opening_holds : (Q : ℕ → Past → Type 0) (n : NodeState) (stream : ℕ) (from : Address) (r : Reply) → (r ≡ reply.Taken → Q stream no_past) → Holds Q n → Holds Q (after_opened n stream from r)
-opening_holds Q n stream from reply.Taken w k = either Q (is_ignored n stream) n (open_record n stream from) k (open_holds Q n stream from (w refl) k)
-opening_holds Q n stream from _ w k = k
-
-drain_holds : (Q : ℕ → Past → Type 0) (n : NodeState) (max : ℕ) → Holds Q n → Holds Q (after_drain n max)
-unfolding after_drain
-drain_holds Q n max k = record { each = fold_without_holds Q n.streams (closes n max) k.each }
+begin_holds Q n now k = moves_hold Q n begins n (begin n now) (begin_moves (by_past Q) n n now) k
 
 -- ---- a step
-
-calls_hold : (Q : ℕ → Past → Type 0) (n after : NodeState) (asa : ℕ) (call : Call) (r : Reply) → Dials Q n after → Holds Q n → Calls n asa call r after → Holds Q after
-calls_hold Q n after asa call (reply.Api answer) w k c =
-    subst (Holds Q) (sym c.1) (answered_holds Q n asa call answer (subst (λ (m : NodeState). Dials Q n m) c.1 w) k)
-calls_hold Q n after asa call (reply.Refused refused) w k c = subst (Holds Q) (sym c.1) k
-calls_hold Q n after asa call _ w k c = absurd c
 
 -- What an input asks of what is so before and of what is to be so after: other streams keep it, a stream that is opened begins with it, one
 -- that is closed needs nothing, and one on which a piece comes has it with the piece.
@@ -85,23 +43,25 @@ Turns P Q n x r _ = (stream : ℕ) (past : Past) → P stream past → Q stream 
 pub weaker : (P Q : ℕ → Past → Type 0) (n : NodeState) → ((stream : ℕ) (past : Past) → P stream past → Q stream past) → Holds P n → Holds Q n
 weaker P Q n turn k = record { each = All-weaker (OpenHolds P) (OpenHolds Q) (λ x o. record { holds = λ past e. turn x.number past (o.holds past e) }) n.streams.records k.each }
 
+by_moves : (Q : ℕ → Past → Type 0) (n after : NodeState) (i : Input) (x : Coming) (r : Reply) → IsComing n i x → Tells (by_past Q) n i x r after → Acts n i x r after → Holds Q n → Holds Q after
+by_moves Q n after i x r c s a k = moves_hold Q n (turn_of i) n after (acts_moves (by_past Q) n after i x r c s a) k
+
 acts_hold : (P Q : ℕ → Past → Type 0) (n after : NodeState) (i : Input) (x : Coming) (r : Reply) → AreApart n.streams.records → Turns P Q n x r i → Dials Q n after → Holds P n → IsComing n i x
     → Acts n i x r after → Holds Q after
-acts_hold P Q n after (input.Api asa call) x r s t w k c a = calls_hold Q n after asa call r w (weaker P Q n t k) a
-acts_hold P Q n after (input.Datagram link from bytes) x reply.Taken s t w k c a = subst (Holds Q) (sym a) (datagram_holds Q n link from x.carried (weaker P Q n t k))
-acts_hold P Q n after (input.Datagram link from bytes) x reply.OutOfMemory s t w k c a = subst (Holds Q) (sym a) (weaker P Q n t k)
-acts_hold P Q n after (input.Opened stream from) x r s t w k c a = subst (Holds Q) (sym a.1) (opening_holds Q n stream from r t.1 (weaker P Q n t.0 k))
+acts_hold P Q n after (input.Api asa call) x r s t w k c a =
+    by_moves Q n after (input.Api asa call) x r c (record { speak = record { going = λ p y at g. tt; untaken = λ p y at o. tt }; say = λ saying is. tt; dials = w }) a (weaker P Q n t k)
+acts_hold P Q n after (input.Datagram link from bytes) x r s t w k c a = by_moves Q n after (input.Datagram link from bytes) x r c tt a (weaker P Q n t k)
+acts_hold P Q n after (input.Opened stream from) x r s t w k c a = by_moves Q n after (input.Opened stream from) x r c t.1 a (weaker P Q n t.0 k)
 acts_hold P Q n after (input.Bytes stream bytes) x reply.Taken s t w k c a =
     subst (Holds Q) (sym a)
     (bytes_holds Q n stream bytes x.added c s (λ past e adds waits. t.1 past (holds_at P stream n.streams.records past k.each e) adds waits)
     (weaker P (But stream Q) n (λ other past p differs. t.0 other past differs p) k))
 acts_hold P Q n after (input.Bytes stream bytes) x reply.OutOfMemory s t w k c a =
     starving_holds Q n stream bytes x.added after a s (weaker P (But stream Q) n (λ other past p differs. t.0 other past differs p) k)
+acts_hold P Q n after (input.Bytes stream bytes) x _ s t w k c a = absurd a
 acts_hold P Q n after (input.Closed stream) x r s t w k c a =
     subst (Holds Q) (sym a.1) (closed_holds Q n stream s (weaker P (But stream Q) n (λ other past p differs. t other past differs p) k))
-acts_hold P Q n after (input.Drain max) x (reply.Outputs outputs) s t w k c a = subst (Holds Q) (sym a.1) (drain_holds Q n max (weaker P Q n t k))
-acts_hold P Q n after (input.Drain max) x reply.OutOfMemory s t w k c a = subst (Holds Q) (sym a.1) (weaker P Q n t k)
-acts_hold P Q n after _ x r s t w k c a = absurd a
+acts_hold P Q n after (input.Drain max) x r s t w k c a = by_moves Q n after (input.Drain max) x r c tt a (weaker P Q n t k)
 
 -- what is so of the open streams of a node before a step, and of those after it
 pub step_holds : (P Q : ℕ → Past → Type 0) (n after : NodeState) (now : ℕ) (i : Input) (x : Coming) (r : Reply) → IsBoundedNode n → Turns P Q (begin n now) x r i → Dials Q (begin n now) after
