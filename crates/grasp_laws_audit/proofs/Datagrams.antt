@@ -119,7 +119,7 @@ one_less i = omega arith
 at_least_one : (i : ℕ) → 1 ≤ i + 1
 at_least_one i = omega arith
 
-number_of : (xs : Sent) (i : ℕ) → numbered xs (i + 1) ≡ slice_get xs i
+pub number_of : (xs : Sent) (i : ℕ) → numbered xs (i + 1) ≡ slice_get xs i
 number_of xs i = ap (λ (b : Bool). cond b None (slice_get xs ((i + 1) - 1))) (not_zero (i + 1) (at_least_one i)) ∙ ap (slice_get xs) (one_less i)
 
 -- where it stands
@@ -144,13 +144,13 @@ delivered_is w index v (Some d) found is = record {
 }
 
 -- the parts of the test
-record Same (node link from : ℕ) (bytes : List ℕ) (d : SentDatagram) : Type 0 where
-  receiver : d.route.receiver ≡ node
-  link_is : d.route.link ≡ link
-  from_is : d.route.from ≡ from
-  bytes_are : encoding d.message ≡ bytes
+pub record Same (node link from : ℕ) (bytes : List ℕ) (d : SentDatagram) : Type 0 where
+  pub receiver : d.route.receiver ≡ node
+  pub link_is : d.route.link ≡ link
+  pub from_is : d.route.from ≡ from
+  pub bytes_are : encoding d.message ≡ bytes
 
-same_parts : (node link from : ℕ) (bytes : List ℕ) (d : SentDatagram) → is_datagram node link from bytes d ≡ true → Same node link from bytes d
+pub same_parts : (node link from : ℕ) (bytes : List ℕ) (d : SentDatagram) → is_datagram node link from bytes d ≡ true → Same node link from bytes d
 same_parts node link from bytes d e =
     let a = and_parts (d.route.receiver == node && d.route.link == link && d.route.from == from) (bytes_eq (encoding d.message) bytes) e in
     let b = and_parts (d.route.receiver == node && d.route.link == link) (d.route.from == from) a.0 in

@@ -14,3 +14,4 @@ mod Told
 mod Unbroken
 pub mod Verdicts
 mod Written
+mod Telling

@@ -2,3 +2,4 @@ pub mod Laws
 pub mod ReadBack
 pub mod Recorded
 pub mod Written
+pub mod Telling

@@ -2,6 +2,7 @@
 
 ghost use Rattle.grasp_laws_audit.specs.Laws.{AuditedRunsAreSafe, AuditsAgree};
 ghost use Rattle.grasp_laws_audit.specs.Recorded.{RecordLinesHold};
+ghost use Rattle.grasp_laws_audit.specs.Telling.{HeldLinesTell};
 ghost use Rattle.grasp_laws_audit.specs.Written.{RecordsAreAudited};
 
 use grasp_laws_delivery::{steps_are_present, streams_are_ready};
@@ -41,3 +42,8 @@ pub fn records_are_audited()
 {
     record_lines_hold();
 }
+
+/// What a line that holds tells is so: what came in, when, and which call the node's own agent made. A line that fails has the number that is told.
+pub fn held_lines_tell()
+    ensures { HeldLinesTell }
+{}

@@ -4,4 +4,6 @@
 
 mod laws;
 
-pub use laws::{audited_runs_are_safe, audits_agree, record_lines_hold, records_are_audited};
+pub use laws::{
+    audited_runs_are_safe, audits_agree, held_lines_tell, record_lines_hold, records_are_audited,
+};

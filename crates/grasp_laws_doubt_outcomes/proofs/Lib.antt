@@ -1,4 +1,5 @@
 mod Calls
 mod Events
 mod Fitting
+mod Listed
 mod Scripts

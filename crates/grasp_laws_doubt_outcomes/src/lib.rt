@@ -3,4 +3,6 @@
 
 mod outcome_laws;
 
-pub use outcome_laws::{doubt_events_come_out, doubt_script_events_fit, doubt_scripts_run};
+pub use outcome_laws::{
+    doubt_events_come_out, doubt_networks_are_listed, doubt_script_events_fit, doubt_scripts_run,
+};

@@ -1,6 +1,7 @@
 //! Laws of what events and scripts come to in networks of doubters. They say nothing at run time.
 
 ghost use Rattle.grasp_laws_doubt_outcomes.specs.Events.{DoubtEventsComeOut};
+ghost use Rattle.grasp_laws_doubt_outcomes.specs.Listed.{DoubtNetworksAreListed};
 ghost use Rattle.grasp_laws_doubt_outcomes.specs.Scripts.{DoubtScriptEventsFit, DoubtScriptsRun};
 
 use grasp_laws_doubts::doubt_grounds_hold;
@@ -34,3 +35,9 @@ pub fn doubt_scripts_run()
     doubt_script_events_fit();
     each_doubt_run_is_safe();
 }
+
+/// The networks of a run of doubters are all those on its way, also that before a settling, and what is said of its settlings is said of each.
+#[tactic(auto, using(crate::proofs::Listed::doubt_networks_are_listed))]
+pub fn doubt_networks_are_listed()
+    ensures { DoubtNetworksAreListed }
+{}

@@ -6,4 +6,5 @@ pub mod Disks
 pub mod Steps
 pub mod Crashes
 pub mod First
+mod Listed
 pub mod Runs

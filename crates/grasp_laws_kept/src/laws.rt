@@ -1,5 +1,6 @@
 //! Laws of networks whose nodes crash. They say nothing at run time.
 
+ghost use Rattle.grasp_laws_kept.specs.Listed.{KeptNetworksAreListed};
 ghost use Rattle.grasp_laws_kept.specs.Laws.{KeptNetworksAreSafe, KeptRunsAreTurns, KeptStatesStand};
 
 use grasp_model_script::each_network_is_safe;
@@ -14,6 +15,12 @@ pub fn kept_runs_are_turns()
 /// the roots.
 pub fn disks_have_their_images()
     ensures { KeptStatesStand }
+{}
+
+/// The states and the networks of a run are all those on its way, and the networks have those at each crash.
+#[tactic(auto, using(crate::proofs::Listed::kept_networks_are_listed))]
+pub fn kept_networks_are_listed()
+    ensures { KeptNetworksAreListed }
 {}
 
 /// In each network of such a run negotiations are safe, floods that were read are real, and prefixes of different nodes don't

@@ -3,4 +3,6 @@
 
 mod laws;
 
-pub use laws::{disks_have_their_images, kept_networks_are_safe, kept_runs_are_turns};
+pub use laws::{
+    disks_have_their_images, kept_networks_are_listed, kept_networks_are_safe, kept_runs_are_turns,
+};

@@ -88,3 +88,19 @@ FirstDisksOpenRoots = (roots : List RootPrefix) (bytes : List ℕ) → IsOpened 
 -- whatever happened in a life, a crash may leave what a read of its disk gives then: so a life can end anywhere
 abbrev pub LivesCanEnd : Type 0
 LivesCanEnd = (a : AgentState) (log : DiskLog) (acts : List Act) → IsLeft a log acts (bytes_of (asked_in a acts log))
+
+-- and so may each content that a crash leaves while the disk is asked, after however many of its calls: ahead of a call of the agent that isn't made, and
+-- behind its last one
+pub record LivesEndAnywhere : Type 0 where
+  pub ahead_of : (a : AgentState) (log : DiskLog) (acts : List Act) (later made : List DiskCall) (content : List ℕ)
+      → before_calls (bytes_of (asked_in a acts log)) (agent_after a acts) ≡ later ++ made
+      → MayBecome (after_calls made (state_of (asked_in a acts log))) content → IsLeft a log acts content
+  pub behind_last : (a : AgentState) (log : DiskLog) (earlier : List Act) (x : Taken) (later made : List DiskCall) (content : List ℕ) → x.own ≡ true
+      → behind_calls [] (bytes_of (kept_before (agent_after a earlier) (asked_in a earlier log))) (after_reply (agent_after a earlier) x.choice.reply)
+      ≡ later ++ made
+      → MayBecome (after_calls made (state_of (kept_before (agent_after a earlier) (asked_in a earlier log)))) content
+      → IsLeft a log (earlier ++ took x ∷ []) content
+
+-- whatever the roots are, some disk has their image: so a first life can begin with one
+abbrev pub FirstDisksAreThere : Type 0
+FirstDisksAreThere = (roots : List RootPrefix) → IsOpened roots (pool_of roots) → (bytes : List ℕ) × IsFirstDisk roots bytes

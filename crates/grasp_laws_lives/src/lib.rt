@@ -5,5 +5,6 @@
 mod lives_laws;
 
 pub use lives_laws::{
-    first_disks_open_roots, kept_lives_are_safe, lives_can_end, lives_take_turns,
+    first_disks_are_there, first_disks_open_roots, kept_lives_are_safe, lives_can_end,
+    lives_end_anywhere, lives_take_turns,
 };

@@ -1,7 +1,7 @@
 //! Laws of nodes that run and begin anew as members of a network. They say nothing at run time.
 
 ghost use Rattle.grasp_laws_lives.specs.Laws.{KeptLivesAreSafe, LivesTakeTurns};
-ghost use Rattle.grasp_laws_lives.specs.Stores.{FirstDisksOpenRoots, LivesCanEnd};
+ghost use Rattle.grasp_laws_lives.specs.Stores.{FirstDisksAreThere, FirstDisksOpenRoots, LivesCanEnd, LivesEndAnywhere};
 
 use grasp_disk::read_bytes_may_stand;
 use grasp_laws_members::members_take_turns;
@@ -35,3 +35,15 @@ pub fn lives_can_end()
 {
     read_bytes_may_stand();
 }
+
+/// A crash at any moment while a disk is asked, ahead of a call of the agent or behind it, is the end of a life.
+#[tactic(auto, using(crate::proofs::Disks::lives_end_anywhere))]
+pub fn lives_end_anywhere()
+    ensures { LivesEndAnywhere }
+{}
+
+/// Some disk has the image of a node's roots, so that a first life can begin with it.
+#[tactic(auto, using(crate::proofs::Disks::first_disks_are_there))]
+pub fn first_disks_are_there()
+    ensures { FirstDisksAreThere }
+{}

@@ -4,4 +4,4 @@
 
 mod member_laws;
 
-pub use member_laws::{clocks_begin_steps, members_take_turns};
+pub use member_laws::{clocks_begin_steps, gives_what_comes, members_take_turns};

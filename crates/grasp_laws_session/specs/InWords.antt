@@ -1,10 +1,10 @@
 -- The turn and the deadline of a transcript in plain words, whatever the peer sends.
-use Rattle.std.specs.Prelude.{◌≡◌, ℕ, ◌%◌, ◌≤◌, Bool, true, false, cond, List, [], ◌∷◌, map, All, Contains}
+use Rattle.std.specs.Prelude.{◌≡◌, ℕ, ◌+◌, ◌%◌, ◌≤◌, Bool, true, false, cond, List, [], ◌∷◌, map, All, Contains}
 use Rattle.grasp_types.specs.Reading.{reading_after}
 use Rattle.grasp_types.specs.declared.message.Message.{Message}
 use Rattle.grasp_types.specs.declared.message.Message.TheVariants.{Wait}
 use Rattle.grasp_session.specs.Messages.{Near, Far}
-use Rattle.grasp_session.specs.Conversation.{steps}
+use Rattle.grasp_session.specs.Conversation.{IsLegal, Said, newest_offer, requested, steps}
 use Rattle.grasp_session.specs.Transcript.{Entry, Transcript, known, turn_of, deadline_of}
 use Rattle.grasp_session.specs.Made.{IsBuilt}
 
@@ -15,6 +15,10 @@ pub record TurnIsParity (v : Transcript) : Type 0 where
 
 abbrev pub TurnsAreParity : Type 0
 TurnsAreParity = (v : Transcript) → IsBuilt v → TurnIsParity v
+
+-- each step lowers the loop count by one: the steps and the newest loop count make up the request's (RFC 8990, section 2.8.6)
+abbrev pub StepsLowerLoops : Type 0
+StepsLowerLoops = (c : List Said) → IsLegal c → steps c + (newest_offer c).loops ≡ (requested c).loops
 
 -- an M_WAIT (RFC 8990, section 2.8.9)
 abbrev pub is_wait : Message → Bool

@@ -15,7 +15,7 @@ ghost use Rattle.grasp_session.specs.Laws.{PeerIsPresent, MovesFollow, FirstIsRe
 ghost use Rattle.grasp_session.specs.Runs.{CallsAreInOrder, CallsGoOn, NumbersAreNew};
 ghost use Rattle.grasp_laws_session.specs.Expiry.{ExpiryEnds, ExpiryGoesOn, ExpiryStops};
 ghost use Rattle.grasp_session.specs.Made.{NoneAreReached, CallsTouchOne, LiveComesFirst, ViewsAreBuilt, NoneAreFresh, FreshStay};
-ghost use Rattle.grasp_laws_session.specs.InWords.{TurnsAreParity, DeadlinesAreLargest};
+ghost use Rattle.grasp_laws_session.specs.InWords.{TurnsAreParity, DeadlinesAreLargest, StepsLowerLoops};
 ghost use Rattle.grasp_laws_session.specs.Unstepped.{UnsteppedHearNone};
 ghost use Rattle.grasp_session.specs.Says.{StartsSay, ChecksSay, OldestIsLeast};
 
@@ -185,4 +185,9 @@ pub fn expiry_ends()
 pub fn transcripts_say()
     ensures turn { TurnsAreParity }
     ensures deadline { DeadlinesAreLargest }
+{}
+
+/// The steps of a legal conversation are as many as its loop count has fallen by.
+pub fn steps_lower_loops()
+    ensures { StepsLowerLoops }
 {}

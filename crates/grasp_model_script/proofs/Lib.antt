@@ -1,3 +1,4 @@
+mod Listing
 pub mod MoreLines
 pub mod OneRun
 pub mod RunLaws

@@ -1,14 +1,14 @@
 -- Laws on the runs of scripts.
-use Rattle.std.specs.Prelude.{◌≡◌, ℕ, List, []}
+use Rattle.std.specs.Prelude.{◌≡◌, ◌++◌, ℕ, Contains, List, [], ◌∷◌}
 use Rattle.grasp_model_script.specs.Safe.{IsSafe}
 use Rattle.grasp_model_network.specs.Runs.{IsRun, world_after, world_of, IsReached}
 use Rattle.grasp_model_network.specs.Setting.{Setting, script_setting, numbers_from}
 use Rattle.grasp_model_network.specs.World.{WorldState}
 use Rattle.grasp_model_network.specs.declared.plan.WorldPlan.{WorldPlan}
 use Rattle.grasp_model_network.specs.Plans.{IsGoodPlan}
-use Rattle.grasp_model_script.specs.LineRuns.{LineRun}
+use Rattle.grasp_model_script.specs.LineRuns.{LineRun, after_line}
 use Rattle.grasp_script.specs.declared.line.Line.{Line}
-use Rattle.grasp_model_script.specs.ScriptRuns.{MayRunAll, network_after, happenings_from, RunsSafely, IsRunText, Replays}
+use Rattle.grasp_model_script.specs.ScriptRuns.{MayRunAll, network_after, networks_from, happenings_from, RunsSafely, IsRunText, Replays}
 use Rattle.grasp_model_script.specs.Stops.{SendsTooMuch, IsStoppedText, TextSendsTooMuch}
 use Rattle.grasp_model_script.specs.Summary.{IsSummary}
 
@@ -19,6 +19,14 @@ pub record LinesRunEvents (s : Setting) (w : WorldState) (xs : List LineRun) : T
 
 abbrev pub RunsOfLinesAreRuns : Type 0
 RunsOfLinesAreRuns = (s : Setting) (w : WorldState) (xs : List LineRun) → MayRunAll s w xs → LinesRunEvents s w xs
+
+-- the networks of a run are all those on its way
+pub record NetworksAreListed : Type 0 where
+  -- no line leads nowhere, and each line leads on from where those before it led
+  pub none : (s : Setting) (w : WorldState) → network_after s w [] ≡ w
+  pub more : (s : Setting) (w : WorldState) (xs : List LineRun) (x : LineRun) → network_after s w (xs ++ x ∷ []) ≡ after_line s (network_after s w xs) x
+  -- where any first lines lead is among them
+  pub each : (s : Setting) (w : WorldState) (xs ys : List LineRun) → Contains (networks_from s w (xs ++ ys)) (network_after s w xs)
 
 -- however lines come out in the network of a good plan, each network that they lead to is safe
 abbrev pub EachRunIsSafe : Type 0

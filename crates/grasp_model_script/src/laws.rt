@@ -1,6 +1,14 @@
 //! Laws on the runs of scripts. They say nothing at run time.
 
-ghost use Rattle.grasp_model_script.specs.Laws.{RunsOfLinesAreRuns, EachNetworkIsSafe, EachRunIsSafe, ScriptsRestartNobody, TextsAgree, RunsOrStops};
+ghost use Rattle.grasp_model_script.specs.Laws.{
+  NetworksAreListed,
+  RunsOfLinesAreRuns,
+  EachNetworkIsSafe,
+  EachRunIsSafe,
+  ScriptsRestartNobody,
+  TextsAgree,
+  RunsOrStops,
+};
 
 use grasp_laws_floods::read_floods_are_real;
 use grasp_laws_negotiation::talks_are_safe;
@@ -12,6 +20,12 @@ use grasp_script::texts_have_one_script;
 /// A run of lines is a run of their events: a line that shows a node changes nothing.
 pub fn runs_of_lines_are_runs()
     ensures { RunsOfLinesAreRuns }
+{}
+
+/// The networks of a run are all those on its way: wherever any of its first lines lead.
+#[tactic(auto, using(crate::proofs::Listing::networks_are_listed))]
+pub fn networks_are_listed()
+    ensures { NetworksAreListed }
 {}
 
 /// In every network that events, settlings and restarts lead to, negotiations are safe, floods that were read are real, and prefixes of

@@ -5,6 +5,6 @@
 mod laws;
 
 pub use laws::{
-    each_network_is_safe, each_run_is_safe, runs_of_lines_are_runs, runs_or_stops,
-    scripts_restart_nobody, texts_agree,
+    each_network_is_safe, each_run_is_safe, networks_are_listed, runs_of_lines_are_runs,
+    runs_or_stops, scripts_restart_nobody, texts_agree,
 };
