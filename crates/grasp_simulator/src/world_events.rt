@@ -22,8 +22,10 @@ use grasp_types::{Call, Prefix};
 pub(crate) const MOST_BYTES: u64 = 268_435_456;
 
 impl World {
-    /// Something happens. Node and peer are to be there, the lengths of a want are to be lengths of prefixes, and no call is to
-    /// be made as agent 1, which is the node's own. After an `Err` every later event is answered by it again.
+    /// Something happens. Node and peer are to be there, the lengths of a want are to be lengths of prefixes, and what is given
+    /// back is to be a prefix. No call is to be made as agent 1, which is the node's own, and what a call carries is to be within
+    /// its ranges: texts are UTF-8, values have an encoding, flags are at most 15, and numbers are in their types. After an `Err`
+    /// every later event is answered by it again.
     pub fn step(&mut self, event: Event) -> Result<Report, WorldStop>
         requires { IsAsked self.old event }
         ensures { Stepped self.old self.new event result }

@@ -100,9 +100,9 @@ fn bad_key(alloc: Global, front: &str, rest: &str) -> Result<Option<ConfigKey>, 
 fn bad_keys(rt: HostRuntime) -> Result<(), Fail> {
     for (key, front, rest, line) in &KEYS {
         let found = bad_key(rt.alloc(), front, rest)?;
-        assert_eq!(rt; found, Some(*key));
+        assert!(rt; found == Some(*key));
         let written = fault_line(rt.alloc(), &Status::BadConfig { key: *key })?;
-        assert_eq!(rt; written.text(), *line);
+        assert!(rt; written.text() == *line);
     }
     Ok(())
 }
@@ -111,7 +111,7 @@ fn bad_keys(rt: HostRuntime) -> Result<(), Fail> {
 fn ends(rt: HostRuntime) -> Result<(), Fail> {
     for (status, line) in &ENDS {
         let written = fault_line(rt.alloc(), status)?;
-        assert_eq!(rt; written.text(), *line);
+        assert!(rt; written.text() == *line);
     }
     Ok(())
 }

@@ -130,7 +130,7 @@ fn all_three_meet(rt: HostRuntime) -> Result<(), Fail> {
         [7; 32],
         &meeting,
     );
-    assert_eq!(rt; status, Status::Ok);
-    assert_eq!(rt; meeting.met.load(Ordering::SeqCst), ALL);
+    assert!(rt; status == Status::Ok);
+    assert!(rt; meeting.met.load(Ordering::SeqCst) == ALL);
     Ok(())
 }

@@ -35,15 +35,15 @@ fn two_passes(rt: HostRuntime) -> Result<(), Fail> {
     let second = registration(alloc, "b").expect(&rt, "memory");
     let third = registration(alloc, "b").expect(&rt, "memory");
     let fourth = registration(alloc, "b").expect(&rt, "memory");
-    assert_eq!(rt; served(&shared.root_try_call(&mut root, 0, first)), Some(1));
+    assert!(rt; served(&shared.root_try_call(&mut root, 0, first)) == Some(1));
     let mut pass = shared.split(&mut root);
-    assert_eq!(rt; root.out(), 1);
-    assert_eq!(rt; served(&shared.try_call(&mut pass, 0, second)), Some(2));
+    assert!(rt; root.out() == 1);
+    assert!(rt; served(&shared.try_call(&mut pass, 0, second)) == Some(2));
     assert!(rt; refused(&shared.root_try_call(&mut root, 0, third)));
     shared.join(&mut root, pass);
-    assert_eq!(rt; root.out(), 0);
+    assert!(rt; root.out() == 0);
     assert!(rt; refused(&shared.root_try_call(&mut root, 0, fourth)));
     let core = shared.close(root);
-    assert_eq!(rt; core.now(), 0);
+    assert!(rt; core.now() == 0);
     Ok(())
 }

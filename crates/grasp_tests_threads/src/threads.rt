@@ -1,64 +1,73 @@
-//! Two threads that register agents at one node.
+//! Two threads that register eight agents each at one node, whichever comes first: the next one is the seventeenth.
 
 ghost use Rattle.std.specs.Prelude.{◌≡◌};
 ghost use Rattle.grasp_shared.specs.Handles.{IsPassOf, IsRootOf, out_of};
 
-use crate::registrations::{is_duplicate, number, plan, registration};
+use crate::registrations::{number, plan, registration};
 use grasp_core::NodeCore;
 use grasp_shared::{Pass, Root, Shared};
-use grasp_types::{Input, Reply};
 use std::alloc::Global;
 use std::process::Abort;
 use std::sync::Wait;
 use std::test::Fail;
 use std::thread::{Threads, join};
 
-/// Makes a call, and waits for its turn only where the other thread came first.
-fn register<R: Wait>(rt: &R, shared: &Shared, mut pass: Pass, input: Input) -> (Pass, Reply)
+/// The names of the agents of the one thread, and of the other.
+const LEFT: [&str; 8] = ["a", "b", "c", "d", "e", "f", "g", "h"];
+
+const RIGHT: [&str; 8] = ["i", "j", "k", "l", "m", "n", "o", "p"];
+
+/// Registers an agent of this name. The call waits for its turn.
+fn register<R: Wait>(rt: &R, alloc: Global, shared: &Shared, mut pass: Pass, name: &str) -> Pass
     requires { IsPassOf shared.now pass }
-    ensures { IsPassOf shared.now result.0 }
+    ensures { IsPassOf shared.now result }
 {
-    let reply = match shared.try_call(&mut pass, 0, input) {
-        Ok(reply) => reply,
-        Err(busy) => shared.call(rt, &mut pass, 0, busy.input),
+    let Ok(input) = registration(alloc, name) else {
+        return pass;
     };
-    (pass, reply)
+    let _reply = shared.call(rt, &mut pass, 0, input);
+    pass
 }
 
-/// Two threads make a call each, each through its pass.
+/// Registers agents of these names, one after the other.
+fn register_all<R: Wait>(
+    rt: &R,
+    alloc: Global,
+    shared: &Shared,
+    mut pass: Pass,
+    names: &[&str; 8],
+) -> Pass
+    requires { IsPassOf shared.now pass }
+    ensures { IsPassOf shared.now result }
+{
+    for i in 0..8usize {
+        pass = register(rt, alloc, shared, pass, names[i]);
+    }
+    pass
+}
+
+/// Both threads register their agents, each through its pass.
 fn register_beside<R: Threads + Wait + Sync>(
     rt: &R,
+    alloc: Global,
     shared: &Shared,
     left: Pass,
     right: Pass,
-    one: Input,
-    two: Input,
-) -> ((Pass, Reply), (Pass, Reply))
+) -> (Pass, Pass)
     requires { IsPassOf shared.now left × IsPassOf shared.now right }
-    ensures { IsPassOf shared.now result.0.0 × IsPassOf shared.now result.1.0 }
+    ensures { IsPassOf shared.now result.0 × IsPassOf shared.now result.1 }
 {
     join(
         rt,
-        move || -> (Pass, Reply)
+        move || -> Pass
             requires { IsPassOf shared.now left }
-            ensures { IsPassOf shared.entry.now result.0 }
-        { register(rt, shared, left, one) },
-        move || -> (Pass, Reply)
+            ensures { IsPassOf shared.entry.now result }
+        { register_all(rt, alloc, shared, left, &LEFT) },
+        move || -> Pass
             requires { IsPassOf shared.now right }
-            ensures { IsPassOf shared.entry.now result.0 }
-        { register(rt, shared, right, two) },
+            ensures { IsPassOf shared.entry.now result }
+        { register_all(rt, alloc, shared, right, &RIGHT) },
     )
-}
-
-/// Whether two agents were given the first two numbers, in either order.
-fn are_first(a: &Reply, b: &Reply) -> bool {
-    let numbers = (number(a), number(b));
-    numbers == (Some(1), Some(2)) || numbers == (Some(2), Some(1))
-}
-
-/// Whether one agent was given the third number, and the other was refused.
-fn is_one_refused(a: &Reply, b: &Reply) -> bool {
-    number(a) == Some(3) && is_duplicate(b) || number(b) == Some(3) && is_duplicate(a)
 }
 
 /// A node that threads may share.
@@ -80,18 +89,13 @@ fn two_threads_register(rt: HostRuntime) -> Result<(), Fail> {
     let (shared, mut root) = open(&rt, alloc);
     let left = shared.split(&mut root);
     let right = shared.split(&mut root);
-    let one = registration(alloc, "a").expect(&rt, "memory");
-    let two = registration(alloc, "b").expect(&rt, "memory");
-    let ((left, a), (right, b)) = register_beside(&rt, &shared, left, right, one, two);
-    assert!(rt; are_first(&a, &b));
-    let one = registration(alloc, "both").expect(&rt, "memory");
-    let two = registration(alloc, "both").expect(&rt, "memory");
-    let ((left, a), (right, b)) = register_beside(&rt, &shared, left, right, one, two);
-    assert!(rt; is_one_refused(&a, &b));
+    let (left, right) = register_beside(&rt, alloc, &shared, left, right);
     shared.join(&mut root, left);
     shared.join(&mut root, right);
-    assert_eq!(rt; root.out(), 0);
+    let next = registration(alloc, "q").expect(&rt, "memory");
+    let reply = shared.root_call(&rt, &mut root, 0, next);
+    assert!(rt; number(&reply) == Some(17));
     let core = shared.close(root);
-    assert_eq!(rt; core.now(), 0);
+    assert!(rt; core.now() == 0);
     Ok(())
 }
