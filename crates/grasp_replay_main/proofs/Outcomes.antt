@@ -1,6 +1,7 @@
 -- How the program ends while nothing outside fails.
 use Rattle.std.proofs.Common.{◌≡◌, ◌≢◌, ◌⊎◌, ◌<◌, inl, inr, ℕ, zero, suc, List, [], ◌∷◌, length, Option, None, Some, IfSome, refl, sym, subst, arith}
 use Rattle.std.specs.Prelude.{⊤}
+use Rattle.grasp_laws_audit.specs.Laws.{AuditsAgree}
 use Rattle.grasp_replay_main.specs.Gen.{IsDrawEnd, IsGenEnd, Summarizes}
 use Rattle.grasp_replay_main.specs.Laws.{EndsSo, IsBadWithin}
 use Rattle.grasp_replay_main.specs.Made.{IsMade}
@@ -12,7 +13,7 @@ use Rattle.grasp_replay_main.specs.declared.exit.Finding.{Finding}
 use Rattle.grasp_replay_main.specs.declared.exit.Status.{Status}
 use Rattle.grasp_replay_main.specs.declared.exit.Status.TheVariants as status
 use Rattle.grasp_replay_main.specs.declared.task.Task.{Task}
-use Rattle.grasp_replay_main.specs.declared.task.Task.TheVariants.{Show, Pack, Replay, Keep, Resolve, Gen, Draw}
+use Rattle.grasp_replay_main.specs.declared.task.Task.TheVariants.{Show, Pack, Replay, Keep, Resolve, Record, Audit, Gen, Draw}
 use Rattle.grasp_replay_main.proofs.Tasks.{no_bad_input, stops_too_far, whole_runs}
 
 -- ---- inputs
@@ -34,6 +35,8 @@ large_by_bytes Pack input reads more = inl more
 large_by_bytes Replay input reads more = inl more
 large_by_bytes Keep input reads more = inl more
 large_by_bytes Resolve input reads more = inl more
+large_by_bytes Record input reads more = inl more
+large_by_bytes Audit input reads more = inl more
 large_by_bytes (Gen number) input reads more = absurd reads
 large_by_bytes (Draw number) input reads more = absurd reads
 
@@ -53,6 +56,8 @@ known_left Pack left P reads x = x
 known_left Replay left P reads x = x
 known_left Keep left P reads x = x
 known_left Resolve left P reads x = x
+known_left Record left P reads x = x
+known_left Audit left P reads x = x
 known_left (Gen number) left P reads x = absurd reads
 known_left (Draw number) left P reads x = absurd reads
 
@@ -112,6 +117,8 @@ cut_off Pack limit left before after t = cut_as_read Pack limit left before afte
 cut_off Replay limit left before after t = cut_as_read Replay limit left before after tt t
 cut_off Keep limit left before after t = cut_as_read Keep limit left before after tt t
 cut_off Resolve limit left before after t = cut_as_read Resolve limit left before after tt t
+cut_off Record limit left before after t = cut_as_read Record limit left before after tt t
+cut_off Audit limit left before after t = cut_as_read Audit limit left before after tt t
 cut_off (Gen number) limit left before after t =
     record { input = []; told = refl; holds = record { small = t.small; output = t.output; makes = t.makes } }
 cut_off (Draw number) limit left before after t =
@@ -123,11 +130,11 @@ ends_large : (task : Task) (limit : ℕ) (input : List ℕ) → IsTooLarge task 
 ends_large task limit input large =
     record { large = λ l. inl refl; outcome = λ small. absurd (small large); whole = λ small whole. absurd (small large) }
 
-ends_cut : (task : Task) (limit : ℕ) (input : List ℕ) → IsCutOff task limit input → EndsSo task limit status.TooLarge input
-ends_cut task limit input cut = record {
+ends_cut : AuditsAgree → (task : Task) (limit : ℕ) (input : List ℕ) → IsCutOff task limit input → EndsSo task limit status.TooLarge input
+ends_cut agree task limit input cut = record {
   large = λ l. inl refl;
   outcome = λ small. (cut.output, cut.makes);
-  whole = λ small whole. absurd (whole_runs task limit input (stops_too_far task limit input cut.output cut.makes) whole);
+  whole = λ small whole. absurd (whole_runs agree task limit input (stops_too_far task limit input cut.output cut.makes) whole);
 }
 
 ends_bad : (task : Task) (limit line : ℕ) (input : List ℕ) → IsBadWithin task line input → EndsSo task limit (status.BadScript line) input
@@ -155,28 +162,28 @@ ends_found task limit f input m = record {
 some_so : (known : Option (List ℕ)) (P Q : List ℕ → Type 0) → ((i : List ℕ) → P i → Q i) → SomeInput known P → SomeInput known Q
 some_so known P Q f x = record { input = x.input; told = x.told; holds = f x.input x.holds }
 
-ends_too_large : (U : Type 0) (task : Task) (limit : ℕ) (left before after : Option (List ℕ))
+ends_too_large : AuditsAgree → (U : Type 0) (task : Task) (limit : ℕ) (left before after : Option (List ℕ))
     → (U × SomeInput (input_of task left) (IsTooLarge task)) ⊎ Tells task limit left before after status.TooLarge
     → SomeInput (input_of task left) (EndsSo task limit status.TooLarge)
-ends_too_large U task limit left before after (inl large) =
+ends_too_large agree U task limit left before after (inl large) =
     some_so (input_of task left) (IsTooLarge task) (EndsSo task limit status.TooLarge) (ends_large task limit) large.1
-ends_too_large U task limit left before after (inr t) =
+ends_too_large agree U task limit left before after (inr t) =
     let cut = cut_off task limit left before after t in
-    some_so (input_of task left) (IsCutOff task limit) (EndsSo task limit status.TooLarge) (ends_cut task limit) cut
+    some_so (input_of task left) (IsCutOff task limit) (EndsSo task limit status.TooLarge) (ends_cut agree task limit) cut
 
-pub ends_so : (R K U : Type 0) (task : Task) (limit : ℕ) (left before after : Option (List ℕ)) (s : Status)
+pub ends_so : AuditsAgree → (R K U : Type 0) (task : Task) (limit : ℕ) (left before after : Option (List ℕ)) (s : Status)
     → Ends R K U task limit (input_of task left) left before after s → ¬ R → ¬ K → SomeInput (input_of task left) (EndsSo task limit s)
-ends_so R K U task limit left before after status.Ok h r k =
+ends_so agree R K U task limit left before after status.Ok h r k =
     some_so (input_of task left) (IsMade task limit status.Ok) (EndsSo task limit status.Ok) (ends_well task limit) (h.made tt)
-ends_so R K U task limit left before after (status.Finding f) h r k =
+ends_so agree R K U task limit left before after (status.Finding f) h r k =
     some_so (input_of task left) (IsMade task limit (status.Finding f)) (EndsSo task limit (status.Finding f)) (ends_found task limit f) (h.made tt)
-ends_so R K U task limit left before after status.Usage h r k = absurd (h.no_usage refl)
-ends_so R K U task limit left before after (status.BadScript line) h r k =
+ends_so agree R K U task limit left before after status.Usage h r k = absurd (h.no_usage refl)
+ends_so agree R K U task limit left before after (status.BadScript line) h r k =
     let bad = h.bad_script line refl in
     some_so (input_of task left) (IsBadWithin task line) (EndsSo task limit (status.BadScript line)) (ends_bad task limit line) bad
-ends_so R K U task limit left before after status.ReadFault h r k = absurd (r (h.read_fault refl))
-ends_so R K U task limit left before after status.WriteFault h r k = absurd (k (h.write_fault refl))
-ends_so R K U task limit left before after status.OutOfMemory h r k =
+ends_so agree R K U task limit left before after status.ReadFault h r k = absurd (r (h.read_fault refl))
+ends_so agree R K U task limit left before after status.WriteFault h r k = absurd (k (h.write_fault refl))
+ends_so agree R K U task limit left before after status.OutOfMemory h r k =
     let some = any_input (input_of task left) in
     some_so (input_of task left) (λ i. ⊤) (EndsSo task limit status.OutOfMemory) (λ i x. ends_starved task limit i) some
-ends_so R K U task limit left before after status.TooLarge h r k = ends_too_large U task limit left before after (h.too_large refl)
+ends_so agree R K U task limit left before after status.TooLarge h r k = ends_too_large agree U task limit left before after (h.too_large refl)

@@ -21,6 +21,8 @@ use Rattle.grasp_model_script_doubts.specs.ScriptRuns.{DoubtsSendTooMuch, Resolv
 use Rattle.grasp_model_script_doubts.proofs.OneRun.{doubt_runs_or_stop, doubt_texts_agree}
 use Rattle.grasp_model_script_kept.specs.ScriptRuns.{KeepsReporting, KeepsTooMuch, KeptSendsTooMuch, StopsKeeping}
 use Rattle.grasp_model_script_kept.proofs.OneRun.{kept_runs_or_stop, kept_texts_agree}
+use Rattle.grasp_laws_audit.specs.Laws.{AuditsAgree}
+use Rattle.grasp_model_audit.specs.RecordRuns.{IsStoppedRecordOf}
 use Rattle.grasp_script_doubts.specs.declared.line.DoubtLine.{DoubtLine}
 use Rattle.grasp_script_doubts.proofs.ScriptLaws.{one_script as one_doubt_script}
 use Rattle.grasp_script_kept.specs.declared.line.KeptLine.{KeptLine}
@@ -34,19 +36,22 @@ use Rattle.grasp_wire.proofs.Joins.{divides_alone, divides_more}
 use Rattle.grasp_wire.proofs.ReadingOn.{nothing_waits}
 use Rattle.grasp_replay_main.specs.Laws.{AreLines, IsWholeInput, TasksAreFunctions, WholeInputsEndWell}
 use Rattle.grasp_replay_main.specs.Pack.{CanPack, IsRefused, StopsAt, Packs}
+use Rattle.grasp_replay_main.specs.Record.{Records}
 use Rattle.grasp_replay_main.specs.Ending.{status_of}
 use Rattle.grasp_replay_main.specs.Gen.{Summarizes, Overruns}
 use Rattle.grasp_replay_main.specs.Replay.{Settles, Stops, StopsSettling, IsShortDoubtScript, IsShortKeptScript, IsShortScript}
 use Rattle.grasp_replay_main.specs.Show.{Shows, shown, rest_finding}
-use Rattle.grasp_replay_main.specs.Task.{ShowMakes, PackMakes, ReplayMakes, KeepMakes, ResolveMakes, GenMakes, DrawMakes, Makes, RunsTooFar, IsBadScript}
+use Rattle.grasp_replay_main.specs.Task.{ShowMakes, PackMakes, ReplayMakes, KeepMakes, ResolveMakes, RecordMakes, GenMakes, DrawMakes, Makes, RunsTooFar, IsBadScript}
 use Rattle.grasp_replay_main.specs.Written.{Writes}
 use Rattle.grasp_replay_main.specs.declared.exit.Finding.{Finding}
-use Rattle.grasp_replay_main.specs.declared.exit.Finding.TheVariants.{Cut, Truncated, BadText, TooLong}
+use Rattle.grasp_replay_main.specs.declared.exit.Finding.TheVariants.{Cut, Truncated, BadText, TooLong, BadRecord, NotSent, NotAgent, NotStep}
 use Rattle.grasp_replay_main.specs.declared.exit.Status.{Status}
 use Rattle.grasp_replay_main.specs.declared.exit.Status.TheVariants as status
 use Rattle.grasp_replay_main.specs.declared.task.Task.{Task}
-use Rattle.grasp_replay_main.specs.declared.task.Task.TheVariants.{Show, Pack, Replay, Keep, Resolve, Gen, Draw}
+use Rattle.grasp_replay_main.specs.declared.task.Task.TheVariants.{Show, Pack, Replay, Keep, Resolve, Record, Audit, Gen, Draw}
 use Rattle.grasp_replay_main.specs.declared.unfinished.Unfinished.{Unfinished}
+use Rattle.grasp_replay_main.proofs.Audited.{audit_one, audit_well, never_too_much}
+use Rattle.grasp_replay_main.proofs.OneRecord.{one_record, one_stopped_record, record_or_stop, records_too_much}
 
 -- a stream divides in one way
 
@@ -89,6 +94,10 @@ refused_one limit text n (TooLong l) (BadText m b) x y = absurd (y.1 x.1.message
 refused_one limit text n (TooLong l) (TooLong m) x y = ap TooLong (x.0 ∙ sym y.0)
 refused_one limit text n (Cut fault) g x y = absurd x
 refused_one limit text n (Truncated at) g x y = absurd x
+refused_one limit text n (BadRecord l) g x y = absurd x
+refused_one limit text n (NotSent l) g x y = absurd x
+refused_one limit text n (NotAgent l) g x y = absurd x
+refused_one limit text n (NotStep l) g x y = absurd x
 refused_one limit text n _ _ x y = absurd y
 
 first_one : (a b : List ℕ) (x y z : List (List ℕ)) → z ≡ a ∷ x → z ≡ b ∷ y → a ≡ b
@@ -106,8 +115,7 @@ no_refusal limit n m (BadText l a) can x = x.1 m can.is_line
 no_refusal limit n m (TooLong l) can x =
     let same : x.1.message ≡ m = line_one (line_of m) x.1.message m x.1.is_line can.is_line in
     omega (arith, x.1.long, can.sendable.1, ap (λ (y : Message). length (shortest (item_of y))) same)
-no_refusal limit n m (Cut fault) can x = x
-no_refusal limit n m (Truncated at) can x = x
+no_refusal limit n m _ can x = x
 
 no_stop : (limit k : ℕ) (m : Message) (lines others : List (List ℕ)) (f : Option Finding) → CanPack limit m → lines ≡ line_of m ∷ others → StopsAt limit k lines f → ⊥
 no_stop limit k m lines others None can e x = cc (e, x)
@@ -170,6 +178,11 @@ resolve_end : (input output : List ℕ) (s : Status) → ResolveMakes input outp
 resolve_end input output status.Ok x = inl (refl, x)
 resolve_end input output status.TooLarge x = inr (refl, x)
 resolve_end input output _ x = absurd x
+
+record_end : (input output : List ℕ) (s : Status) → RecordMakes input output s → EndsOrStops (Records input) (IsStoppedRecordOf input) output s
+record_end input output status.Ok x = inl (refl, x)
+record_end input output status.TooLarge x = inr (refl, x)
+record_end input output _ x = absurd x
 
 -- what is written of a drawn script whose run is cut off: nothing
 abbrev NothingOf : ℕ → List ℕ → Type 0
@@ -240,6 +253,13 @@ resolve_one input a b s t x y =
     (λ ends stops. doubt_runs_or_stop.texts input b ends.resolves (resolves_too_much input a stops))
     (resolve_end input a s x) (resolve_end input b t y)
 
+record_one : (input a b : List ℕ) (s t : Status) → RecordMakes input a s → RecordMakes input b t → (a ≡ b) × (s ≡ t)
+record_one input a b s t x y =
+    ends_one (Records input) (IsStoppedRecordOf input) a b s t (λ p q. one_record input a b p.recorded q.recorded) (one_stopped_record input a b)
+    (λ ends stops. record_or_stop input a ends.recorded (records_too_much input b stops))
+    (λ ends stops. record_or_stop input b ends.recorded (records_too_much input a stops))
+    (record_end input a s x) (record_end input b t y)
+
 gen_one : TextsAgree → RunsOrStops → (number : ℕ) (a b : List ℕ) (s t : Status) → GenMakes number a s → GenMakes number b t → (a ≡ b) × (s ≡ t)
 gen_one k j number a b s t x y =
     ends_one (Summarizes number) (NothingOf number) a b s t (k.summaries (script_of number) number a b) (λ p q. p.0 ∙ sym q.0) (λ ends stops. j.summaries (script_of number) number a ends stops.1)
@@ -250,14 +270,16 @@ draw_one number a b status.Ok status.Ok x y = (x ∙ sym y, refl)
 draw_one number a b status.Ok _ x y = absurd y
 draw_one number a b _ t x y = absurd x
 
-pub tasks_are_functions : TextsAgree → RunsOrStops → TasksAreFunctions
-tasks_are_functions k j Show limit input a b s t some bytes x y = show_one limit input a b s t bytes x y
-tasks_are_functions k j Pack limit input a b s t some bytes x y = pack_one limit input a b s t x y
-tasks_are_functions k j Replay limit input a b s t some bytes x y = replay_one k j input a b s t x y
-tasks_are_functions k j Keep limit input a b s t some bytes x y = keep_one input a b s t x y
-tasks_are_functions k j Resolve limit input a b s t some bytes x y = resolve_one input a b s t x y
-tasks_are_functions k j (Gen number) limit input a b s t some bytes x y = gen_one k j number a b s t x y
-tasks_are_functions k j (Draw number) limit input a b s t some bytes x y = draw_one number a b s t x y
+pub tasks_are_functions : TextsAgree → RunsOrStops → AuditsAgree → TasksAreFunctions
+tasks_are_functions k j agree Show limit input a b s t some bytes x y = show_one limit input a b s t bytes x y
+tasks_are_functions k j agree Pack limit input a b s t some bytes x y = pack_one limit input a b s t x y
+tasks_are_functions k j agree Replay limit input a b s t some bytes x y = replay_one k j input a b s t x y
+tasks_are_functions k j agree Keep limit input a b s t some bytes x y = keep_one input a b s t x y
+tasks_are_functions k j agree Resolve limit input a b s t some bytes x y = resolve_one input a b s t x y
+tasks_are_functions k j agree Record limit input a b s t some bytes x y = record_one input a b s t x y
+tasks_are_functions k j agree Audit limit input a b s t some bytes x y = audit_one agree input a b s t x y
+tasks_are_functions k j agree (Gen number) limit input a b s t some bytes x y = gen_one k j number a b s t x y
+tasks_are_functions k j agree (Draw number) limit input a b s t some bytes x y = draw_one number a b s t x y
 
 -- the run of a short script doesn't send too much
 short_runs : (input : List ℕ) (plan : WorldPlan) (lines : List Line) → IsShortScript input plan lines → ¬ TextSendsTooMuch input
@@ -278,14 +300,16 @@ short_resolves input plan lines short x =
     let at_plan : DoubtsSendTooMuch plan x.lines = subst (λ (p : WorldPlan). DoubtsSendTooMuch p x.lines) one.0 x.stops in
     short.fits (subst (λ (ls : List DoubtLine). DoubtsSendTooMuch plan ls) one.1 at_plan)
 
-pub whole_runs : (task : Task) (limit : ℕ) (input : List ℕ) → RunsTooFar task input → ¬ IsWholeInput task limit input
-whole_runs Show limit input far whole = far
-whole_runs Pack limit input far whole = far
-whole_runs Replay limit input far whole = short_runs input whole.0 whole.1 whole.2 far
-whole_runs Keep limit input far whole = short_keeps input whole.0 whole.1 whole.2 far
-whole_runs Resolve limit input far whole = short_resolves input whole.0 whole.1 whole.2 far
-whole_runs (Gen number) limit input far whole = whole far
-whole_runs (Draw number) limit input far whole = far
+pub whole_runs : AuditsAgree → (task : Task) (limit : ℕ) (input : List ℕ) → RunsTooFar task input → ¬ IsWholeInput task limit input
+whole_runs agree Show limit input far whole = far
+whole_runs agree Pack limit input far whole = far
+whole_runs agree Replay limit input far whole = short_runs input whole.0 whole.1 whole.2 far
+whole_runs agree Keep limit input far whole = short_keeps input whole.0 whole.1 whole.2 far
+whole_runs agree Resolve limit input far whole = short_resolves input whole.0 whole.1 whole.2 far
+whole_runs agree Record limit input far whole = short_runs input whole.0 whole.1 whole.2 far
+whole_runs agree Audit limit input far whole = never_too_much agree input whole far
+whole_runs agree (Gen number) limit input far whole = whole far
+whole_runs agree (Draw number) limit input far whole = far
 
 -- what is made with this status stops no whole run
 pub stops_too_far : (task : Task) (limit : ℕ) (input output : List ℕ) → Makes task limit input output status.TooLarge → RunsTooFar task input
@@ -294,6 +318,8 @@ stops_too_far Pack limit input output x = absurd x
 stops_too_far Replay limit input output x = too_much input output x
 stops_too_far Keep limit input output x = keeps_too_much input output x
 stops_too_far Resolve limit input output x = resolves_too_much input output x
+stops_too_far Record limit input output x = records_too_much input output x
+stops_too_far Audit limit input output x = x.1
 stops_too_far (Gen number) limit input output x = x.1
 stops_too_far (Draw number) limit input output x = x
 
@@ -305,21 +331,25 @@ draw_ends : (number : ℕ) (output : List ℕ) (s : Status) → DrawMakes number
 draw_ends number output status.Ok x = refl
 draw_ends number output _ x = absurd x
 
-pub whole_inputs_end_well : WholeInputsEndWell
-whole_inputs_end_well Show limit input output ended some bytes whole x =
+pub whole_inputs_end_well : AuditsAgree → WholeInputsEndWell
+whole_inputs_end_well agree Show limit input output ended some bytes whole x =
     (show_one limit input output (shown whole.0) ended status.Ok bytes x (shows_whole limit whole.0 input some whole.1)).1
-whole_inputs_end_well Pack limit input output ended some bytes whole x =
+whole_inputs_end_well agree Pack limit input output ended some bytes whole x =
     (pack_one limit input output (encoded whole.0) ended status.Ok x (packs_whole limit whole.0 input whole.1)).1
-whole_inputs_end_well Replay limit input output ended some bytes whole x =
-    well_unless (Replays input) (Stops input) output ended (replay_end input output ended x) (λ stops. whole_runs Replay limit input (too_much input output stops) whole)
-whole_inputs_end_well Keep limit input output ended some bytes whole x =
-    well_unless (KeepsReporting input) (StopsKeeping input) output ended (keep_end input output ended x) (λ stops. whole_runs Keep limit input (keeps_too_much input output stops) whole)
-whole_inputs_end_well Resolve limit input output ended some bytes whole x =
+whole_inputs_end_well agree Replay limit input output ended some bytes whole x =
+    well_unless (Replays input) (Stops input) output ended (replay_end input output ended x) (λ stops. whole_runs agree Replay limit input (too_much input output stops) whole)
+whole_inputs_end_well agree Keep limit input output ended some bytes whole x =
+    well_unless (KeepsReporting input) (StopsKeeping input) output ended (keep_end input output ended x) (λ stops. whole_runs agree Keep limit input (keeps_too_much input output stops) whole)
+whole_inputs_end_well agree Resolve limit input output ended some bytes whole x =
     well_unless (Settles input) (StopsSettling input) output ended (resolve_end input output ended x)
-    (λ stops. whole_runs Resolve limit input (resolves_too_much input output stops) whole)
-whole_inputs_end_well (Gen number) limit input output ended some bytes whole x =
+    (λ stops. whole_runs agree Resolve limit input (resolves_too_much input output stops) whole)
+whole_inputs_end_well agree Record limit input output ended some bytes whole x =
+    well_unless (Records input) (IsStoppedRecordOf input) output ended (record_end input output ended x)
+    (λ stops. whole_runs agree Record limit input (records_too_much input output stops) whole)
+whole_inputs_end_well agree Audit limit input output ended some bytes whole x = audit_well agree input output ended whole x
+whole_inputs_end_well agree (Gen number) limit input output ended some bytes whole x =
     well_unless (Summarizes number) (NothingOf number) output ended (gen_end number output ended x) (λ stops. whole stops.1)
-whole_inputs_end_well (Draw number) limit input output ended some bytes whole x = draw_ends number output ended x
+whole_inputs_end_well agree (Draw number) limit input output ended some bytes whole x = draw_ends number output ended x
 
 -- no finding of a task is want of memory
 
@@ -335,20 +365,21 @@ pack_made limit input output (Some f) x = x
 
 -- what is made of a whole input ends well
 
-pub made_whole : (task named : Task) (limit : ℕ) (input output : List ℕ) (s : Status) → 0 < limit → AllBytes input → task ≡ named → Makes named limit input output s
+pub made_whole : AuditsAgree → (task named : Task) (limit : ℕ) (input output : List ℕ) (s : Status) → 0 < limit → AllBytes input → task ≡ named → Makes named limit input output s
     → IsWholeInput task limit input → s ≡ status.Ok
-made_whole task named limit input output s some bytes is makes whole = whole_inputs_end_well named limit input output s some bytes (subst (λ (t : Task). IsWholeInput t limit input) is whole) makes
+made_whole agree task named limit input output s some bytes is makes whole = whole_inputs_end_well agree named limit input output s some bytes (subst (λ (t : Task). IsWholeInput t limit input) is whole) makes
 
 -- what is made of a whole input ends well, where all of it was written
-pub written_whole : (P : List ℕ → Status → Type 0) (task named : Task) (limit : ℕ) (input : List ℕ) (before after : Option (List ℕ)) (r : Result Status Unfinished) → 0 < limit → AllBytes input
+pub written_whole : AuditsAgree → (P : List ℕ → Status → Type 0) (task named : Task) (limit : ℕ) (input : List ℕ) (before after : Option (List ℕ)) (r : Result Status Unfinished) → 0 < limit → AllBytes input
     → task ≡ named → ((output : List ℕ) (s : Status) → P output s → Makes named limit input output s) → IfOk r (λ s. Writes P before after s)
     → IfOk r (λ s. IsWholeInput task limit input → s ≡ status.Ok)
-written_whole P task named limit input before after (Ok s) some bytes is makes w = made_whole task named limit input w.output s some bytes is (makes w.output s w.makes)
-written_whole P task named limit input before after (Err e) some bytes is makes w = tt
+written_whole agree P task named limit input before after (Ok s) some bytes is makes w = made_whole agree task named limit input w.output s some bytes is (makes w.output s w.makes)
+written_whole agree P task named limit input before after (Err e) some bytes is makes w = tt
 
 -- no line of a whole input is bad
 pub no_bad_input : (task : Task) (limit : ℕ) (input : List ℕ) (line : ℕ) → IsBadScript task input line → ¬ IsWholeInput task limit input
 no_bad_input Replay limit input line bad whole = no_bad_line input whole.0 whole.1 line whole.2.script bad.0
 no_bad_input Keep limit input line bad whole = bad.1 whole.0 whole.1 whole.2.script
 no_bad_input Resolve limit input line bad whole = bad.1 whole.0 whole.1 whole.2.script
+no_bad_input Record limit input line bad whole = no_bad_line input whole.0 whole.1 line whole.2.script bad.0
 no_bad_input _ limit input line bad whole = bad

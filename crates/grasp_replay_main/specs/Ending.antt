@@ -36,12 +36,16 @@ finding_line (finding.Cut fault) = cut_line fault
 finding_line (finding.Truncated at) = numbered (codes "truncated at") at
 finding_line (finding.BadText line at) = numbered (numbered (codes "bad text in line") line ++ codes " at") at
 finding_line (finding.TooLong line) = numbered (codes "too long in line") line
+finding_line (finding.BadRecord line) = numbered (codes "not a record in line") line
+finding_line (finding.NotSent line) = numbered (codes "not sent in line") line
+finding_line (finding.NotAgent line) = numbered (codes "not the agent's call in line") line
+finding_line (finding.NotStep line) = numbered (codes "not the step in line") line
 
 -- the line without a line end; nothing where all went well
 abbrev pub fault_line_of : Status → List ℕ
 fault_line_of Ok = []
 fault_line_of (status.Finding f) = finding_line f
-fault_line_of Usage = codes "usage: grasp_replay show|pack|replay|gen N|draw N|resolve|keep"
+fault_line_of Usage = codes "usage: grasp_replay show|pack|replay|gen N|draw N|resolve|keep|record|audit"
 fault_line_of (BadScript line) = numbered (codes "bad script in line") line
 fault_line_of ReadFault = codes "read fault"
 fault_line_of WriteFault = codes "write fault"

@@ -9,6 +9,7 @@ use Rattle.grasp_script.specs.declared.line.Line.{Line}
 use Rattle.grasp_script_doubts.specs.declared.line.DoubtLine.{DoubtLine}
 use Rattle.grasp_script_kept.specs.declared.line.KeptLine.{KeptLine}
 use Rattle.grasp_wire.specs.Wire.{AreWireForms}
+use Rattle.grasp_model_audit.specs.Audits.{IsAudited}
 use Rattle.grasp_replay_main.specs.Gen.{Overruns}
 use Rattle.grasp_replay_main.specs.Pack.{CanPack}
 use Rattle.grasp_replay_main.specs.Replay.{IsShortDoubtScript, IsShortKeptScript, IsShortScript}
@@ -16,21 +17,24 @@ use Rattle.grasp_replay_main.specs.Task.{Makes, IsBadScript, IsOkOrMemory, IsOut
 use Rattle.grasp_replay_main.specs.declared.exit.Status.{Status}
 use Rattle.grasp_replay_main.specs.declared.exit.Status.TheVariants as status
 use Rattle.grasp_replay_main.specs.declared.task.Task.{Task}
-use Rattle.grasp_replay_main.specs.declared.task.Task.TheVariants.{Show, Pack, Replay, Keep, Resolve, Gen, Draw}
+use Rattle.grasp_replay_main.specs.declared.task.Task.TheVariants.{Show, Pack, Replay, Keep, Resolve, Record, Audit, Gen, Draw}
 
 -- the input is lines of messages that can be packed
 pub record AreLines (limit : ℕ) (input : List ℕ) (messages : List Message) : Type 0 where
   pub lines : text_lines input ≡ map line_of messages
   pub can : All (CanPack limit) messages
 
--- the input is whole: wire forms of messages for `show`, lines of messages that fit for `pack`, a script for `replay`, `keep` and `resolve`
--- whose run doesn't send too much; and so is every input of `gen` where the run of the script that is drawn doesn't, and of `draw`
+-- the input is whole: wire forms of messages for `show`, lines of messages that fit for `pack`, a script for `replay`, `keep`, `resolve` and `record`
+-- whose run doesn't send too much, the record of a run for `audit`; and so is every input of `gen` where the run of the script that is drawn doesn't
+-- send too much, and of `draw`
 abbrev pub IsWholeInput : Task → ℕ → List ℕ → Type 0
 IsWholeInput Show limit input = (messages : List Message) × AreWireForms messages input limit
 IsWholeInput Pack limit input = (messages : List Message) × AreLines limit input messages
 IsWholeInput Replay limit input = (plan : WorldPlan) × (lines : List Line) × IsShortScript input plan lines
 IsWholeInput Keep limit input = (plan : WorldPlan) × (lines : List KeptLine) × IsShortKeptScript input plan lines
 IsWholeInput Resolve limit input = (plan : WorldPlan) × (lines : List DoubtLine) × IsShortDoubtScript input plan lines
+IsWholeInput Record limit input = (plan : WorldPlan) × (lines : List Line) × IsShortScript input plan lines
+IsWholeInput Audit limit input = IsAudited input
 IsWholeInput (Gen number) limit input = ¬ Overruns number
 IsWholeInput (Draw number) limit input = ⊤
 

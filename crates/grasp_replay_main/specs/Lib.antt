@@ -1,3 +1,4 @@
+pub mod Audit
 pub mod Ending
 pub mod Finish
 pub mod Gen
@@ -5,6 +6,7 @@ pub mod Laws
 pub mod Limits
 pub mod Made
 pub mod Pack
+pub mod Record
 pub mod Replay
 pub mod Show
 pub mod Step

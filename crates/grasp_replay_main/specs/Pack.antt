@@ -8,7 +8,7 @@ use Rattle.grasp_text.specs.Line.{line_of, IsLineOf, IsNoLine}
 use Rattle.grasp_text.specs.Place.{IsPlace}
 use Rattle.grasp_wire.specs.Laws.{encoded, IsSendable}
 use Rattle.grasp_replay_main.specs.declared.exit.Finding.{Finding}
-use Rattle.grasp_replay_main.specs.declared.exit.Finding.TheVariants.{Cut, Truncated, BadText, TooLong}
+use Rattle.grasp_replay_main.specs.declared.exit.Finding.TheVariants.{BadText, TooLong}
 
 -- the line is that of a message whose shortest encoding passes the limit
 pub record IsTooLongLine (limit : ℕ) (text : List ℕ) : Type 0 where
@@ -21,8 +21,7 @@ pub record IsTooLongLine (limit : ℕ) (text : List ℕ) : Type 0 where
 abbrev pub IsRefused : ℕ → List ℕ → ℕ → Finding → Type 0
 IsRefused limit text number (BadText line at) = (line ≡ number) × IsNoLine text × IsPlace text at
 IsRefused limit text number (TooLong line) = (line ≡ number) × IsTooLongLine limit text
-IsRefused limit text number (Cut fault) = ⊥
-IsRefused limit text number (Truncated at) = ⊥
+IsRefused limit text number _ = ⊥
 
 -- the next line, after so many, is refused
 pub record Refuses (limit before : ℕ) (lines : List (List ℕ)) (finding : Finding) : Type 0 where

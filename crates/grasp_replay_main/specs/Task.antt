@@ -4,6 +4,7 @@ use Rattle.std.specs.Io.KnownBytes.{Appends}
 use Rattle.grasp_io.specs.Known.{AppendsFront}
 use Rattle.grasp_script.specs.Scripts.{text_lines, IsBadLine, IsNoScript}
 use Rattle.grasp_script_draws.specs.Generator.{script_of}
+use Rattle.grasp_model_audit.specs.RecordRuns.{BeginsRecordOf, IsStoppedRecordOf}
 use Rattle.grasp_model_script.specs.ScriptRuns.{Replays, BeginsToReplay}
 use Rattle.grasp_model_script.specs.Stops.{TextSendsTooMuch}
 use Rattle.grasp_model_script_doubts.specs.ScriptRuns.{BeginsToResolve, ResolvesTooMuch}
@@ -11,8 +12,10 @@ use Rattle.grasp_model_script_kept.specs.ScriptRuns.{BeginsToKeep, KeepsReportin
 use Rattle.grasp_script_doubts.specs.Scripts.{IsBadDoubtLine, IsNoDoubtScript}
 use Rattle.grasp_script_kept.specs.Scripts.{IsBadKeptLine, IsNoKeptScript}
 use Rattle.grasp_text.specs.Reading.{number_of}
+use Rattle.grasp_replay_main.specs.Audit.{Accepts, Blames, IsTooMuch}
 use Rattle.grasp_replay_main.specs.Gen.{Summarizes, Overruns}
 use Rattle.grasp_replay_main.specs.Pack.{Packs}
+use Rattle.grasp_replay_main.specs.Record.{Records}
 use Rattle.grasp_replay_main.specs.Replay.{Settles, Stops, StopsSettling}
 use Rattle.grasp_replay_main.specs.Show.{Shows}
 use Rattle.grasp_wire.specs.declared.fault.CutFault.TheVariants as cut
@@ -22,7 +25,7 @@ use Rattle.grasp_replay_main.specs.declared.exit.Status.{Status}
 use Rattle.grasp_replay_main.specs.declared.exit.Status.TheVariants as status
 use Rattle.grasp_replay_main.specs.Limits.{input_limit, line_limit}
 use Rattle.grasp_replay_main.specs.declared.task.Task.{Task}
-use Rattle.grasp_replay_main.specs.declared.task.Task.TheVariants.{Show, Pack, Replay, Keep, Resolve, Gen, Draw}
+use Rattle.grasp_replay_main.specs.declared.task.Task.TheVariants.{Show, Pack, Replay, Keep, Resolve, Record, Audit, Gen, Draw}
 use Rattle.grasp_replay_main.specs.declared.unfinished.Unfinished.{Unfinished}
 use Rattle.grasp_replay_main.specs.declared.unfinished.Unfinished.TheVariants as unfinished
 
@@ -30,7 +33,8 @@ use Rattle.grasp_replay_main.specs.declared.unfinished.Unfinished.TheVariants as
 abbrev pub task_named : List ℕ → Option Task
 task_named word =
     if bytes_eq word (codes "show") then Some Show else if bytes_eq word (codes "pack") then Some Pack else if bytes_eq word (codes "replay") then Some Replay
-    else if bytes_eq word (codes "keep") then Some Keep else if bytes_eq word (codes "resolve") then Some Resolve else None
+    else if bytes_eq word (codes "keep") then Some Keep else if bytes_eq word (codes "resolve") then Some Resolve
+    else if bytes_eq word (codes "record") then Some Record else if bytes_eq word (codes "audit") then Some Audit else None
 
 -- what a word and a number ask for; the number is decimal, below 2 ^ 64
 abbrev pub task_numbered : List ℕ → List ℕ → Option Task
@@ -52,6 +56,8 @@ ReadsInput Pack = ⊤
 ReadsInput Replay = ⊤
 ReadsInput Keep = ⊤
 ReadsInput Resolve = ⊤
+ReadsInput Record = ⊤
+ReadsInput Audit = ⊤
 ReadsInput (Gen number) = ⊥
 ReadsInput (Draw number) = ⊥
 
@@ -62,6 +68,8 @@ input_of Pack left = left
 input_of Replay left = left
 input_of Keep left = left
 input_of Resolve left = left
+input_of Record left = left
+input_of Audit left = left
 input_of (Gen number) left = Some []
 input_of (Draw number) left = Some []
 
@@ -114,6 +122,22 @@ KeepMakes input output ended = IsUpToStop (KeepsReporting input output) (StopsKe
 abbrev pub ResolveMakes : List ℕ → List ℕ → Status → Type 0
 ResolveMakes input output ended = IsUpToStop (Settles input output) (StopsSettling input output) ended
 
+-- what `record` makes of an input: the record of its whole run, or of the run up to the line that sends too much
+abbrev pub RecordMakes : List ℕ → List ℕ → Status → Type 0
+RecordMakes input output ended = IsUpToStop (Records input output) (IsStoppedRecordOf input output) ended
+
+-- what `audit` makes of an input: a line where it is the record of a run, and else nothing: then the first line that fails is told, or that line
+-- sends too much
+abbrev pub AuditMakes : List ℕ → List ℕ → Status → Type 0
+AuditMakes input output status.Ok = Accepts input output
+AuditMakes input output (status.Finding finding) = (output ≡ []) × Blames input finding
+AuditMakes input output status.TooLarge = (output ≡ []) × IsTooMuch input
+AuditMakes input output status.Usage = ⊥
+AuditMakes input output (status.BadScript line) = ⊥
+AuditMakes input output status.ReadFault = ⊥
+AuditMakes input output status.WriteFault = ⊥
+AuditMakes input output status.OutOfMemory = ⊥
+
 -- what `gen` makes of a number: the summary of the whole run, or nothing where the run sends too much
 abbrev pub GenMakes : ℕ → List ℕ → Status → Type 0
 GenMakes number output ended = IsUpToStop (Summarizes number output) ((output ≡ []) × Overruns number) ended
@@ -129,17 +153,21 @@ Makes Pack limit input output ended = PackMakes limit input output ended
 Makes Replay limit input output ended = ReplayMakes input output ended
 Makes Keep limit input output ended = KeepMakes input output ended
 Makes Resolve limit input output ended = ResolveMakes input output ended
+Makes Record limit input output ended = RecordMakes input output ended
+Makes Audit limit input output ended = AuditMakes input output ended
 Makes (Gen number) limit input output ended = GenMakes number output ended
 Makes (Draw number) limit input output ended = DrawMakes number output ended
 
 -- where the task is cut off, a beginning of this may have been written: of what it makes of the input, or of what the run of a
--- script reports as far as it goes
+-- script reports, or its record has, as far as it goes
 abbrev pub MayBegin : Task → ℕ → List ℕ → List ℕ → Type 0
 MayBegin Show limit input output = (ended : Status) × ShowMakes limit input output ended
 MayBegin Pack limit input output = (ended : Status) × PackMakes limit input output ended
 MayBegin Replay limit input output = BeginsToReplay input output
 MayBegin Keep limit input output = BeginsToKeep input output
 MayBegin Resolve limit input output = BeginsToResolve input output
+MayBegin Record limit input output = BeginsRecordOf input output
+MayBegin Audit limit input output = Accepts input output
 MayBegin (Gen number) limit input output = Summarizes number output
 MayBegin (Draw number) limit input output = output ≡ script_of number
 
@@ -150,6 +178,8 @@ HasTooManyLines Pack input = ⊥
 HasTooManyLines Replay input = line_limit < length (text_lines input)
 HasTooManyLines Keep input = line_limit < length (text_lines input)
 HasTooManyLines Resolve input = line_limit < length (text_lines input)
+HasTooManyLines Record input = line_limit < length (text_lines input)
+HasTooManyLines Audit input = ⊥
 HasTooManyLines (Gen number) input = ⊥
 HasTooManyLines (Draw number) input = ⊥
 
@@ -160,6 +190,8 @@ HasTooManyBytes Pack input = input_limit < length input
 HasTooManyBytes Replay input = input_limit < length input
 HasTooManyBytes Keep input = input_limit < length input
 HasTooManyBytes Resolve input = input_limit < length input
+HasTooManyBytes Record input = input_limit < length input
+HasTooManyBytes Audit input = input_limit < length input
 HasTooManyBytes (Gen number) input = ⊥
 HasTooManyBytes (Draw number) input = ⊥
 
@@ -167,13 +199,15 @@ HasTooManyBytes (Draw number) input = ⊥
 abbrev pub IsTooLarge : Task → List ℕ → Type 0
 IsTooLarge task input = HasTooManyBytes task input ⊎ HasTooManyLines task input
 
--- Inside: a script is run that sends more than may be sent: the input, or the one that is drawn
+-- Inside: a script is run that sends more than may be sent: the input, or the one that is drawn; or the input is a record that does so
 abbrev pub RunsTooFar : Task → List ℕ → Type 0
 RunsTooFar Show input = ⊥
 RunsTooFar Pack input = ⊥
 RunsTooFar Replay input = TextSendsTooMuch input
 RunsTooFar Keep input = KeepsTooMuch input
 RunsTooFar Resolve input = ResolvesTooMuch input
+RunsTooFar Record input = TextSendsTooMuch input
+RunsTooFar Audit input = IsTooMuch input
 RunsTooFar (Gen number) input = Overruns number
 RunsTooFar (Draw number) input = ⊥
 
@@ -184,6 +218,8 @@ IsBadScript Pack input line = ⊥
 IsBadScript Replay input line = IsBadLine input line × IsNoScript input
 IsBadScript Keep input line = IsBadKeptLine input line × IsNoKeptScript input
 IsBadScript Resolve input line = IsBadDoubtLine input line × IsNoDoubtScript input
+IsBadScript Record input line = IsBadLine input line × IsNoScript input
+IsBadScript Audit input line = ⊥
 IsBadScript (Gen number) input line = ⊥
 IsBadScript (Draw number) input line = ⊥
 
@@ -226,6 +262,10 @@ IsOfInput (status.Finding (finding.Cut fault)) = ⊤
 IsOfInput (status.Finding (finding.Truncated at)) = ⊤
 IsOfInput (status.Finding (finding.BadText line at)) = ⊤
 IsOfInput (status.Finding (finding.TooLong line)) = ⊤
+IsOfInput (status.Finding (finding.BadRecord line)) = ⊤
+IsOfInput (status.Finding (finding.NotSent line)) = ⊤
+IsOfInput (status.Finding (finding.NotAgent line)) = ⊤
+IsOfInput (status.Finding (finding.NotStep line)) = ⊤
 IsOfInput status.Ok = ⊤
 IsOfInput status.Usage = ⊤
 IsOfInput (status.BadScript line) = ⊤

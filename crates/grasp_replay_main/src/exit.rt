@@ -18,6 +18,14 @@ pub enum Finding {
     BadText { line: u64, at: u64 },
     /// The message of this line is longer than 2048 bytes.
     TooLong { line: u64 },
+    /// This line is none of a record, or it tells a reading of its node's clock that is below an earlier one.
+    BadRecord { line: u64 },
+    /// What this line of a record says came from elsewhere wasn't sent there, or isn't what comes there next.
+    NotSent { line: u64 },
+    /// The node's own agent makes another call next than this line of a record says.
+    NotAgent { line: u64 },
+    /// The node, or its own agent, answers otherwise than this line of a record says.
+    NotStep { line: u64 },
 }
 
 /// How a call of the program ended.
@@ -25,7 +33,7 @@ pub enum Finding {
 pub enum Status {
     /// All was read and written.
     Ok,
-    /// The input is wrong at one place. All that comes before it was written.
+    /// The input is wrong at one place. All that comes before it was written, but nothing of a record.
     Finding(Finding),
     /// The words are no call of the program.
     Usage,
@@ -39,7 +47,8 @@ pub enum Status {
     /// There was no memory for the call.
     OutOfMemory,
     /// The input has more than 16,777,216 bytes, or it is to be run as a script and has more than 200,000 lines: then nothing
-    /// was written. Or a script that was run sends more than may be sent: then what it reports before that was written.
+    /// was written. Or a script that was run sends more than may be sent: then what it reports before that was written. Or a record
+    /// does so: then nothing was written.
     TooLarge,
 }
 
@@ -70,7 +79,7 @@ pub fn fault_line(alloc: Global, status: &Status) -> Result<Chars, OutOfMemory>
         Status::Finding(finding) => finding_line(alloc, finding),
         Status::Usage => Chars::of(
             alloc,
-            "usage: grasp_replay show|pack|replay|gen N|draw N|resolve|keep",
+            "usage: grasp_replay show|pack|replay|gen N|draw N|resolve|keep|record|audit",
         ),
         Status::BadScript { line } => numbered(alloc, "bad script in line", *line),
         Status::ReadFault => Chars::of(alloc, "read fault"),
@@ -94,6 +103,10 @@ fn finding_line(alloc: Global, finding: &Finding) -> Result<Chars, OutOfMemory>
             Chars::of(alloc, text.as_str())
         }
         Finding::TooLong { line } => numbered(alloc, "too long in line", line),
+        Finding::BadRecord { line } => numbered(alloc, "not a record in line", line),
+        Finding::NotSent { line } => numbered(alloc, "not sent in line", line),
+        Finding::NotAgent { line } => numbered(alloc, "not the agent's call in line", line),
+        Finding::NotStep { line } => numbered(alloc, "not the step in line", line),
     }
 }
 

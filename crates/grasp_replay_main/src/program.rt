@@ -10,16 +10,19 @@ ghost use Rattle.grasp_runner.specs.Written as ran;
 ghost use Rattle.grasp_replay_main.specs.Written.{Writes};
 ghost use Rattle.grasp_replay_main.specs.declared.task.Task.{Task};
 
+use crate::audit::audit;
 use crate::drawn::{draw, generate};
 use crate::exit::Status;
 use crate::keep::keep;
 use crate::pack::pack;
+use crate::record::record;
 use crate::replay::replay;
 use crate::resolve::resolve;
 use crate::show::show;
 use crate::task::{Task, task_of};
 use crate::unfinished::Unfinished;
 use grasp_io::{ReadError, Sink, Source, read_all};
+use grasp_laws_audit::audits_agree;
 use std::alloc::Global;
 
 /// The most bytes that the input may have.
@@ -35,11 +38,14 @@ const MESSAGE_LIMIT: u32 = 2048;
 /// finding, and all that comes before that place was written. `replay` reads a script of a network, runs it, and writes
 /// the report of each of its lines while it goes. Where the input is no script, the status is `BadScript`, and nothing was
 /// written. `keep` does so with a script of a network whose nodes keep their pools on disks, and may crash, and `resolve`
-/// with one of a network whose nodes ask each other about doubtful prefixes. `gen` reads nothing: it runs the script that is
-/// drawn from its number, and then writes one line that tells what the run came to; `draw` writes that script. Where a run
-/// sends more than may be sent, the status is `TooLarge`, and of `replay`, `keep` and `resolve` all reports before that were
-/// written. `OutOfMemory` may come wherever memory is wanted: a beginning of the output may be written then, but not of that
-/// of `gen`.
+/// with one of a network whose nodes ask each other about doubtful prefixes. `record` does so with a script as `replay`, and
+/// writes the record of its run in place of reports. `audit` reads such a record and writes one line that tells how many nodes and
+/// lines it has, where it is the record of a run, all of whose networks are safe. Else the status is the finding of the first line that
+/// fails, and nothing was written. `gen` reads nothing: it runs the script that is drawn from its number, and then writes one line that
+/// tells what the run came to; `draw` writes that script. Where a run sends more than may be sent, the status is `TooLarge`, and of
+/// `replay`, `keep` and `resolve` all reports before that were written, of `record` the record of the lines before, and of `audit` and
+/// `gen` nothing. `OutOfMemory` may come wherever memory is wanted: a beginning of the output may be written then, but not of that of
+/// `audit` and `gen`.
 pub fn replay_main<S: Source, K: Sink>(
     alloc: Global,
     words: &[String],
@@ -53,8 +59,8 @@ pub fn replay_main<S: Source, K: Sink>(
     ensures unread_without_input { (task : Task) → task_of (map string_bytes words.now) ≡ Some task → ¬ ReadsInput task → source.new ≡ source.old }
     ensures unfailed_without_input { (task : Task) → task_of (map string_bytes words.now) ≡ Some task → ¬ ReadsInput task → result ≢ Status.ReadFault }
 
-    // Then the input is read to its end, at most 16,777,216 bytes. Then its lines are counted: for `replay`, `keep` and `resolve`
-    // they are at most 200,000.
+    // Then the input is read to its end, at most 16,777,216 bytes. Then its lines are counted: for `replay`, `keep`, `resolve` and
+    // `record` they are at most 200,000.
     ensures read_fault { result ≡ Status.ReadFault → Rose (S.faults source.old) (S.faults source.new) }
     ensures small { (task : Task) → task_of (map string_bytes words.now) ≡ Some task → IsAfterInput result
         → SomeInput (input_of task (S.left source.old)) (λ input. ¬ IsTooLarge task input) }
@@ -89,6 +95,7 @@ pub fn replay_main<S: Source, K: Sink>(
         → ¬ Rose (S.faults source.old) (S.faults source.new) → ¬ Rose (K.faults sink.old) (K.faults sink.new)
         → SomeInput (input_of task (S.left source.old)) (EndsSo task message_limit result) }
 {
+    audits_agree();
     match task_of(words) {
         Some(task) => run(alloc, task, source, sink),
         None => Status::Usage,
@@ -127,6 +134,8 @@ fn run<S: Source, K: Sink>(alloc: Global, task: Task, source: &mut S, sink: &mut
         Task::Replay => read_and_write(alloc, task, source, sink),
         Task::Keep => read_and_write(alloc, task, source, sink),
         Task::Resolve => read_and_write(alloc, task, source, sink),
+        Task::Record => read_and_write(alloc, task, source, sink),
+        Task::Audit => read_and_write(alloc, task, source, sink),
     }
 }
 
@@ -197,12 +206,15 @@ fn write_made<K: Sink>(
     ensures unfinished { IfErr result (λ unfinished. IsUnfinished task input.now unfinished) }
     ensures fault { IsErrOf result Unfinished.WriteFault → Rose (K.faults sink.old) (K.faults sink.new) }
 {
+    audits_agree();
     match task {
         Task::Show => show(alloc, input, MESSAGE_LIMIT, sink),
         Task::Pack => pack(alloc, input, MESSAGE_LIMIT, sink),
         Task::Replay => replay(alloc, input, sink),
         Task::Keep => keep(alloc, input, sink),
         Task::Resolve => resolve(alloc, input, sink),
+        Task::Record => record(alloc, input, sink),
+        Task::Audit => audit(alloc, input, sink),
         Task::Gen { .. } | Task::Draw { .. } => unreachable!(),
     }
 }

@@ -44,7 +44,7 @@ pub fn replay<K: Sink>(alloc: Global, input: &[u8], sink: &mut K) -> Result<Stat
 }
 
 /// The script that the input is.
-fn read_script(alloc: Global, input: &[u8]) -> Result<Script, Unfinished>
+pub(crate) fn read_script(alloc: Global, input: &[u8]) -> Result<Script, Unfinished>
     ensures found { IfOk result (λ script. IsScript input.now script.plan script.lines) }
     ensures few { IfOk result (λ _. ¬ HasTooManyLines Replay input.now) }
     ensures unfinished { IfErr result (λ unfinished. IsUnfinished Replay input.now unfinished) }

@@ -17,6 +17,10 @@ pub enum Task {
     Keep,
     /// Run a script in a network whose nodes ask each other about doubtful prefixes, and write what each of its lines comes to.
     Resolve,
+    /// Run a script, and write the record of its run.
+    Record,
+    /// Say whether a record is that of a run.
+    Audit,
     /// Run the script that is drawn from the number, and write what it came to.
     Gen { number: u64 },
     /// Write the script that is drawn from the number.
@@ -47,6 +51,10 @@ fn task_named(word: &str) -> Option<Task>
         Some(Task::Keep)
     } else if word == "resolve" {
         Some(Task::Resolve)
+    } else if word == "record" {
+        Some(Task::Record)
+    } else if word == "audit" {
+        Some(Task::Audit)
     } else {
         None
     }

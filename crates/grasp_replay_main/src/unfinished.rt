@@ -10,7 +10,8 @@ pub enum Unfinished {
     TooLarge,
     /// The input is no script: the number of the line that is bad, counted from 1. Nothing was written.
     BadScript { line: u64 },
-    /// The run of the script sends more than may be sent. What it reports before that was written.
+    /// The run of the script sends more than may be sent, and what it reports before that was written. Or the record of a run does so,
+    /// and nothing was written.
     TooMuch,
     /// There was no memory.
     OutOfMemory,

@@ -10,6 +10,8 @@ Usage: grasp_replay show < STREAM
        grasp_replay draw N
        grasp_replay resolve < SCRIPT
        grasp_replay keep < SCRIPT
+       grasp_replay record < SCRIPT
+       grasp_replay audit < RECORD
 
   show       writes a line for each GRASP message (RFC 8990) of the stream
   pack       writes the message of each line, in its shortest encoding
@@ -21,6 +23,10 @@ Usage: grasp_replay show < STREAM
              doubtful prefixes, and writes what each line comes to
   keep       runs a script of a network whose nodes keep pools on disks and may
              crash and begin anew, and writes what each line comes to
+  record     runs a script as replay does, and writes what each node took and
+             answered at each line
+  audit      says whether such a record is that of a run, or names its first line
+             that fails, and why
 
   --help     prints this text
   --version  prints the version
@@ -35,11 +41,12 @@ For example:
 
 The exit status is 0 where all went well, and 1 where the input is wrong at one
 place: a line on standard error names it, and all that comes before it is
-written. It is 2 for other words, and 3 where the input is to be a script and is
-none: a line on standard error names its bad line, and nothing is written. It is
-4 and 5 for a failed read or write, 6 for want of memory, and 7 for an input of
-more than 16,777,216 bytes, a script of more than 200,000 lines, or a script
-whose nodes send more than 268,435,456 bytes.
+written, but nothing of a record. It is 2 for other words, and 3 where the input
+is to be a script and is none: a line on standard error names its bad line, and
+nothing is written. It is 4 and 5 for a failed read or write, 6 for want of
+memory, and 7 for an input of more than 16,777,216 bytes, a script of more than
+200,000 lines, or a script or record whose nodes send more than 268,435,456
+bytes.
 ";
 
 const VERSION: &str = "grasp_replay 0.2.0\n";

@@ -46,12 +46,12 @@ impl Row {
         Ok(row)
     }
 
-    /// Whether a run of it reads its input: `show`, `pack` and the words that run a script do, and nothing else.
+    /// Whether a run of it reads its input: `show`, `pack`, `audit` and the words that run a script do, and nothing else.
     pub fn reads_input(&self) -> bool {
         match self.words.as_slice() {
             [word] => matches!(
                 word.as_str(),
-                "show" | "pack" | "replay" | "keep" | "resolve"
+                "show" | "pack" | "replay" | "keep" | "resolve" | "record" | "audit"
             ),
             _ => false,
         }

@@ -25,4 +25,4 @@ returns-in-Some-clause-small g c = λ task e.
 pub returns-in-Some-clause-complete : goal.returns-in-Some-clause-complete
 returns-in-Some-clause-complete g c = λ task e.
     let same : c.in-Some.task ≡ task = cc (c.in-Some.ensures, e) in
-    rw (← same) (ends_so _ _ _ c.in-Some.task 2048 _ _ _ c.run.result (ends g c))
+    rw (← same) (ends_so c.audits_agree.ensures _ _ _ c.in-Some.task 2048 _ _ _ c.run.result (ends g c))
