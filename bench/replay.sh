@@ -1,11 +1,11 @@
 #!/bin/sh
-# Times `grasp_replay gen` and `grasp_replay replay`.
+# Times `grasp_replay gen`, `grasp_replay replay`, `grasp_replay record` and `grasp_replay audit`.
 #
 #   bench/replay.sh [PROGRAM]      by default crates/grasp_replay/out/grasp_replay, which `rt ci` leaves there
 #
 # It needs python3. The files that it makes are in a folder of /tmp. It prints seconds of processor
-# time, the best of five runs each: for the 20,000 events of `gen 7`, and for `replay` of scripts of 50,000, 100,000 and
-# 200,000 lines, which are made by the rule of the drawn ones.
+# time, the best of five runs each: for the 20,000 events of `gen 7`, for `replay` and `record` of scripts of 50,000, 100,000 and
+# 200,000 lines, which are made by the rule of the drawn ones, and for `audit` of their records. The last record is too large for that.
 set -eu
 here=$(cd "$(dirname "$0")" && pwd)
 work=$(mktemp -d)
@@ -47,4 +47,11 @@ echo "gen 7: $(best /dev/null "$program" gen 7) s"
 for rounds in 1999 3999 7999; do
     script "$rounds" "$work/script"
     echo "replay of $(wc -l <"$work/script") lines: $(best "$work/script" "$program" replay) s"
+    echo "record of them: $(best "$work/script" "$program" record) s"
+    "$program" record <"$work/script" >"$work/record"
+    if [ "$(wc -c <"$work/record")" -le 16777216 ]; then
+        echo "audit of the record, $(wc -l <"$work/record") lines: $(best "$work/record" "$program" audit) s"
+    else
+        echo "the record has $(wc -c <"$work/record") bytes"
+    fi
 done
